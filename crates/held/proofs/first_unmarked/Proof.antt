@@ -1,0 +1,103 @@
+use mathlib.Core.Path.{_≡_, sym, ap, _∙_}
+use mathlib.Core.List.{List, map}
+use mathlib.Core.Bool.{Bool, true, false}
+use Prim.Native.Nat.{ℕ, _≤_, _<_, _-_, _+_, _%_}
+use native.Mathlib.Nat.{mod-lt}
+use lib.ListN.{length, getD}
+use borrow.Author.Tests.{not-true, not-false}
+use Rattle.spec.specs.Lists.{member, range}
+use Rattle.spec.specs.Held.{first-free, cyclic-order}
+use Rattle.held.specs.Held.{marked, Exactly}
+use Rattle.held.proofs.Laws.{turn, free-start, free-end, free-on, free-here}
+use native.Mathlib.Omega.{arith}
+use borrow.Author.Needs.{needs}
+use Rattle.held.proofs.first_unmarked.Statement.{statement}
+use Rattle.held.proofs.first_unmarked.Tie as tie
+
+minus : (m : List Bool) (k : ℕ) → marked m (k + 1) ≡ getD m k false
+minus m k = let e : k + 1 - 1 ≡ k = omega arith in rw e
+
+abbrev Inv-loop : tie.InvT-loop
+Inv-loop n last m j₀ j =
+    (1 ≤ j) × (j ≤ n + 1) × ((ls : List ℕ) → Exactly m ls → first-free ls (cyclic-order n last) ≡ first-free ls (map (turn ls n last) (range j (n + 1 - j))))
+
+abbrev μ-loop : tie.MeasureT-loop
+μ-loop n last m j₀ j = n + 1 - j
+
+len : (c : tie.Start Inv-loop μ-loop) → length (c .args .t1) ≡ 1024
+len c = search needs
+
+loop-holds : tie.Need-loop-holds Inv-loop μ-loop
+loop-holds c = (omega arith, omega arith, λ ls x. ap (first-free ls) (free-start ls _ _))
+
+add-k : tie.Need-add-k Inv-loop μ-loop
+add-k c = search needs
+
+rem-k : tie.Need-rem-k Inv-loop μ-loop
+rem-k c = search needs
+
+cast-if1 : tie.Need-cast-if1 Inv-loop μ-loop
+cast-if1 c =
+    let b : (c .before .before .args .last + c .before .loop .j) % c .before .before .args .n < c .before .before .args .n = mod-lt (c .before .before .args .last + c .before .loop .j) {m = c .before .before .args .n} (omega arith) in
+    omega arith
+
+array-read-if1 : tie.Need-array-read-if1 Inv-loop μ-loop
+array-read-if1 c =
+    let b : (c .before .before .args .last + c .before .loop .j) % c .before .before .args .n < c .before .before .args .n = mod-lt (c .before .before .args .last + c .before .loop .j) {m = c .before .before .args .n} (omega arith) in
+    omega arith
+
+add-result : tie.Need-add-result Inv-loop μ-loop
+add-result c =
+    let b : (c .before .before .before .args .last + c .before .before .loop .j) % c .before .before .before .args .n < c .before .before .before .args .n = mod-lt (c .before .before .before .args .last + c .before .before .loop .j) {m = c .before .before .before .args .n} (omega arith) in
+    omega arith
+
+returns : tie.Need-returns Inv-loop μ-loop
+returns c =
+    λ ls x.
+    let n = c .before .before .before .args .n in
+    let l = c .before .before .before .args .last in
+    let j = c .before .before .loop .j in
+    let b : (l + j) % n < n = mod-lt (l + j) {m = n} (omega arith) in
+    let q : member (turn ls n l j) ls ≡ false = sym (x .each (turn ls n l j) (omega arith) (omega arith)) ∙ minus (c .before .before .before .args .t1) ((l + j) % n) ∙ not-true _ (c .if1 .taken) in
+    sym (c .before .before .loop .inv .2 ls x ∙ free-here ls n l j (c .before .loop-test .taken) q)
+
+add-j : tie.Need-add-j Inv-loop μ-loop
+add-j c = search needs
+
+loop-less : tie.Need-loop-less Inv-loop μ-loop
+loop-less c = search needs
+
+loop-again : tie.Need-loop-again Inv-loop μ-loop
+loop-again c = (
+  omega arith,
+  omega arith,
+  λ ls x.
+      let n = c .before .before .before .args .n in
+      let l = c .before .before .before .args .last in
+      let j = c .before .before .loop .j in
+      let b : (l + j) % n < n = mod-lt (l + j) {m = n} (omega arith) in
+      let q : member (turn ls n l j) ls ≡ true = sym (x .each (turn ls n l j) (omega arith) (omega arith)) ∙ minus (c .before .before .before .args .t1) ((l + j) % n) ∙ not-false _ (c .if1 .left) in
+      c .before .before .loop .inv .2 ls x ∙ free-on ls n l j (c .before .loop-test .taken) q,
+)
+
+returns-2 : tie.Need-returns-2 Inv-loop μ-loop
+returns-2 c =
+    λ ls x. sym (c .before .loop .inv .2 ls x ∙ free-end ls (c .before .before .args .n) (c .before .before .args .last) (c .before .loop .j) (c .loop-test .left))
+
+pub first-unmarked-spec : {M : Type 1} → statement M
+first-unmarked-spec =
+    tie.close
+    (tie.spec
+    Inv-loop
+    μ-loop
+    loop-holds
+    add-k
+    rem-k
+    cast-if1
+    array-read-if1
+    add-result
+    returns
+    add-j
+    loop-less
+    loop-again
+    returns-2)

@@ -1,0 +1,12 @@
+pub mod Tests
+pub mod Lists
+pub mod Facts
+pub mod Reads
+pub mod Holding
+pub mod Ascending
+pub mod SameTags
+pub mod Answers
+pub mod PlainSet
+pub mod Listing
+pub mod Breaks
+pub mod Keeps

@@ -1,0 +1,3 @@
+pub mod Laws
+pub mod Taking
+pub mod Apply36

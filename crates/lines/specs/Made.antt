@@ -1,0 +1,19 @@
+-- What lines 27 and 49 make: a listed size, or 0; a bucket of at most 64 tags, or none.
+-- Assumes nothing.
+use Prim.Native.Nat.{ℕ, _<_, _≤_}
+use mathlib.Core.Path.{_≡_}
+use mathlib.Core.List.{List}
+use mathlib.Core.Bool.{true, false}
+use lib.ListN.{length}
+use Rattle.spec.specs.Words.{bucket-of}
+use Rattle.spec.specs.Sound.{listed-size}
+use Rattle.spec.specs.Lines.{resized}
+use Rattle.listing.specs.declared.Gathered.{Gathered}
+
+pub record Sized (call z r : ℕ) : Type 0 where
+  pub none : r ≡ 0 → listed-size (resized call z) ≡ false
+  pub some : (r ≡ 0 → ⊥) → (listed-size (resized call z) ≡ true) × (r ≡ resized call z)
+
+pub record Makes (g : Gathered) (ts : List ℕ) : Type 0 where
+  pub over : g .full ≡ true → 64 < length ts
+  pub fine : g .full ≡ false → (length ts ≤ 64) × (g .bucket .words ≡ bucket-of 1 ts)

@@ -1,0 +1,108 @@
+// APPLY, lines 32 to 36 of Figure 2, for insert and remove. Line 35's call of INITBUCKET is lines 39 to 51.
+use crate::Stepped;
+use bucket::Response;
+use listing::Gathered;
+use spec::Answer;
+use spec::State;
+use spec::Task;
+ghost use mathlib.Core.Path.{_≡_};
+ghost use mathlib.Core.List.{List};
+ghost use mathlib.Core.Bool.{true};
+ghost use Prim.Native.Nat.{ℕ, _≤_, _<_};
+ghost use lib.ListN.{length};
+ghost use Rattle.spec.specs.Sound.{sound};
+ghost use Rattle.spec.specs.Machine.{machine-of};
+ghost use Rattle.spec.specs.Entries.{step-running};
+ghost use Rattle.lines.specs.Reply.{reply-of};
+ghost use lib.Dec.{leb};
+ghost use Rattle.listing.specs.Gathered.{Holds, Sets};
+
+// t <- head
+pub fn line32(s: State, k: usize, c: Task) -> Stepped
+    requires { ⌜ (k < 8) × (c .line ≡ 32) × (s .head < 64) ⌝ }
+    ensures { λ r. ⌜ ((ns bs : List ℕ) → reply-of r ns bs ≡ step-running (machine-of s ns bs) k c) ⌝ }
+{
+    let mut x = c;
+    x.t = s.head + 1;
+    crate::go(s, k, x, 33)
+}
+
+// b <- t.buckets[k mod t.size]; if b = nil (line 34) INITBUCKET
+pub fn line33(s: State, k: usize, c: Task, ns: &[u32]) -> Stepped
+    requires { ⌜ (k < 8) × (c .line ≡ 33) ⌝ }
+    ensures { λ r. ⌜ ((bs : List ℕ) → reply-of r (now (ns .entry)) bs ≡ step-running (machine-of s (now (ns .entry)) bs) k c) ⌝ }
+{
+    let t = c.t;
+    if t == 0 {
+        return crate::refused(s, 8);
+    }
+    let b = pool::place_for(ns, t, c.tag);
+    let z = pool::size_of(ns, t);
+    let i = pool::rem(c.tag, z);
+    let mut x = c;
+    x.b = b;
+    if b == 0 {
+        x.i = i;
+        return crate::go(s, k, x, 39);
+    }
+    crate::go(s, k, x, 36)
+}
+
+// 64 tags or more.
+fn at_least_64(g: Gathered) -> bool
+    requires { ⌜ Sets g ⌝ }
+    ensures { λ r. ⌜ ((ts : List ℕ) → Holds g ts → r ≡ leb 64 (length ts)) ⌝ }
+{
+    let full = g.full;
+    if full {
+        return true;
+    }
+    let b = g.bucket;
+    64 <= b.count()
+}
+
+// INVOKE(b, op): a frozen bucket sends the task back to line 32
+pub fn line36(s: State, k: usize, c: Task, ns: &[u32], bs: &mut [u32]) -> Stepped
+    requires { ⌜ (k < 8) × (c .line ≡ 36) × (sound (machine-of s (now ns) (now bs)) ≡ true) × (c .b ≤ s .buckets) ⌝ }
+    ensures { λ r. ⌜ reply-of r (now (ns .entry)) (now (bs .exit)) ≡ step-running (machine-of s (now (ns .entry)) (now (bs .entry))) k c ⌝ }
+{
+    let b = c.b;
+    if b == 0 {
+        return crate::refused(s, 8);
+    }
+    let j = b as usize - 1;
+    let f = pool::word(bs, 66 * j);
+    if f == 0 {
+        let mut x = c;
+        x.i = 0;
+        x.t = 0;
+        x.s = 0;
+        x.b = 0;
+        x.m = 0;
+        x.n = 0;
+        x.new_node = 0;
+        x.new_bucket = 0;
+        return crate::go(s, k, x, 32);
+    }
+    let call = c.call;
+    if call == 1 {
+        let g = listing::gather(s, ns, bs);
+        if at_least_64(g) {
+            return crate::end(s, k, c, Answer::Full);
+        }
+        let d = bucket::add_at(bs, j, c.tag);
+        return match d {
+            Response::Yes => crate::end(s, k, c, Answer::Yes),
+            Response::No => crate::end(s, k, c, Answer::No),
+            Response::Frozen => crate::refused(s, 8),
+            Response::Full => crate::refused(s, 8),
+        };
+    }
+    let d = bucket::remove_at(bs, j, c.tag);
+    match d {
+        Response::Yes => crate::end(s, k, c, Answer::Yes),
+        Response::No => crate::end(s, k, c, Answer::No),
+        Response::Frozen => crate::refused(s, 8),
+        Response::Full => crate::refused(s, 8),
+    }
+}

@@ -1,0 +1,298 @@
+// INITBUCKET, lines 39 to 51 of Figure 2: filling place i of t. Line 52 is the second freeze of line 48.
+use crate::Stepped;
+use bucket::Response;
+use listing::Gathered;
+use spec::State;
+use spec::Task;
+ghost use mathlib.Core.Path.{_≡_};
+ghost use mathlib.Core.List.{List};
+ghost use mathlib.Core.Bool.{true};
+ghost use Prim.Native.Nat.{ℕ, _-_, _*_, _≤_, _<_};
+ghost use lib.ListN.{length, drop};
+ghost use Rattle.spec.specs.Sound.{sound-bucket, resizes, sound};
+ghost use Rattle.spec.specs.Machine.{machine-of};
+ghost use Rattle.spec.specs.Lines.{gathered};
+ghost use Rattle.spec.specs.Entries.{step-running};
+ghost use Rattle.lines.specs.Reply.{reply-of};
+ghost use Rattle.spec.specs.Words.{number, size};
+ghost use Rattle.spec.specs.declared.State.{State};
+ghost use Rattle.lines.specs.Made.{Makes};
+
+// b <- t.buckets[i]
+pub fn line39(s: State, k: usize, c: Task, ns: &[u32]) -> Stepped
+    requires { ⌜ (k < 8) × (c .line ≡ 39) ⌝ }
+    ensures { λ r. ⌜ ((bs : List ℕ) → reply-of r (now (ns .entry)) bs ≡ step-running (machine-of s (now (ns .entry)) bs) k c) ⌝ }
+{
+    let t = c.t;
+    if t == 0 {
+        return crate::refused(s, 8);
+    }
+    let i = c.i;
+    let z = pool::size_of(ns, t);
+    if z <= i {
+        return crate::refused(s, 8);
+    }
+    let b = pool::place_of(ns, t, i);
+    let mut x = c;
+    x.b = b;
+    crate::go(s, k, x, 40)
+}
+
+// s <- t.pred, and the tests of lines 41 and 42
+pub fn line40(s: State, k: usize, c: Task, ns: &[u32]) -> Stepped
+    requires { ⌜ (k < 8) × (c .line ≡ 40) ⌝ }
+    ensures { λ r. ⌜ ((bs : List ℕ) → reply-of r (now (ns .entry)) bs ≡ step-running (machine-of s (now (ns .entry)) bs) k c) ⌝ }
+{
+    let t = c.t;
+    if t == 0 {
+        return crate::refused(s, 8);
+    }
+    let p = pool::pred_of(ns, t);
+    let b = c.b;
+    let mut x = c;
+    x.s = p;
+    if b != 0 {
+        return crate::go(s, k, x, 51);
+    }
+    if p == 0 {
+        return crate::go(s, k, x, 51);
+    }
+    let z = pool::size_of(ns, t);
+    let w = pool::size_of(ns, p);
+    if z as usize == 2 * (w as usize) {
+        return crate::go(s, k, x, 43);
+    }
+    crate::go(s, k, x, 46)
+}
+
+// m <- s.buckets[i mod s.size]
+pub fn line43(s: State, k: usize, c: Task, ns: &[u32]) -> Stepped
+    requires { ⌜ (k < 8) × (c .line ≡ 43) ⌝ }
+    ensures { λ r. ⌜ ((bs : List ℕ) → reply-of r (now (ns .entry)) bs ≡ step-running (machine-of s (now (ns .entry)) bs) k c) ⌝ }
+{
+    let p = c.s;
+    if p == 0 {
+        return crate::refused(s, 8);
+    }
+    let z = pool::size_of(ns, p);
+    let i = pool::rem(c.i, z);
+    let m = pool::place_of(ns, p, i);
+    let mut x = c;
+    x.m = m;
+    crate::go(s, k, x, 44)
+}
+
+// FREEZE(m)
+pub fn line44(s: State, k: usize, c: Task, bs: &mut [u32]) -> Stepped
+    requires { ⌜ (k < 8) × (c .line ≡ 44) × (c .m ≤ 1024) × (66 * c .m ≤ length (now bs)) ⌝ }
+    ensures { λ r. ⌜ ((ns : List ℕ) → reply-of r ns (now (bs .exit)) ≡ step-running (machine-of s ns (now (bs .entry))) k c) ⌝ }
+{
+    let m = c.m;
+    if m == 0 {
+        return crate::refused(s, 8);
+    }
+    bucket::freeze_at(bs, m as usize - 1);
+    crate::go(s, k, c, 49)
+}
+
+// m <- s.buckets[i]
+pub fn line46(s: State, k: usize, c: Task, ns: &[u32]) -> Stepped
+    requires { ⌜ (k < 8) × (c .line ≡ 46) ⌝ }
+    ensures { λ r. ⌜ ((bs : List ℕ) → reply-of r (now (ns .entry)) bs ≡ step-running (machine-of s (now (ns .entry)) bs) k c) ⌝ }
+{
+    let p = c.s;
+    if p == 0 {
+        return crate::refused(s, 8);
+    }
+    let i = c.i;
+    let z = pool::size_of(ns, p);
+    if z <= i {
+        return crate::refused(s, 8);
+    }
+    let m = pool::place_of(ns, p, i);
+    let mut x = c;
+    x.m = m;
+    crate::go(s, k, x, 47)
+}
+
+// n <- s.buckets[i + t.size]
+pub fn line47(s: State, k: usize, c: Task, ns: &[u32]) -> Stepped
+    requires { ⌜ (k < 8) × (c .line ≡ 47) ⌝ }
+    ensures { λ r. ⌜ ((bs : List ℕ) → reply-of r (now (ns .entry)) bs ≡ step-running (machine-of s (now (ns .entry)) bs) k c) ⌝ }
+{
+    let t = c.t;
+    if t == 0 {
+        return crate::refused(s, 8);
+    }
+    let p = c.s;
+    if p == 0 {
+        return crate::refused(s, 8);
+    }
+    let i = c.i;
+    let z = pool::size_of(ns, t);
+    let w = pool::size_of(ns, p);
+    let j = i as usize + z as usize;
+    if w as usize <= j {
+        return crate::refused(s, 8);
+    }
+    let n = pool::place_of(ns, p, i + z);
+    let mut x = c;
+    x.n = n;
+    crate::go(s, k, x, 48)
+}
+
+// FREEZE(m), the first half of line 48
+pub fn line48(s: State, k: usize, c: Task, bs: &mut [u32]) -> Stepped
+    requires { ⌜ (k < 8) × (c .line ≡ 48) × (c .m ≤ 1024) × (66 * c .m ≤ length (now bs)) ⌝ }
+    ensures { λ r. ⌜ ((ns : List ℕ) → reply-of r ns (now (bs .exit)) ≡ step-running (machine-of s ns (now (bs .entry))) k c) ⌝ }
+{
+    let m = c.m;
+    if m == 0 {
+        return crate::refused(s, 8);
+    }
+    bucket::freeze_at(bs, m as usize - 1);
+    crate::go(s, k, c, 52)
+}
+
+// FREEZE(n), the second half of line 48
+pub fn line52(s: State, k: usize, c: Task, bs: &mut [u32]) -> Stepped
+    requires { ⌜ (k < 8) × (c .line ≡ 52) × (c .n ≤ 1024) × (66 * c .n ≤ length (now bs)) ⌝ }
+    ensures { λ r. ⌜ ((ns : List ℕ) → reply-of r ns (now (bs .exit)) ≡ step-running (machine-of s ns (now (bs .entry))) k c) ⌝ }
+{
+    let n = c.n;
+    if n == 0 {
+        return crate::refused(s, 8);
+    }
+    bucket::freeze_at(bs, n as usize - 1);
+    crate::go(s, k, c, 49)
+}
+
+// The bucket that line 49 makes.
+fn make(c: Task, ns: &[u32], bs: &[u32]) -> Gathered
+    requires { ⌜ (0 < c .m) × (c .m ≤ 1024) × (c .n ≤ 1024) × (66 * c .m ≤ length (now bs)) × (66 * c .n ≤ length (now bs)) × (sound-bucket (drop (66 * (c .m - 1)) (now bs)) ≡ true) × ((0 < c .n) → sound-bucket (drop (66 * (c .n - 1)) (now bs)) ≡ true) × ((size (now ns) (number (c .t)) ≡ 0) → ⊥) ⌝ }
+    ensures { λ r. ⌜ ((s : State) → Makes r (gathered (machine-of s (now (ns .entry)) (now (bs .entry))) c)) ⌝ }
+{
+    let m = c.m;
+    let n = c.n;
+    let a = bucket::load(bs, m as usize - 1);
+    if n == 0 {
+        let z = pool::size_of(ns, c.t);
+        let b = bucket::split(a, z, c.i);
+        return Gathered {
+            full: false,
+            bucket: b,
+        };
+    }
+    let b = bucket::load(bs, n as usize - 1);
+    let d = bucket::union(a, b);
+    let k = d.answer;
+    let v = d.bucket;
+    if let Response::Full = k {
+        return Gathered {
+            full: true,
+            bucket: v,
+        };
+    }
+    Gathered {
+        full: false,
+        bucket: v,
+    }
+}
+
+// b' <- a new bucket with the tags copied from m, or from m and n
+pub fn line49(s: State, k: usize, c: Task, ns: &[u32], bs: &mut [u32]) -> Stepped
+    requires { ⌜ (k < 8) × (c .line ≡ 49) × (sound (machine-of s (now ns) (now bs)) ≡ true) × (c .m ≤ s .buckets) × (c .n ≤ s .buckets) × ((c .t ≡ 0 → ⊥) → (size (now ns) (number (c .t)) ≡ 0) → ⊥) ⌝ }
+    ensures { λ r. ⌜ reply-of r (now (ns .entry)) (now (bs .exit)) ≡ step-running (machine-of s (now (ns .entry)) (now (bs .entry))) k c ⌝ }
+{
+    let t = c.t;
+    if t == 0 {
+        return crate::refused(s, 8);
+    }
+    let m = c.m;
+    if m == 0 {
+        return crate::refused(s, 8);
+    }
+    let g = make(c, ns, bs);
+    let full = g.full;
+    if full {
+        return crate::refused(s, 8);
+    }
+    let f = held::free_bucket_of(s, ns);
+    if f == 0 {
+        return crate::refused(s, 7);
+    }
+    let b = g.bucket;
+    bucket::store_at(bs, f as usize - 1, b);
+    let mut u = s;
+    u.last_bucket = f - 1;
+    let mut x = c;
+    x.new_bucket = f;
+    crate::go(u, k, x, 50)
+}
+
+// CAS(t.buckets[i], nil, b')
+pub fn line50(s: State, k: usize, c: Task, ns: &mut [u32]) -> Stepped
+    requires { ⌜ (k < 8) × (c .line ≡ 50) ⌝ }
+    ensures { λ r. ⌜ ((bs : List ℕ) → reply-of r (now (ns .exit)) bs ≡ step-running (machine-of s (now (ns .entry)) bs) k c) ⌝ }
+{
+    let t = c.t;
+    if t == 0 {
+        return crate::refused(s, 8);
+    }
+    let b = c.new_bucket;
+    if b == 0 {
+        return crate::refused(s, 8);
+    }
+    let i = c.i;
+    let z = pool::size_of(ns, t);
+    if z <= i {
+        return crate::refused(s, 8);
+    }
+    let p = pool::place_of(ns, t, i);
+    if p == 0 {
+        let j = pool::number_of(t);
+        pool::put(ns, 34 * j + 2 + i as usize, b);
+        return crate::go(s, k, c, 51);
+    }
+    crate::go(s, k, c, 51)
+}
+
+fn is_resize(call: u32) -> bool
+    ensures { λ r. ⌜ r ≡ resizes call ⌝ }
+{
+    if call == 4 {
+        return true;
+    }
+    call == 5
+}
+
+// return t.buckets[i]
+pub fn line51(s: State, k: usize, c: Task, ns: &[u32]) -> Stepped
+    requires { ⌜ (k < 8) × (c .line ≡ 51) ⌝ }
+    ensures { λ r. ⌜ ((bs : List ℕ) → reply-of r (now (ns .entry)) bs ≡ step-running (machine-of s (now (ns .entry)) bs) k c) ⌝ }
+{
+    let t = c.t;
+    if t == 0 {
+        return crate::refused(s, 8);
+    }
+    let i = c.i;
+    let z = pool::size_of(ns, t);
+    if z <= i {
+        return crate::refused(s, 8);
+    }
+    let mut x = c;
+    x.b = 0;
+    x.s = 0;
+    x.m = 0;
+    x.n = 0;
+    x.new_bucket = 0;
+    if is_resize(c.call) {
+        x.i = i + 1;
+        if i + 1 < z {
+            return crate::go(s, k, x, 39);
+        }
+        return crate::go(s, k, x, 24);
+    }
+    x.b = pool::place_of(ns, t, i);
+    crate::go(s, k, x, 36)
+}

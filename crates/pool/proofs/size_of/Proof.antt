@@ -1,0 +1,25 @@
+use mathlib.Core.Path.{ap, _∙_}
+use Prim.Native.Nat.{ℕ, _*_}
+use denote.Ref.{now}
+use lib.ListN.{getD}
+use Rattle.spec.specs.Words.{size}
+use borrow.Author.Needs.{needs}
+use Rattle.pool.proofs.size_of.Statement.{statement}
+use Rattle.pool.proofs.size_of.Tie as tie
+
+number-of-requires : tie.Need-number-of-requires
+number-of-requires c κs = search needs
+
+mul-word : tie.Need-mul-word
+mul-word c = search needs
+
+word-requires : tie.Need-word-requires
+word-requires c κs = search needs
+
+returns : tie.Need-returns
+unfolding size
+returns c =
+    c .word .ensures ∙ ap (λ (k : ℕ). getD (now (c .before .before .before .args .ns)) (34 * k) 0) (c .before .number-of .ensures .0)
+
+pub size-of-spec : {M : Type 1} → statement M
+size-of-spec = tie.close (tie.spec number-of-requires mul-word word-requires returns)

@@ -1,0 +1,17 @@
+pub mod Lists
+pub mod Numbers
+pub mod Machine
+pub mod Words
+pub mod Sound
+pub mod Held
+pub mod Listed
+pub mod Plain
+pub mod Lines
+pub mod StepRefusals
+pub mod Entries
+pub mod Schedule
+pub mod History
+pub mod Linearizable
+pub mod Everything
+pub mod Cases
+pub mod OurCases

@@ -1,0 +1,82 @@
+-- Demand 3 as a type: "ONE order of all ended inserts, removes and contains that respects real time, gives exactly their answers
+-- on a plain set of at most 64 tags, and ends with exactly the tags then listed". And the two promises beside it. Proved in the
+-- crate linear. Assumes nothing.
+use Prim.Native.Nat.{ℕ, suc, _≤_}
+use mathlib.Core.Path.{_≡_}
+use mathlib.Core.List.{List, [], _∷_, _++_}
+use lib.ListN.{length, drop}
+use Rattle.spec.specs.declared.Call.the-variants.{Contains}
+use Rattle.spec.specs.declared.Output.{Output}
+use Rattle.spec.specs.declared.Output.the-variants.{At, End, Refuse}
+use Rattle.spec.specs.declared.Listing.the-variants.{Count}
+use Rattle.spec.specs.Plain.{plain}
+use Rattle.spec.specs.Entries.{list}
+use Rattle.spec.specs.Schedule.{Event, starts, steps, schedule}
+use Rattle.spec.specs.History.{Ended, Started, note, none-started, history}
+
+-- ---- an order of ended calls
+
+-- M is L with e put in somewhere
+pub data Into (e : Ended) : List Ended → List Ended → Type 0 where
+  here : {L : List Ended} → Into e L (e ∷ L)
+  there : {a : Ended} {L M : List Ended} → Into e L M → Into e (a ∷ L) (a ∷ M)
+
+-- "The order holds each ended insert, remove and contains once": L is a permutation of the history H
+pub data Order : List Ended → List Ended → Type 0 where
+  none : Order [] []
+  more : {e : Ended} {H L M : List Ended} → Order H L → Into e L M → Order (e ∷ H) M
+
+-- no call of L ended before event r
+abbrev pub Late : ℕ → List Ended → Type 0
+Late r [] = Unit {0}
+Late r (e ∷ L) = (r ≤ e .end) × Late r L
+
+-- "respects real time": no call stands before one that ended before it started
+abbrev pub Timely : List Ended → Type 0
+Timely [] = Unit {0}
+Timely (e ∷ L) = Late (e .start) L × Timely L
+
+-- "gives exactly their answers on a plain set of at most 64 tags", from the set S on
+abbrev pub Answers : List ℕ → List Ended → Type 0
+Answers S [] = length S ≤ 64
+Answers S (e ∷ L) = (length S ≤ 64) × (plain S (e .call) (e .tag) .answer ≡ e .answer) × Answers (plain S (e .call) (e .tag) .tags) L
+
+-- the plain set after them
+abbrev pub after : List ℕ → List Ended → List ℕ
+after S [] = S
+after S (e ∷ L) = after (plain S (e .call) (e .tag) .tags) L
+
+-- ---- demand 3, of one schedule: T, what the two slices held before the opening, and the events
+
+pub record Linearizable (t : ℕ) (ns bs : List ℕ) (es : List Event) : Type 0 where
+  pub order : List Ended
+  pub once : Order (history es (schedule t ns bs es .outs)) order
+  pub timely : Timely order
+  pub answers : Answers [] order
+  -- "The tags then listed are those that a list call writes, given what the schedule left and 64 words."
+  pub listed : (w : List ℕ) → length w ≡ 64
+      → list (schedule t ns bs es .machine) w
+      ≡ record { says = Count (length (after [] order)); words = after [] order ++ drop (length (after [] order)) w }
+
+-- ---- beside it
+
+-- "Never from an opening onward": no refusal 8 among the outputs
+abbrev pub NoEight : List Output → Type 0
+NoEight [] = Unit {0}
+NoEight (o ∷ os) = (¬ (o ≡ Refuse 8)) × NoEight os
+
+-- "A contains ends at the latest with its fifth own step.": of one event and its output
+abbrev pub WithinFive : (ℕ → Started) → Event → Output → Type 0
+WithinFive last (starts p call tag) o = Unit {0}
+WithinFive last (steps p) (At l) = Unit {0}
+WithinFive last (steps p) (End a own) = last p .call ≡ Contains → own ≤ 5
+WithinFive last (steps p) (Refuse r) = Unit {0}
+
+-- of all events from the n-th on
+abbrev pub AllWithinFive : ℕ → (ℕ → Started) → List Event → List Output → Type 0
+AllWithinFive n last [] os = Unit {0}
+AllWithinFive n last (e ∷ es) [] = Unit {0}
+AllWithinFive n last (e ∷ es) (o ∷ os) = WithinFive last e o × AllWithinFive (suc n) (note n last e o) es os
+
+abbrev pub ContainsWithinFive : List Event → List Output → Type 0
+ContainsWithinFive es os = AllWithinFive 0 none-started es os

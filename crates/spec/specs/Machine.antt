@@ -1,0 +1,124 @@
+-- The machine: the state with both pools, and its parts replaced one at a time (antt has no record update). A State and a Task
+-- are built here and nowhere else, so that a later field is added in this file alone. Assumes nothing.
+use Prim.Native.Nat.{ℕ}
+use mathlib.Core.List.{List}
+use mathlib.Core.Bool.{true, false}
+use lib.ListN.{getD, set, replicate}
+use Rattle.spec.specs.declared.Task.{Task}
+use Rattle.spec.specs.declared.State.{State}
+
+-- all that an entry may change: the state and the words of both pools ("Both pools are lent slices of 32-bit words")
+pub record Machine : Type 0 where
+  pub state : State
+  pub nodes : List ℕ
+  pub buckets : List ℕ
+
+abbrev pub machine-of : State → List ℕ → List ℕ → Machine
+machine-of s ns bs = record { state = s; nodes = ns; buckets = bs }
+
+-- ---- parts of the state and the pools
+
+unfoldable pub state-head : ℕ → State → State
+state-head v s = record { tasks = s .tasks; nodes = s .nodes; buckets = s .buckets; head = v; «last_node» = s .«last_node»; «last_bucket» = s .«last_bucket»; task = s .task }
+
+unfoldable pub state-last-node : ℕ → State → State
+state-last-node v s = record { tasks = s .tasks; nodes = s .nodes; buckets = s .buckets; head = s .head; «last_node» = v; «last_bucket» = s .«last_bucket»; task = s .task }
+
+unfoldable pub state-last-bucket : ℕ → State → State
+state-last-bucket v s = record { tasks = s .tasks; nodes = s .nodes; buckets = s .buckets; head = s .head; «last_node» = s .«last_node»; «last_bucket» = v; task = s .task }
+
+unfoldable pub state-task : List Task → State → State
+state-task v s = record { tasks = s .tasks; nodes = s .nodes; buckets = s .buckets; head = s .head; «last_node» = s .«last_node»; «last_bucket» = s .«last_bucket»; task = v }
+
+unfoldable pub with-state : State → Machine → Machine
+with-state s y = record { state = s; nodes = y .nodes; buckets = y .buckets }
+
+unfoldable pub with-nodes : List ℕ → Machine → Machine
+with-nodes w y = record { state = y .state; nodes = w; buckets = y .buckets }
+
+unfoldable pub with-buckets : List ℕ → Machine → Machine
+with-buckets w y = record { state = y .state; nodes = y .nodes; buckets = w }
+
+unfoldable pub with-head : ℕ → Machine → Machine
+with-head k y = with-state (state-head k (y .state)) y
+
+unfoldable pub with-last-node : ℕ → Machine → Machine
+with-last-node k y = with-state (state-last-node k (y .state)) y
+
+unfoldable pub with-last-bucket : ℕ → Machine → Machine
+with-last-bucket k y = with-state (state-last-bucket k (y .state)) y
+
+unfoldable pub with-task : List Task → Machine → Machine
+with-task ts y = with-state (state-task ts (y .state)) y
+
+-- ---- a task's record
+
+-- "A task that runs nothing has a record of zeros and empty places."
+unfoldable pub idle : Task
+idle =
+    record { running = false; call = 0; tag = 0; line = 0; i = 0; own = 0; t = 0; s = 0; b = 0; m = 0; n = 0; «new_node» = 0; «new_bucket» = 0 }
+
+-- "A start sets the call, the tag and the first line, and leaves the rest so": a call's number, its tag, its first line
+unfoldable pub fresh-task : ℕ → ℕ → ℕ → Task
+fresh-task call tag line =
+    record { running = true; call = call; tag = tag; line = line; i = 0; own = 0; t = 0; s = 0; b = 0; m = 0; n = 0; «new_node» = 0; «new_bucket» = 0 }
+
+unfoldable pub with-line : ℕ → Task → Task
+with-line v c =
+    record { running = c .running; call = c .call; tag = c .tag; line = v; i = c .i; own = c .own; t = c .t; s = c .s; b = c .b; m = c .m; n = c .n; «new_node» = c .«new_node»; «new_bucket» = c .«new_bucket» }
+
+unfoldable pub with-own : ℕ → Task → Task
+with-own v c =
+    record { running = c .running; call = c .call; tag = c .tag; line = c .line; i = c .i; own = v; t = c .t; s = c .s; b = c .b; m = c .m; n = c .n; «new_node» = c .«new_node»; «new_bucket» = c .«new_bucket» }
+
+unfoldable pub with-i : ℕ → Task → Task
+with-i v c =
+    record { running = c .running; call = c .call; tag = c .tag; line = c .line; i = v; own = c .own; t = c .t; s = c .s; b = c .b; m = c .m; n = c .n; «new_node» = c .«new_node»; «new_bucket» = c .«new_bucket» }
+
+unfoldable pub with-t : ℕ → Task → Task
+with-t v c =
+    record { running = c .running; call = c .call; tag = c .tag; line = c .line; i = c .i; own = c .own; t = v; s = c .s; b = c .b; m = c .m; n = c .n; «new_node» = c .«new_node»; «new_bucket» = c .«new_bucket» }
+
+unfoldable pub with-s : ℕ → Task → Task
+with-s v c =
+    record { running = c .running; call = c .call; tag = c .tag; line = c .line; i = c .i; own = c .own; t = c .t; s = v; b = c .b; m = c .m; n = c .n; «new_node» = c .«new_node»; «new_bucket» = c .«new_bucket» }
+
+unfoldable pub with-b : ℕ → Task → Task
+with-b v c =
+    record { running = c .running; call = c .call; tag = c .tag; line = c .line; i = c .i; own = c .own; t = c .t; s = c .s; b = v; m = c .m; n = c .n; «new_node» = c .«new_node»; «new_bucket» = c .«new_bucket» }
+
+unfoldable pub with-m : ℕ → Task → Task
+with-m v c =
+    record { running = c .running; call = c .call; tag = c .tag; line = c .line; i = c .i; own = c .own; t = c .t; s = c .s; b = c .b; m = v; n = c .n; «new_node» = c .«new_node»; «new_bucket» = c .«new_bucket» }
+
+unfoldable pub with-n : ℕ → Task → Task
+with-n v c =
+    record { running = c .running; call = c .call; tag = c .tag; line = c .line; i = c .i; own = c .own; t = c .t; s = c .s; b = c .b; m = c .m; n = v; «new_node» = c .«new_node»; «new_bucket» = c .«new_bucket» }
+
+unfoldable pub with-new-node : ℕ → Task → Task
+with-new-node v c =
+    record { running = c .running; call = c .call; tag = c .tag; line = c .line; i = c .i; own = c .own; t = c .t; s = c .s; b = c .b; m = c .m; n = c .n; «new_node» = v; «new_bucket» = c .«new_bucket» }
+
+unfoldable pub with-new-bucket : ℕ → Task → Task
+with-new-bucket v c =
+    record { running = c .running; call = c .call; tag = c .tag; line = c .line; i = c .i; own = c .own; t = c .t; s = c .s; b = c .b; m = c .m; n = c .n; «new_node» = c .«new_node»; «new_bucket» = v }
+
+-- "every place in the task's record is emptied"
+unfoldable pub without-places : Task → Task
+without-places c =
+    record { running = c .running; call = c .call; tag = c .tag; line = c .line; i = c .i; own = c .own; t = 0; s = 0; b = 0; m = 0; n = 0; «new_node» = 0; «new_bucket» = 0 }
+
+-- ---- the state's tasks
+
+-- "The state holds T, H, B, the head node, the node and the bucket last taken, and a record for each of eight tasks": as an
+-- opening leaves it, with no task running
+unfoldable pub state-of : ℕ → ℕ → ℕ → State
+state-of t h b =
+    record { tasks = t; nodes = h; buckets = b; head = 0; «last_node» = 0; «last_bucket» = 0; task = replicate 8 idle }
+
+-- task k's record, idle past the end; task k's record replaced
+unfoldable pub task-of : Machine → ℕ → Task
+task-of y k = getD (y .state .task) k idle
+
+unfoldable pub set-task : ℕ → Task → Machine → Machine
+set-task k c y = with-task (set (y .state .task) k c) y

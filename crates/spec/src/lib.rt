@@ -1,0 +1,63 @@
+// The types of the set: a task's record, the state that every entry takes and gives back, and what the entries answer.
+// specs/ has every definition of what they mean; no code is here.
+
+// The five calls. `call-number` in specs/Numbers gives the number that a task's record keeps.
+pub enum Call {
+    Insert,
+    Remove,
+    Contains,
+    Grow,
+    Shrink,
+}
+
+// How a call ends: an insert, remove or contains with yes, no or full, a resize with done, lost or limit.
+pub enum Answer {
+    Yes,
+    No,
+    Full,
+    Done,
+    Lost,
+    Limit,
+}
+
+// What a start or a step answers: the line at which the task now stands, the ended call's answer and own steps, or a refusal's
+// number.
+pub enum Output {
+    At(u32),
+    End(Answer, u16),
+    Refuse(u32),
+}
+
+// What a list answers: the number of tags written, or a refusal's number.
+pub enum Listing {
+    Count(u32),
+    Refused(u32),
+}
+
+// One task's record. A place (t, s, b, m, n, new_node, new_bucket) is a record's number plus 1, or 0 for empty.
+pub struct Task {
+    pub running: bool,
+    pub call: u32,
+    pub tag: u32,
+    pub line: u32,
+    pub i: u32,
+    pub own: u16,
+    pub t: u32,
+    pub s: u32,
+    pub b: u32,
+    pub m: u32,
+    pub n: u32,
+    pub new_node: u32,
+    pub new_bucket: u32,
+}
+
+// The state: T, H, B, the head, the node and the bucket last taken, and eight tasks, those from T on idle.
+pub struct State {
+    pub tasks: u32,
+    pub nodes: u32,
+    pub buckets: u32,
+    pub head: u32,
+    pub last_node: u32,
+    pub last_bucket: u32,
+    pub task: [Task; 8],
+}
