@@ -8,18 +8,24 @@ use native.Mathlib.Nat.{mod-lt}
 use native.Mathlib.Omega.{arith}
 use lib.ListN.{drop}
 use lib.Seq.{getD-drop}
-use Rattle.spec.specs.Lists.{if_then_else_, member, union, concat-map}
+use Rattle.spec.specs.Lists.{if_then_else_, member, union, concat-map, ascending}
 use Rattle.spec.specs.Machine.{Machine}
 use Rattle.spec.specs.Words.{link, number, filled, size, place, places}
 use Rattle.spec.specs.Listed.{size-of, pred-of, place-of, slot, place-for, tags-of, head-of, in-bucket, in-set, placed-tags, node-tags, listed}
-use Rattle.laws.specs.Tests.{bool?, and2, all2, or-l, or-r, if-true}
-use Rattle.laws.specs.Facts.{NodeLink, SoundFacts, named, listed-low, listed-high, filled-true, filled-false, true-filled}
-use Rattle.laws.specs.Holding.{from-join, has-take}
-use Rattle.laws.specs.Ascending.{Rising, member-filter, member-union, rising-filter, rising-union}
+use Rattle.laws.specs.Tests.{bool?, and2, or-l, or-r, if-true}
+use Rattle.laws.specs.SoundFacts.{NodeLink, SoundFacts}
+use Rattle.laws.specs.Soundness.{named}
+use Rattle.laws.specs.Sizes.{listed-low, listed-high}
+use Rattle.laws.specs.Links.{filled-true, filled-false, true-filled}
+use Rattle.laws.specs.JoinedLists.{from-join, has-take}
+use Rattle.laws.specs.Ascending.{Rising, member-filter, member-union, rising-filter, rising-union, rising-ascending}
 
 pub listed-rising : (y : Machine) → Rising (listed y)
 unfolding listed
 listed-rising y = rising-filter (in-set y) _ (rising-union (node-tags y (head-of y)) _ (rising-union (node-tags y (pred-of y (head-of y))) [] tt))
+
+pub listed-ascends : (y : Machine) → ascending (listed y) ≡ true
+listed-ascends y = rising-ascending (listed y) (listed-rising y)
 
 module _ (y : Machine) where
   tags-of-node : (l : ℕ) → ¬ (l ≡ 0) → node-tags y l ≡ concat-map (placed-tags y) (places (y .nodes) (number l))
@@ -37,10 +43,6 @@ module _ (y : Machine) where
   pub in-bucket-means : (p k : ℕ) → in-bucket y p k ≡ true → (¬ (p ≡ 0)) × (member k (tags-of y p) ≡ true)
   unfolding in-bucket
   in-bucket-means p k e = let q = and2 (filled p) (member k (tags-of y p)) e in (filled-true p (q .0), q .1)
-
-  pub means-in-bucket : (p k : ℕ) → ¬ (p ≡ 0) → member k (tags-of y p) ≡ true → in-bucket y p k ≡ true
-  unfolding in-bucket
-  means-in-bucket p k d e = all2 (filled p) (member k (tags-of y p)) (true-filled p d) e
 
   pub in-set-means : (k : ℕ) → in-set y k ≡ true → (in-bucket y (place-for y (head-of y) k) k ≡ true)
       ⊎ ((place-for y (head-of y) k ≡ 0) × (¬ (pred-of y (head-of y) ≡ 0)) × (in-bucket y (place-for y (pred-of y (head-of y)) k) k ≡ true))
@@ -91,6 +93,7 @@ module _ (y : Machine) (f : SoundFacts y) where
       (from-join (placed-tags y) k (place-for y l k) (places (y .nodes) (number l)) (among-places y l (slot k (size-of y l)) (omega arith) (q .0))
       (ap (member k) (tags-of-place y (place-for y l k) (q .0)) ∙ q .1))
 
+  -- a tag is listed exactly if it is in the set
   pub listed-member : (k : ℕ) → member k (listed y) ≡ in-set y k
   unfolding listed
   listed-member k = member-filter k (in-set y) all ∙ go (bool? (in-set y k))

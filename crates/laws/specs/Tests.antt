@@ -67,9 +67,6 @@ all2 a b p0 p1 = rw (p0, p1)
 pub and3 : (a b c : Bool) → (a && b && c) ≡ true → (a ≡ true) × (b ≡ true) × (c ≡ true)
 and3 a b c p = let q = and2 a b (and-left (a && b) c p) in (q .0, q .1, and-right (a && b) c p)
 
-pub all3 : (a b c : Bool) → a ≡ true → b ≡ true → c ≡ true → (a && b && c) ≡ true
-all3 a b c p0 p1 p2 = rw (p0, p1, p2)
-
 pub and4 : (a b c d : Bool) → (a && b && c && d) ≡ true → (a ≡ true) × (b ≡ true) × (c ≡ true) × (d ≡ true)
 and4 a b c d p = let q = and3 a b c (and-left (a && b && c) d p) in (q .0, q .1, q .2, and-right (a && b && c) d p)
 
@@ -78,9 +75,6 @@ all4 a b c d p0 p1 p2 p3 = rw (p0, p1, p2, p3)
 
 pub and5 : (a b c d e : Bool) → (a && b && c && d && e) ≡ true → (a ≡ true) × (b ≡ true) × (c ≡ true) × (d ≡ true) × (e ≡ true)
 and5 a b c d e p = let q = and4 a b c d (and-left (a && b && c && d) e p) in (q .0, q .1, q .2, q .3, and-right (a && b && c && d) e p)
-
-pub all5 : (a b c d e : Bool) → a ≡ true → b ≡ true → c ≡ true → d ≡ true → e ≡ true → (a && b && c && d && e) ≡ true
-all5 a b c d e p0 p1 p2 p3 p4 = rw (p0, p1, p2, p3, p4)
 
 pub and6 : (a b c d e f : Bool) → (a && b && c && d && e && f) ≡ true → (a ≡ true) × (b ≡ true) × (c ≡ true) × (d ≡ true) × (e ≡ true) × (f ≡ true)
 and6 a b c d e f p = let q = and5 a b c d e (and-left (a && b && c && d && e) f p) in (q .0, q .1, q .2, q .3, q .4, and-right (a && b && c && d && e) f p)
@@ -91,19 +85,19 @@ all6 a b c d e f p0 p1 p2 p3 p4 p5 = rw (p0, p1, p2, p3, p4, p5)
 pub and7 : (a b c d e f g : Bool) → (a && b && c && d && e && f && g) ≡ true → (a ≡ true) × (b ≡ true) × (c ≡ true) × (d ≡ true) × (e ≡ true) × (f ≡ true) × (g ≡ true)
 and7 a b c d e f g p = let q = and6 a b c d e f (and-left (a && b && c && d && e && f) g p) in (q .0, q .1, q .2, q .3, q .4, q .5, and-right (a && b && c && d && e && f) g p)
 
-pub all7 : (a b c d e f g : Bool) → a ≡ true → b ≡ true → c ≡ true → d ≡ true → e ≡ true → f ≡ true → g ≡ true → (a && b && c && d && e && f && g) ≡ true
-all7 a b c d e f g p0 p1 p2 p3 p4 p5 p6 = rw (p0, p1, p2, p3, p4, p5, p6)
+pub and8 : (a b c d e f g h : Bool) → (a && b && c && d && e && f && g && h) ≡ true
+    → (a ≡ true) × (b ≡ true) × (c ≡ true) × (d ≡ true) × (e ≡ true) × (f ≡ true) × (g ≡ true) × (h ≡ true)
+and8 a b c d e f g h p =
+    let q = and7 a b c d e f g (and-left (a && b && c && d && e && f && g) h p) in (q .0, q .1, q .2, q .3, q .4, q .5, q .6, and-right (a && b && c && d && e && f && g) h p)
 
-pub and8 : (a b c d e f g h : Bool) → (a && b && c && d && e && f && g && h) ≡ true → (a ≡ true) × (b ≡ true) × (c ≡ true) × (d ≡ true) × (e ≡ true) × (f ≡ true) × (g ≡ true) × (h ≡ true)
-and8 a b c d e f g h p = let q = and7 a b c d e f g (and-left (a && b && c && d && e && f && g) h p) in (q .0, q .1, q .2, q .3, q .4, q .5, q .6, and-right (a && b && c && d && e && f && g) h p)
+pub and9 : (a b c d e f g h i : Bool) → (a && b && c && d && e && f && g && h && i) ≡ true
+    → (a ≡ true) × (b ≡ true) × (c ≡ true) × (d ≡ true) × (e ≡ true) × (f ≡ true) × (g ≡ true) × (h ≡ true) × (i ≡ true)
+and9 a b c d e f g h i p =
+    let q = and8 a b c d e f g h (and-left (a && b && c && d && e && f && g && h) i p) in
+    (q .0, q .1, q .2, q .3, q .4, q .5, q .6, q .7, and-right (a && b && c && d && e && f && g && h) i p)
 
-pub all8 : (a b c d e f g h : Bool) → a ≡ true → b ≡ true → c ≡ true → d ≡ true → e ≡ true → f ≡ true → g ≡ true → h ≡ true → (a && b && c && d && e && f && g && h) ≡ true
-all8 a b c d e f g h p0 p1 p2 p3 p4 p5 p6 p7 = rw (p0, p1, p2, p3, p4, p5, p6, p7)
-
-pub and9 : (a b c d e f g h i : Bool) → (a && b && c && d && e && f && g && h && i) ≡ true → (a ≡ true) × (b ≡ true) × (c ≡ true) × (d ≡ true) × (e ≡ true) × (f ≡ true) × (g ≡ true) × (h ≡ true) × (i ≡ true)
-and9 a b c d e f g h i p = let q = and8 a b c d e f g h (and-left (a && b && c && d && e && f && g && h) i p) in (q .0, q .1, q .2, q .3, q .4, q .5, q .6, q .7, and-right (a && b && c && d && e && f && g && h) i p)
-
-pub all9 : (a b c d e f g h i : Bool) → a ≡ true → b ≡ true → c ≡ true → d ≡ true → e ≡ true → f ≡ true → g ≡ true → h ≡ true → i ≡ true → (a && b && c && d && e && f && g && h && i) ≡ true
+pub all9 : (a b c d e f g h i : Bool) → a ≡ true → b ≡ true → c ≡ true → d ≡ true → e ≡ true → f ≡ true → g ≡ true → h ≡ true → i ≡ true
+    → (a && b && c && d && e && f && g && h && i) ≡ true
 all9 a b c d e f g h i p0 p1 p2 p3 p4 p5 p6 p7 p8 = rw (p0, p1, p2, p3, p4, p5, p6, p7, p8)
 
 pub none2 : (a b : Bool) → (a || b) ≡ false → (a ≡ false) × (b ≡ false)
@@ -121,20 +115,11 @@ nor3 a b c p0 p1 p2 = rw (p0, p1, p2)
 pub none4 : (a b c d : Bool) → (a || b || c || d) ≡ false → (a ≡ false) × (b ≡ false) × (c ≡ false) × (d ≡ false)
 none4 a b c d p = let r = or-none (a || b || c) d p in let q = none3 a b c (r .0) in (q .0, q .1, q .2, r .1)
 
-pub nor4 : (a b c d : Bool) → a ≡ false → b ≡ false → c ≡ false → d ≡ false → (a || b || c || d) ≡ false
-nor4 a b c d p0 p1 p2 p3 = rw (p0, p1, p2, p3)
-
 pub none5 : (a b c d e : Bool) → (a || b || c || d || e) ≡ false → (a ≡ false) × (b ≡ false) × (c ≡ false) × (d ≡ false) × (e ≡ false)
 none5 a b c d e p = let r = or-none (a || b || c || d) e p in let q = none4 a b c d (r .0) in (q .0, q .1, q .2, q .3, r .1)
 
-pub nor5 : (a b c d e : Bool) → a ≡ false → b ≡ false → c ≡ false → d ≡ false → e ≡ false → (a || b || c || d || e) ≡ false
-nor5 a b c d e p0 p1 p2 p3 p4 = rw (p0, p1, p2, p3, p4)
-
 pub none6 : (a b c d e f : Bool) → (a || b || c || d || e || f) ≡ false → (a ≡ false) × (b ≡ false) × (c ≡ false) × (d ≡ false) × (e ≡ false) × (f ≡ false)
 none6 a b c d e f p = let r = or-none (a || b || c || d || e) f p in let q = none5 a b c d e (r .0) in (q .0, q .1, q .2, q .3, q .4, r .1)
-
-pub nor6 : (a b c d e f : Bool) → a ≡ false → b ≡ false → c ≡ false → d ≡ false → e ≡ false → f ≡ false → (a || b || c || d || e || f) ≡ false
-nor6 a b c d e f p0 p1 p2 p3 p4 p5 = rw (p0, p1, p2, p3, p4, p5)
 
 pub none7 : (a b c d e f g : Bool) → (a || b || c || d || e || f || g) ≡ false → (a ≡ false) × (b ≡ false) × (c ≡ false) × (d ≡ false) × (e ≡ false) × (f ≡ false) × (g ≡ false)
 none7 a b c d e f g p = let r = or-none (a || b || c || d || e || f) g p in let q = none6 a b c d e f (r .0) in (q .0, q .1, q .2, q .3, q .4, q .5, r .1)

@@ -1,4 +1,4 @@
--- How many own steps a contains takes: three if line 13 meets a bucket, else five. Stated of a whole schedule, as the paper's bound
+-- How many own steps a contains takes: three if line 13 meets a bucket, else five. Stated of a simulated schedule, as the paper's bound
 -- of five follows from it. Assumes nothing.
 use Prim.Native.Nat.{ℕ, suc}
 use mathlib.Core.Path.{_≡_}
@@ -7,7 +7,7 @@ use mathlib.Core.List.{List, [], _∷_}
 use native.Mathlib.Omega.{arith}
 use Rattle.spec.specs.declared.Call.the-variants.{Contains}
 use Rattle.spec.specs.declared.Output.{Output}
-use Rattle.spec.specs.declared.Output.the-variants.{At, End, Refuse}
+use Rattle.spec.specs.declared.Output.the-variants.{At, Refuse, End}
 use Rattle.spec.specs.Schedule.{Event, starts, steps}
 use Rattle.spec.specs.History.{Started, note, none-started}
 use Rattle.spec.specs.Linearizable.{WithinFive, AllWithinFive}

@@ -113,7 +113,8 @@ module _ (e : Ended) (c : e .call ≡ Contains) where
   timely-put-in (later {a = a} w) b t = (late-into (a .start) (into-put-in w e) (b .0) (t .0), timely-put-in w (b .1) (t .1))
 
   -- the other witnesses stay
-  pub witness-put-in : {k r : ℕ} {v : Bool} {k′ r′ : ℕ} {v′ : Bool} {S : List ℕ} {L : List Ended} (w : Witness k r v S L) → r′ ≤ e .end → Witness k′ r′ v′ S L → Witness k′ r′ v′ S (put-in w e)
+  pub witness-put-in : {k r : ℕ} {v : Bool} {k′ r′ : ℕ} {v′ : Bool} {S : List ℕ} {L : List Ended} (w : Witness k r v S L) → r′ ≤ e .end → Witness k′ r′ v′ S L
+      → Witness k′ r′ v′ S (put-in w e)
   witness-put-in {r′ = r′} w le (now g m) = now (late-into r′ (into-put-in w e) le g) m
   witness-put-in {S = S} (now g m) le (later {a = a} {L = M} w′) = later {S = S} {a = e} {L = a ∷ M} (rw (next-same S) (later w′))
   witness-put-in (later w) le (later w′) = later (witness-put-in w le w′)

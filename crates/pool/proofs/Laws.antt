@@ -6,12 +6,12 @@ use mathlib.Core.Bool.{Bool, true, false, not, _&&_, _||_, false≢true}
 use Prim.Native.Nat.{ℕ, zero, suc, _+_, _-_, _*_, _<_, _≤_}
 use native.Mathlib.Numerals.{add-one}
 use native.Mathlib.Omega.{arith}
-use borrow.Author.Tests.{eq-eqb, ne-eqb, lt-ltb, le-ltb, eqb-true, leb-true, ltb-true}
+use borrow.Author.Tests.{eq-eqb, ne-eqb, eqb-true, leb-true, ltb-true}
 use lib.Dec.{leb, eqb}
-use lib.ListN.{length, getD, drop, length-drop, drop-of-length-le, List·getD-eq-default, length-map}
+use lib.ListN.{length, getD, drop, drop-of-length-le, List·getD-eq-default, length-map}
 use lib.Seq.{drop-cons, drop-drop}
 use Rattle.laws.specs.Tests.{or-case, and-right}
-use Rattle.spec.specs.Lists.{if_then_else_, member, every, ascending}
+use Rattle.spec.specs.Lists.{if_then_else_, member}
 use Rattle.spec.specs.Machine.{Machine}
 use Rattle.spec.specs.Words.{size}
 use Rattle.spec.specs.Sound.{listed-size, sound-node, sound-nodes, sound-bucket, sound-buckets, fill-lines, lines-of, sound-running, zero-task, sound-task, sound-tasks, sound-numbers}
@@ -26,49 +26,9 @@ module _ (s : List ℕ) (i : ℕ) (h : i < length s) where
   unfolding member
   member-on x n = rw (add-one, drop-cons s i 0 h, ne-eqb _ _ n)
 
-  pub every-no : (f : ℕ → Bool) → f (getD s i 0) ≡ false → every f (drop i s) ≡ false
-  unfolding every
-  every-no f e = rw (drop-cons s i 0 h, e)
-
-  pub every-on : (f : ℕ → Bool) → f (getD s i 0) ≡ true → every f (drop i s) ≡ every f (drop (i + 1) s)
-  unfolding every
-  every-on f e = rw (add-one, drop-cons s i 0 h, e)
-
-  -- the pair of elements before and at i
-  two : 0 < i → drop (i - 1) s ≡ getD s (i - 1) 0 ∷ getD s i 0 ∷ drop (i + 1) s
-  two z =
-      let l : i - 1 < length s = omega arith in
-      let e : suc (i - 1) ≡ i = omega arith in
-      drop-cons s (i - 1) 0 l ∙ ap (λ (n : ℕ). getD s (i - 1) 0 ∷ drop n s) e ∙ ap (λ (r : List ℕ). getD s (i - 1) 0 ∷ r) (rw add-one (drop-cons s i 0 h))
-
-  pub ascending-no : 0 < i → getD s i 0 ≤ getD s (i - 1) 0 → ascending (drop (i - 1) s) ≡ false
-  unfolding ascending
-  ascending-no z l = rw (two z, le-ltb _ _ l)
-
-  pub ascending-on : 0 < i → getD s (i - 1) 0 < getD s i 0 → ascending (drop (i - 1) s) ≡ ascending (drop (i + 1 - 1) s)
-  unfolding ascending
-  ascending-on z l =
-      let e : i + 1 - 1 ≡ i = omega arith in
-      let t : ascending (drop (i - 1) s) ≡ ascending (getD s i 0 ∷ drop (i + 1) s) = rw (two z, lt-ltb _ _ l) in
-      let d : getD s i 0 ∷ drop (i + 1) s ≡ drop (i + 1 - 1) s = rw (e, add-one) (sym (drop-cons s i 0 h)) in
-      t ∙ ap ascending d
-
 pub member-end : (x : ℕ) (s : List ℕ) (i : ℕ) → length s ≤ i → member x (drop i s) ≡ false
 unfolding member
 member-end x s i h = rw (drop-of-length-le s h)
-
-pub every-end : (f : ℕ → Bool) (s : List ℕ) (i : ℕ) → length s ≤ i → every f (drop i s) ≡ true
-unfolding every
-every-end f s i h = rw (drop-of-length-le s h)
-
-ascending-short : (s : List ℕ) → length s ≤ 1 → ascending s ≡ true
-unfolding ascending
-ascending-short [] h = refl
-ascending-short (x ∷ []) h = refl
-ascending-short (x ∷ (y ∷ ys)) h = absurd (omega arith)
-
-pub ascending-end : (s : List ℕ) (i : ℕ) → length s ≤ i → ascending (drop (i - 1) s) ≡ true
-ascending-end s i h = ascending-short (drop (i - 1) s) (rw (length-drop (i - 1) s) (omega arith))
 
 -- ---- sizes
 

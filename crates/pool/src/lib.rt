@@ -114,19 +114,21 @@ pub fn among(x: u32, s: &[u32]) -> bool
     false
 }
 
-// The n words from this one on are 0.
+// The n words from this one on are 0. Here and in the two loops below the words that fail are counted with no exit on the way, so
+// that the loop is compiled to vector instructions; a scan exits between records.
 fn zero_words(w: &[u32], first: usize, n: usize) -> bool
-    requires { ⌜ first + n ≤ length (now w) ⌝ }
+    requires { ⌜ (first + n ≤ length (now w)) × (n ≤ 64) ⌝ }
     ensures { λ r. ⌜ r ≡ zeros n (drop first (now (w .entry))) ⌝ }
 {
+    let mut bad: u32 = 0;
     let mut j: usize = 0;
     while j < n {
         if w[first + j] != 0 {
-            return false;
+            bad += 1;
         }
         j += 1;
     }
-    true
+    bad == 0
 }
 
 pub fn is_listed_size(n: u32) -> bool
@@ -163,29 +165,33 @@ fn link_ok(ns: &[u32], h: u32, l: u32) -> bool
 }
 
 fn all_within(s: &[u32], b: u32) -> bool
+    requires { ⌜ length (now s) ≤ 64 ⌝ }
     ensures { λ r. ⌜ r ≡ every (λ l. leb l b) (now (s .entry)) ⌝ }
 {
+    let mut bad: u32 = 0;
     let mut i = 0;
     while i < s.len() {
         if b < s[i] {
-            return false;
+            bad += 1;
         }
         i += 1;
     }
-    true
+    bad == 0
 }
 
 fn is_ascending(s: &[u32]) -> bool
+    requires { ⌜ length (now s) ≤ 64 ⌝ }
     ensures { λ r. ⌜ r ≡ ascending (now (s .entry)) ⌝ }
 {
+    let mut bad: u32 = 0;
     let mut i = 1;
     while i < s.len() {
         if s[i] <= s[i - 1] {
-            return false;
+            bad += 1;
         }
         i += 1;
     }
-    true
+    bad == 0
 }
 
 // The node whose first word is the part's.

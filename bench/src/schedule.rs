@@ -1,0 +1,179 @@
+//! A whole schedule as words, and its run: the form in which two implementations
+//! of the machine are compared. All knowledge of the encoding is in this file.
+//!
+//! Event, 4 words: kind (0 step, else a start: 1 insert, 2 remove, 3 contains, 4 grow,
+//! 5 shrink), task, tag, 0.
+//! Output, 3 words: kind (0 at, 1 end, 2 refused), value (line, answer or refusal number),
+//! own steps (0 unless end).
+//! Outcome, 1 word: the number of listed tags, or 256 + the number of a refusal.
+
+use crate::machine::{self, Answer, Call, Output, Refusal, State};
+
+pub const EVENT_WORDS: usize = 4;
+pub const OUTPUT_WORDS: usize = 3;
+pub const REFUSED: u32 = 256;
+
+const AT: u32 = 0;
+const END: u32 = 1;
+const REFUSE: u32 = 2;
+
+#[derive(Clone, Copy, Debug, PartialEq, Eq)]
+pub enum Event {
+    Start(u32, Call, u32),
+    Step(u32),
+}
+
+pub type EventWords = [u32; EVENT_WORDS];
+pub type OutputWords = [u32; OUTPUT_WORDS];
+
+/// Any implementation of `run`.
+pub type Run = fn(u32, &mut [u32], &mut [u32], &[u32], &mut [u32], &mut [u32]) -> u32;
+
+pub fn encode_event(event: Event) -> EventWords {
+    match event {
+        Event::Step(task) => [0, task, 0, 0],
+        Event::Start(task, call, tag) => [call as u32, task, tag, 0],
+    }
+}
+
+pub fn decode_event(&[kind, task, tag, _]: &EventWords) -> Event {
+    let call = match kind {
+        0 => return Event::Step(task),
+        1 => Call::Insert,
+        2 => Call::Remove,
+        3 => Call::Contains,
+        4 => Call::Grow,
+        5 => Call::Shrink,
+        _ => panic!("event of unknown kind {kind}"),
+    };
+    Event::Start(task, call, tag)
+}
+
+pub fn encode_output(output: Result<Output, Refusal>) -> OutputWords {
+    match output {
+        Ok(Output::At(line)) => [AT, line, 0],
+        Ok(Output::End(answer, own)) => [END, answer as u32, own.into()],
+        Err(refusal) => [REFUSE, refusal as u32, 0],
+    }
+}
+
+pub fn decode_output(&[kind, value, own]: &OutputWords) -> Option<Result<Output, Refusal>> {
+    match kind {
+        AT if own == 0 => Some(Ok(Output::At(value))),
+        END => Some(Ok(Output::End(decode_answer(value)?, own.try_into().ok()?))),
+        REFUSE if own == 0 => Some(Err(decode_refusal(value)?)),
+        _ => None,
+    }
+}
+
+fn decode_answer(value: u32) -> Option<Answer> {
+    use Answer::*;
+    [Yes, No, Full, Done, Lost, Limit]
+        .into_iter()
+        .find(|&a| a as u32 == value)
+}
+
+fn decode_refusal(value: u32) -> Option<Refusal> {
+    use Refusal::*;
+    [
+        NoSuchTask,
+        AlreadyRunning,
+        NotRunning,
+        NoFreeRecord,
+        Corrupt,
+    ]
+    .into_iter()
+    .find(|&r| r as u32 == value)
+}
+
+pub fn apply(
+    state: &mut State,
+    nodes: &mut [u32],
+    buckets: &mut [u32],
+    event: Event,
+) -> Result<Output, Refusal> {
+    match event {
+        Event::Start(task, call, tag) => machine::start(state, nodes, buckets, task, call, tag),
+        Event::Step(task) => machine::step(state, nodes, buckets, task),
+    }
+}
+
+/// Opens with the two pools, runs every event, writing an output for each, and lists the
+/// tags at the end. A refused opening writes nothing. `outputs` has room for every event.
+pub fn run(
+    tasks: u32,
+    nodes: &mut [u32],
+    buckets: &mut [u32],
+    events: &[u32],
+    outputs: &mut [u32],
+    tags: &mut [u32],
+) -> u32 {
+    let mut state = match machine::open(tasks, nodes, buckets) {
+        Ok(state) => state,
+        Err(refusal) => return REFUSED + refusal as u32,
+    };
+    let (events, _) = events.as_chunks();
+    let (outputs, _) = outputs.as_chunks_mut();
+    assert!(
+        outputs.len() >= events.len(),
+        "too few words for the outputs"
+    );
+    for (event, output) in events.iter().zip(outputs) {
+        let given = apply(&mut state, nodes, buckets, decode_event(event));
+        *output = encode_output(given);
+    }
+    match machine::list(&state, nodes, buckets, tags) {
+        Ok(count) => count as u32,
+        Err(refusal) => REFUSED + refusal as u32,
+    }
+}
+
+#[cfg(test)]
+mod tests {
+    use super::*;
+
+    #[test]
+    fn events_survive_encoding() {
+        let all = [
+            Event::Step(3),
+            Event::Start(0, Call::Insert, 7),
+            Event::Start(1, Call::Remove, u32::MAX),
+            Event::Start(2, Call::Contains, 0),
+            Event::Start(9, Call::Grow, 0),
+            Event::Start(8, Call::Shrink, 0),
+        ];
+        assert!(all
+            .iter()
+            .all(|&event| decode_event(&encode_event(event)) == event));
+    }
+
+    #[test]
+    fn a_run_writes_outputs_and_tags() {
+        let events: Vec<u32> = [Event::Start(0, Call::Insert, 17), Event::Step(0)]
+            .into_iter()
+            .chain([Event::Step(0), Event::Step(0), Event::Step(0)])
+            .flat_map(encode_event)
+            .collect();
+        let (mut nodes, mut buckets) = ([9; 34], [9; 66]);
+        let (mut outputs, mut tags) = ([9; 15], [9; 64]);
+        let outcome = run(
+            1,
+            &mut nodes,
+            &mut buckets,
+            &events,
+            &mut outputs,
+            &mut tags,
+        );
+        assert_eq!(outcome, 1);
+        assert_eq!(outputs, [0, 32, 0, 0, 33, 0, 0, 36, 0, 1, 1, 3, 2, 6, 0]);
+        assert_eq!((tags[0], tags[1]), (17, 9));
+    }
+
+    #[test]
+    fn a_refused_opening_writes_nothing() {
+        let (mut nodes, mut buckets, mut tags) = ([9; 34], [9; 66], [9; 64]);
+        let outcome = run(9, &mut nodes, &mut buckets, &[], &mut [], &mut tags);
+        assert_eq!(outcome, REFUSED + 1);
+        assert_eq!((nodes, buckets, tags), ([9; 34], [9; 66], [9; 64]));
+    }
+}

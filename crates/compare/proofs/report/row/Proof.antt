@@ -1,0 +1,54 @@
+-- `compare::report::row` is safe and ends: counters stay within their bounds, and lent slices keep their lengths. Assumes nothing.
+use Prim.Native.Nat.{_≤_, _-_}
+use borrow.Author.Needs.{needs}
+use Rattle.compare.proofs.report.row.Statement.{statement}
+use Rattle.compare.proofs.report.row.Tie as tie
+
+abbrev Inv-loop : tie.InvT-loop
+Inv-loop name c a n i₀ t6 i = i ≤ n
+
+abbrev μ-loop : tie.MeasureT-loop
+μ-loop name c a n i₀ t6 i = n - i
+
+text-requires : tie.Need-text-requires Inv-loop μ-loop
+text-requires c κs = search needs
+
+loop-holds : tie.Need-loop-holds Inv-loop μ-loop
+loop-holds c = search needs
+
+placed-requires : tie.Need-placed-requires Inv-loop μ-loop
+placed-requires c κs = search needs
+
+add-i : tie.Need-add-i Inv-loop μ-loop
+add-i c = search needs
+
+loop-less : tie.Need-loop-less Inv-loop μ-loop
+loop-less c = search needs
+
+loop-again : tie.Need-loop-again Inv-loop μ-loop
+loop-again c = search needs
+
+slice-aggregate-text : tie.Need-slice-aggregate-text Inv-loop μ-loop
+slice-aggregate-text c = search needs
+
+text-requires-2 : tie.Need-text-requires-2 Inv-loop μ-loop
+text-requires-2 c κs = search needs
+
+returns : tie.Need-returns Inv-loop μ-loop
+returns c = search needs
+
+pub row-spec : {M : Type 1} → statement M
+row-spec =
+    tie.close
+    (tie.spec
+    Inv-loop
+    μ-loop
+    text-requires
+    loop-holds
+    placed-requires
+    add-i
+    loop-less
+    loop-again
+    slice-aggregate-text
+    text-requires-2
+    returns)

@@ -1,0 +1,3 @@
+pub mod Unchanged
+pub mod Tables
+pub mod Refusals

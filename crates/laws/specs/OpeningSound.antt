@@ -1,0 +1,150 @@
+-- An opening by its outcome; an accepted one leaves sound memory. Assumes nothing.
+use Prim.Native.Nat.{ℕ, zero, suc, _+_, _*_, _-_, _%_, _/_, _≤_}
+use mathlib.Core.Path.{_≡_, refl}
+use mathlib.Core.List.{List, []}
+use mathlib.Core.Bool.{true, not}
+use native.Mathlib.Omega.{arith}
+use native.Mathlib.Decide.{ℕ-discrete}
+use borrow.Author.Tests.{eqb-true, leb-true, not-false}
+use lib.Dec.{leb, eqb}
+use lib.ListN.{length, getD, replicate, length-replicate}
+use Rattle.spec.specs.Lists.{member, ascending}
+use Rattle.spec.specs.Machine.{idle, state-of, task-of}
+use Rattle.spec.specs.Words.{size, pred, place, changeable, count, tags}
+use Rattle.spec.specs.Sound.{listed-size, sound, within}
+use Rattle.spec.specs.Entries.{pool-fits, not-opened, fresh-machine, Opened, opening}
+use Rattle.laws.specs.Tests.{choose, and2}
+use Rattle.laws.specs.SoundFacts.{NodeFacts, BucketFacts, is-idle, SoundFacts}
+use Rattle.laws.specs.Sizes.{unused, used}
+use Rattle.laws.specs.Soundness.{facts-sound}
+use Rattle.laws.specs.TaskKeeps.{no-link}
+
+-- ---- opening
+
+replicated : {A : Type 0} (n i : ℕ) (a : A) → getD (replicate n a) i a ≡ a
+replicated zero i a = refl
+replicated (suc n) zero a = refl
+replicated (suc n) (suc i) a = replicated n i a
+
+module _ (t h b : ℕ) (t-low : 1 ≤ t) (t-high : t ≤ 8) (h-low : 1 ≤ h) (h-high : h ≤ 64) (b-low : 1 ≤ b) (b-high : b ≤ 1024) where
+  word-0 : (p : ℕ) → 3 ≤ p → getD (fresh-machine t h b .nodes) p 0 ≡ 0
+  unfolding fresh-machine
+  word-0 p q = let e : p ≡ suc (suc (suc (p - 3))) = omega arith in rw e (replicated (34 * h - 3) (p - 3) 0)
+
+  bword-0 : (p : ℕ) → 1 ≤ p → getD (fresh-machine t h b .buckets) p 0 ≡ 0
+  unfolding fresh-machine
+  bword-0 p q = let e : p ≡ suc (p - 1) = omega arith in rw e (replicated (66 * b - 1) (p - 1) 0)
+
+  first-node : NodeFacts (fresh-machine t h b) 0
+  unfolding size pred place fresh-machine state-of listed-size member
+  first-node = record {
+    size-ok = used refl;
+    pred-ok = no-link (fresh-machine t h b);
+    place-ok = λ i p. elim (ℕ-discrete i 0) [ yes q ↦ rw q b-low | no d ↦ rw (word-0 (2 + i) (omega arith)) (omega arith) ];
+    past = λ i p q. word-0 (2 + i) (omega arith);
+  }
+
+  fresh-node : (k : ℕ) → NodeFacts (fresh-machine t h b) k
+  unfolding size pred place
+  fresh-node k = go (ℕ-discrete k 0)
+    where
+      go : Dec (k ≡ 0) → NodeFacts (fresh-machine t h b) k
+      go (yes q) = rw q first-node
+      go (no d) = record {
+        size-ok = unused (word-0 (34 * k) (omega arith));
+        pred-ok = rw (word-0 (34 * k + 1) (omega arith)) (no-link (fresh-machine t h b));
+        place-ok = λ i p. rw (word-0 (34 * k + 2 + i) (omega arith)) (omega arith);
+        past = λ i p q. word-0 (34 * k + 2 + i) (omega arith);
+      }
+
+  no-count : (k : ℕ) → count (fresh-machine t h b .buckets) k ≡ 0
+  unfolding count
+  no-count k = bword-0 (66 * k + 1) (omega arith)
+
+  no-tags : (k : ℕ) → tags (fresh-machine t h b .buckets) k ≡ []
+  unfolding tags
+  no-tags k = rw (no-count k)
+
+  fresh-flag : (k : ℕ) → changeable (fresh-machine t h b .buckets) k ≤ 1
+  unfolding changeable fresh-machine
+  fresh-flag zero = omega arith
+  fresh-flag (suc k) = rw (bword-0 (66 * suc k) (omega arith)) (omega arith)
+
+  fresh-bucket : (k : ℕ) → BucketFacts (fresh-machine t h b) k
+  unfolding ascending
+  fresh-bucket k = record {
+    flag = fresh-flag k;
+    few = rw (no-count k) (omega arith);
+    long = rw (no-tags k, no-count k);
+    rising = rw (no-tags k);
+    after = λ j p q. bword-0 (66 * k + 2 + j) (omega arith);
+  }
+
+  fresh-task-sound : (k : ℕ) → task-of (fresh-machine t h b) k ≡ idle
+  unfolding task-of fresh-machine state-of
+  fresh-task-sound k = replicated 8 k idle
+
+  pub fresh-sound : SoundFacts (fresh-machine t h b)
+  unfolding fresh-machine state-of size
+  fresh-sound = record {
+    T-low = t-low;
+    T-high = t-high;
+    H-low = h-low;
+    H-high = h-high;
+    B-low = b-low;
+    B-high = b-high;
+    nodes-length = rw (length-replicate {A = ℕ} (34 * h - 3) 0) (omega arith);
+    buckets-length = rw (length-replicate {A = ℕ} (66 * b - 1) 0) (omega arith);
+    head = h-low;
+    last-node = h-low;
+    last-bucket = b-low;
+    head-sized = λ e. omega arith;
+    node = λ k q. fresh-node k;
+    bucket = λ k q. fresh-bucket k;
+    task = λ k. is-idle (fresh-task-sound k);
+  }
+
+-- an opening, by its outcome
+pub data OpeningOutcome (t : ℕ) (ns bs : List ℕ) : Opened → Type 0 where
+  refused : (n : ℕ) → 1 ≤ n → OpeningOutcome t ns bs (not-opened n ns bs)
+  accepted : 1 ≤ t → t ≤ 8 → length ns % 34 ≡ 0 → 1 ≤ length ns / 34 → length ns / 34 ≤ 64 → length bs % 66 ≡ 0 → 1 ≤ length bs / 66 → length bs / 66 ≤ 1024
+      → OpeningOutcome t ns bs (record { refusal = 0; machine = fresh-machine t (length ns / 34) (length bs / 66) })
+
+within-means : (lo hi n : ℕ) → within lo hi n ≡ true → (lo ≤ n) × (n ≤ hi)
+within-means lo hi n e = let p = and2 (leb lo n) (leb n hi) e in (leb-true lo n (p .0), leb-true n hi (p .1))
+
+fits-means : (width most words : ℕ) → pool-fits width most words ≡ true → (words % width ≡ 0) × (1 ≤ words / width) × (words / width ≤ most)
+unfolding pool-fits
+fits-means width most words e =
+    let p = and2 (eqb (words % width) 0) (within 1 most (words / width)) e in
+    let q = within-means 1 most (words / width) (p .1) in
+    (eqb-true (words % width) 0 (p .0), q .0, q .1)
+
+pub opening-outcome : (t : ℕ) (ns bs : List ℕ) → OpeningOutcome t ns bs (opening t ns bs)
+unfolding opening
+opening-outcome t ns bs =
+    choose (OpeningOutcome t ns bs) (not (within 1 8 t)) _ _ (λ q. refused 1 (omega arith))
+    (λ a. choose (OpeningOutcome t ns bs) (not (pool-fits 34 64 (length ns))) _ _ (λ q. refused 2 (omega arith))
+    (λ c. choose (OpeningOutcome t ns bs) (not (pool-fits 66 1024 (length bs))) _ _ (λ q. refused 3 (omega arith))
+    (λ d.
+    let x = within-means 1 8 t (not-false (within 1 8 t) a) in
+    let v = fits-means 34 64 (length ns) (not-false (pool-fits 34 64 (length ns)) c) in
+    let w = fits-means 66 1024 (length bs) (not-false (pool-fits 66 1024 (length bs)) d) in
+    accepted (x .0) (x .1) (v .0) (v .1) (v .2) (w .0) (w .1) (w .2))))
+
+pub opening-sound : (t : ℕ) (ns bs : List ℕ) → opening t ns bs .refusal ≡ 0 → sound (opening t ns bs .machine) ≡ true
+unfolding not-opened
+opening-sound t ns bs e = go (opening-outcome t ns bs) e
+  where
+    go : {o : Opened} → OpeningOutcome t ns bs o → o .refusal ≡ 0 → sound (o .machine) ≡ true
+    go (refused n h) q = let z : n ≡ 0 = q in absurd (omega arith)
+    go (accepted a c h i j k l m) q = facts-sound _ (fresh-sound t (length ns / 34) (length bs / 66) a c i j l m)
+
+-- an accepted opening leaves the fresh machine, whatever stood in the two slices
+pub opened-machine : (t : ℕ) (ns bs : List ℕ) → opening t ns bs .refusal ≡ 0 → opening t ns bs .machine ≡ fresh-machine t (length ns / 34) (length bs / 66)
+unfolding not-opened
+opened-machine t ns bs e = go (opening-outcome t ns bs) e
+  where
+    go : {o : Opened} → OpeningOutcome t ns bs o → o .refusal ≡ 0 → o .machine ≡ fresh-machine t (length ns / 34) (length bs / 66)
+    go (refused n h) q = let z : n ≡ 0 = q in absurd (omega arith)
+    go (accepted a c h i j k l m) q = refl

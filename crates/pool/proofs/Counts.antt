@@ -1,0 +1,108 @@
+-- Counting what fails a test, with no exit on the way: none fails exactly where the test passes throughout. One law for a turn of
+-- the loop that counts, whichever way the test goes. Assumes nothing.
+use mathlib.Core.Path.{_≡_, refl, sym, ap, _∙_}
+use mathlib.Core.List.{List, [], _∷_}
+use mathlib.Core.Bool.{Bool, true, false, _&&_}
+use Prim.Native.Nat.{ℕ, zero, suc, _+_, _-_, _<_, _≤_}
+use native.Mathlib.Numerals.{add-one}
+use native.Mathlib.Omega.{arith}
+use borrow.Author.Tests.{le-ltb, lt-ltb, ne-eqb}
+use lib.Dec.{ltb, eqb}
+use lib.ListN.{length, getD, drop, take, drop-of-length-le, length-drop}
+use lib.Seq.{drop-cons}
+use Rattle.spec.specs.Lists.{if_then_else_, every, ascending}
+use Rattle.spec.specs.Sound.{zeros}
+
+-- ---- elements that fail
+
+unfoldable pub fails : (ℕ → Bool) → List ℕ → ℕ
+fails f [] = 0
+fails f (x ∷ xs) = if f x then fails f xs else suc (fails f xs)
+
+pub every-fails : (f : ℕ → Bool) (xs : List ℕ) → every f xs ≡ eqb (fails f xs) 0
+unfolding every fails
+every-fails f [] = refl
+every-fails f (x ∷ xs) = go (f x) (every-fails f xs)
+  where
+    go : (b : Bool) → every f xs ≡ eqb (fails f xs) 0 → (b && every f xs) ≡ eqb (if b then fails f xs else suc (fails f xs)) 0
+    go true ih = ih
+    go false ih = sym (ne-eqb (suc (fails f xs)) 0 (λ e. omega arith))
+
+module _ (f : ℕ → Bool) (s : List ℕ) (i : ℕ) (h : i < length s) where
+  pub fails-pass : f (getD s i 0) ≡ true → fails f (drop i s) ≡ fails f (drop (i + 1) s)
+  unfolding fails
+  fails-pass e = rw (add-one, drop-cons s i 0 h, e)
+
+  pub fails-fail : f (getD s i 0) ≡ false → fails f (drop i s) ≡ suc (fails f (drop (i + 1) s))
+  unfolding fails
+  fails-fail e = rw (add-one, drop-cons s i 0 h, e)
+
+pub fails-end : (f : ℕ → Bool) (s : List ℕ) (i : ℕ) → length s ≤ i → fails f (drop i s) ≡ 0
+unfolding fails
+fails-end f s i h = rw (drop-of-length-le s h)
+
+abbrev pub zero? : ℕ → Bool
+zero? x = eqb x 0
+
+pub zeros-every : (n : ℕ) (w : List ℕ) → zeros n w ≡ every zero? (take n w)
+unfolding zeros every
+zeros-every zero w = refl
+zeros-every (suc n) [] = refl
+zeros-every (suc n) (x ∷ w) = go (eqb x 0) (zeros-every n w)
+  where
+    go : (b : Bool) → zeros n w ≡ every zero? (take n w) → (b && zeros n w) ≡ (b && every zero? (take n w))
+    go true ih = ih
+    go false ih = refl
+
+-- ---- neighbours that do not ascend
+
+unfoldable pub falls : List ℕ → ℕ
+falls [] = 0
+falls (x ∷ []) = 0
+falls (x ∷ (y ∷ ys)) = if ltb x y then falls (y ∷ ys) else suc (falls (y ∷ ys))
+
+pub ascending-falls : (xs : List ℕ) → ascending xs ≡ eqb (falls xs) 0
+unfolding ascending falls
+ascending-falls [] = refl
+ascending-falls (x ∷ []) = refl
+ascending-falls (x ∷ (y ∷ ys)) = go (ltb x y) (ascending-falls (y ∷ ys))
+  where
+    go : (b : Bool) → ascending (y ∷ ys) ≡ eqb (falls (y ∷ ys)) 0
+        → (b && ascending (y ∷ ys)) ≡ eqb (if b then falls (y ∷ ys) else suc (falls (y ∷ ys))) 0
+    go true ih = ih
+    go false ih = sym (ne-eqb (suc (falls (y ∷ ys))) 0 (λ e. omega arith))
+
+module _ (s : List ℕ) (i : ℕ) (z : 0 < i) (h : i < length s) where
+  -- the elements before and at i, and what follows
+  two : drop (i - 1) s ≡ getD s (i - 1) 0 ∷ getD s i 0 ∷ drop (i + 1) s
+  two =
+      let l : i - 1 < length s = omega arith in
+      let e : suc (i - 1) ≡ i = omega arith in
+      drop-cons s (i - 1) 0 l ∙ ap (λ (n : ℕ). getD s (i - 1) 0 ∷ drop n s) e ∙ ap (λ (r : List ℕ). getD s (i - 1) 0 ∷ r) one
+    where
+      one : drop i s ≡ getD s i 0 ∷ drop (i + 1) s
+      one = rw add-one (drop-cons s i 0 h)
+
+  next : getD s i 0 ∷ drop (i + 1) s ≡ drop (i + 1 - 1) s
+  next = let e : i + 1 - 1 ≡ i = omega arith in rw (e, add-one) (sym (drop-cons s i 0 h))
+
+  pub falls-pass : getD s (i - 1) 0 < getD s i 0 → falls (drop (i - 1) s) ≡ falls (drop (i + 1 - 1) s)
+  unfolding falls
+  falls-pass l =
+      let t : falls (drop (i - 1) s) ≡ falls (getD s i 0 ∷ drop (i + 1) s) = rw (two, lt-ltb _ _ l) in
+      t ∙ ap falls next
+
+  pub falls-fail : getD s i 0 ≤ getD s (i - 1) 0 → falls (drop (i - 1) s) ≡ suc (falls (drop (i + 1 - 1) s))
+  unfolding falls
+  falls-fail l =
+      let t : falls (drop (i - 1) s) ≡ suc (falls (getD s i 0 ∷ drop (i + 1) s)) = rw (two, le-ltb _ _ l) in
+      t ∙ ap (λ (r : List ℕ). suc (falls r)) next
+
+short : (s : List ℕ) → length s ≤ 1 → falls s ≡ 0
+unfolding falls
+short [] h = refl
+short (x ∷ []) h = refl
+short (x ∷ (y ∷ ys)) h = absurd (omega arith)
+
+pub falls-end : (s : List ℕ) (i : ℕ) → length s ≤ i → falls (drop (i - 1) s) ≡ 0
+falls-end s i h = short (drop (i - 1) s) (rw (length-drop (i - 1) s) (omega arith))

@@ -1,0 +1,164 @@
+-- What is left to run of a schedule, and a turn of the loop that runs it: an event, and its output's three words written.
+-- Assumes nothing.
+use Prim.Native.Nat.{ℕ, zero, suc, _+_, _*_, _-_, _≤_, _<_}
+use mathlib.Core.Path.{_≡_, refl, sym, ap, _∙_}
+use mathlib.Core.List.{List, [], _∷_, _++_, append-nil, append-assoc}
+use mathlib.Core.Bool.{not, _||_}
+use native.Mathlib.Omega.{arith}
+use borrow.Author.Tests.{eq-eqb, ne-eqb, ltb-false}
+use lib.Dec.{eqb, leb, ltb}
+use lib.ListN.{length, getD, take, drop, length-append, take-append-drop}
+use lib.Seq.{length-take-le, take-at, drop-append-add, getD-drop, drop-drop}
+use Rattle.spec.specs.declared.Output.{Output}
+use Rattle.spec.specs.declared.Output.the-variants.{At, End, Refuse}
+use Rattle.spec.specs.declared.Listing.{Listing}
+use Rattle.spec.specs.declared.Listing.the-variants.{Refused}
+use Rattle.spec.specs.Lists.{concat-map}
+use Rattle.spec.specs.Numbers.{output-words}
+use Rattle.spec.specs.Machine.{Machine}
+use Rattle.spec.specs.Words.{overwrite}
+use Rattle.spec.specs.Sound.{within, sound}
+use Rattle.spec.specs.Listed.{listed}
+use Rattle.spec.specs.Entries.{Opened, opening, not-opened, pool-fits, Reply, Written, list}
+use Rattle.laws.specs.Tests.{choose, or-none}
+use Rattle.spec.specs.Schedule.{Event, event, run, run-opened, schedule}
+use Rattle.schedule.specs.Encoding.{event-of, events-of, room-for, decoded, list-opened, run-words, listing-number}
+
+pub three : (o : Output) → length (output-words o) ≡ 3
+three (At line) = refl
+three (End a own) = refl
+three (Refuse r) = refl
+
+-- ---- words written one after the other
+
+pub over-none : (w : List ℕ) (i : ℕ) → overwrite w i [] ≡ w
+unfolding overwrite
+over-none w i = let z : i + 0 ≡ i = omega arith in rw (z, append-nil) (take-append-drop i w)
+
+pub over-then : (w : List ℕ) (i : ℕ) (v u : List ℕ) → i + length v ≤ length w → overwrite w i (v ++ u) ≡ overwrite (overwrite w i v) (i + length v) u
+unfolding overwrite
+over-then w i v u h =
+    let j : ℕ = i + length v in
+    let p : List ℕ = take i w ++ v in
+    let e : length p ≡ j = length-append (take i w) v ∙ ap (λ (n : ℕ). n + length v) (length-take-le i w (omega arith)) in
+    let q : i + (length v + length u) ≡ j + length u = omega arith in
+    let d : drop (j + length u) (p ++ drop j w) ≡ drop (j + length u) w =
+    ap (λ (n : ℕ). drop (n + length u) (p ++ drop j w)) (sym e) ∙ drop-append-add p (drop j w) (length u) ∙ drop-drop (length u) j w in
+    rw (take-at p (drop j w) j e, d, length-append v u, q) (ap (λ (l : List ℕ). l ++ drop (j + length u) w) (sym (append-assoc (take i w) v u)))
+
+-- ---- what is left: the machine and the outputs of a run are those of the events es from the machine y on, whose words go to
+-- word i and after
+
+pub record Rest (y₀ : Machine) (w₀ : List ℕ) (es₀ : List Event) (y : Machine) (w : List ℕ) (i : ℕ) (es : List Event) : Type 0 where
+  pub machine : run y₀ es₀ .machine ≡ run y es .machine
+  pub words : overwrite w₀ 0 (concat-map output-words (run y₀ es₀ .outs)) ≡ overwrite w i (concat-map output-words (run y es .outs))
+
+pub rest-all : (y : Machine) (w : List ℕ) (es : List Event) → Rest y w es y w 0 es
+rest-all y w es = record { machine = refl; words = refl }
+
+module _ {y₀ : Machine} {w₀ : List ℕ} {es₀ : List Event} {y : Machine} {w : List ℕ} {i : ℕ} where
+  pub rest-none : Rest y₀ w₀ es₀ y w i [] → (y ≡ run y₀ es₀ .machine) × (w ≡ overwrite w₀ 0 (concat-map output-words (run y₀ es₀ .outs)))
+  unfolding run concat-map
+  rest-none l = (sym (l .machine), sym (l .words ∙ over-none w i))
+
+  pub rest-on : (e : Event) (es : List Event) → Rest y₀ w₀ es₀ y w i (e ∷ es) → i + 3 ≤ length w
+      → Rest y₀ w₀ es₀ (event y e .machine) (overwrite w i (output-words (event y e .out))) (i + 3) es
+  unfolding run concat-map
+  rest-on e es l h =
+      let o = event y e .out in
+      let t = three o in
+      let q : i + length (output-words o) ≡ i + 3 = omega arith in
+      record {
+        machine = l .machine;
+        words = l .words ∙ over-then w i (output-words o) (concat-map output-words (run (event y e .machine) es .outs)) (omega arith)
+            ∙ ap (λ (j : ℕ). overwrite (overwrite w i (output-words o)) j (concat-map output-words (run (event y e .machine) es .outs))) q;
+      }
+
+-- ---- event i of n
+
+module _ (ws : List ℕ) (n i : ℕ) where
+  abbrev pub event-at : Event
+  event-at = event-of (getD ws (4 * i) 0) (getD ws (4 * i + 1) 0) (getD ws (4 * i + 2) 0)
+
+  pub events-on : i < n → events-of (n - i) (drop (4 * i) ws) ≡ event-at ∷ events-of (n - (i + 1)) (drop (4 * (i + 1)) ws)
+  unfolding events-of
+  events-on h =
+      let less : n - i ≡ suc (n - (i + 1)) = omega arith in
+      let z : 4 * i + 0 ≡ 4 * i = omega arith in
+      let q : 4 * i + 4 ≡ 4 * (i + 1) = omega arith in
+      rw (less, getD-drop (4 * i) ws 0 0, z, getD-drop (4 * i) ws 1 0, getD-drop (4 * i) ws 2 0, drop-drop 4 (4 * i) ws, q)
+
+  pub rest-start : (y : Machine) (w : List ℕ) → Rest y w (events-of n ws) y w (3 * 0) (events-of (n - 0) (drop (4 * 0) ws))
+  rest-start y w = let z : n - 0 ≡ n = omega arith in rw z (rest-all y w (events-of n ws))
+
+  events-end : n ≤ i → (v : List ℕ) → events-of (n - i) v ≡ []
+  unfolding events-of
+  events-end h v = let z : n - i ≡ 0 = omega arith in rw z
+
+  -- a turn of the loop
+  pub turn : {y₀ : Machine} {w₀ : List ℕ} {es₀ : List Event} {y : Machine} {w : List ℕ} → i < n → 3 * i + 3 ≤ length w
+      → Rest y₀ w₀ es₀ y w (3 * i) (events-of (n - i) (drop (4 * i) ws))
+      → (r : Reply) → r ≡ event y event-at → (v : List ℕ) → v ≡ overwrite w (3 * i) (output-words (r .out))
+      → Rest y₀ w₀ es₀ (r .machine) v (3 * (i + 1)) (events-of (n - (i + 1)) (drop (4 * (i + 1)) ws))
+  turn {y} {w} h f l r e v g =
+      let q : 3 * (i + 1) ≡ 3 * i + 3 = omega arith in
+      rw (g, e, q) (rest-on event-at (events-of (n - (i + 1)) (drop (4 * (i + 1)) ws)) (rw (events-on h) at l) f)
+
+  -- after the last
+  pub finished : {y₀ : Machine} {w₀ : List ℕ} {es₀ : List Event} {y : Machine} {w : List ℕ} → n ≤ i
+      → Rest y₀ w₀ es₀ y w (3 * i) (events-of (n - i) (drop (4 * i) ws))
+      → (y ≡ run y₀ es₀ .machine) × (w ≡ overwrite w₀ 0 (concat-map output-words (run y₀ es₀ .outs)))
+  finished h l = rest-none (rw (events-end h (drop (4 * i) ws)) at l)
+
+-- ---- as many outputs as events
+
+outs-length : (y : Machine) (es : List Event) → length (run y es .outs) ≡ length es
+unfolding run
+outs-length y [] = refl
+outs-length y (e ∷ es) = ap suc (outs-length (event y e .machine) es)
+
+events-length : (n : ℕ) (w : List ℕ) → length (events-of n w) ≡ n
+unfolding events-of
+events-length zero w = refl
+events-length (suc n) w = ap suc (events-length n (drop 4 w))
+
+-- ---- the whole
+
+module _ (t : ℕ) (ns bs ws os ts : List ℕ) (refusal : ℕ) (r : refusal ≡ opening t ns bs .refusal) (y₀ : Machine) (o : y₀ ≡ opening t ns bs .machine) where
+  pub not-run : (refusal ≡ 0 → ⊥)
+      → record { refusal = refusal; ran = 0; machine = y₀; outs = os; listing = Refused refusal; tags = ts } ≡ run-words t ns bs ws os ts
+  unfolding run-words schedule run-opened list-opened concat-map
+  not-run d = rw (← r, ← o, ne-eqb refusal 0 d, over-none os 0)
+
+  module _ (z : refusal ≡ 0) (n : ℕ) (m : n ≡ room-for ws os) (y : Machine) (e : y ≡ run y₀ (events-of n ws) .machine)
+      (os′ : List ℕ) (f : os′ ≡ overwrite os 0 (concat-map output-words (run y₀ (events-of n ws) .outs)))
+      (l : Listing) (g : l ≡ list y ts .says) (ts′ : List ℕ) (h : ts′ ≡ list y ts .words) where
+    pub all-run : record { refusal = 0; ran = n; machine = y; outs = os′; listing = l; tags = ts′ } ≡ run-words t ns bs ws os ts
+    unfolding run-words schedule run-opened list-opened decoded
+    all-run =
+        let q : length (run y₀ (events-of n ws) .outs) ≡ n = outs-length y₀ (events-of n ws) ∙ events-length n ws in
+        rw (← r, ← o, eq-eqb refusal 0 z, ← m, ← e, ← f, q, ← g, ← h)
+        (ap (λ (x : ℕ). record { refusal = x; ran = n; machine = y; outs = os′; listing = l; tags = ts′ }) (sym z))
+
+-- ---- the number for C is small: at most 64 tags are listed, and refusals are numbered to 9
+
+opening-small : (t : ℕ) (ns bs : List ℕ) → opening t ns bs .refusal ≤ 9
+unfolding opening not-opened
+opening-small t ns bs =
+    choose (λ (o : Opened). o .refusal ≤ 9) (not (within 1 8 t)) _ _ (λ p. omega arith) (λ p.
+    choose (λ (o : Opened). o .refusal ≤ 9) (not (pool-fits 34 64 (length ns))) _ _ (λ q. omega arith) (λ q.
+    choose (λ (o : Opened). o .refusal ≤ 9) (not (pool-fits 66 1024 (length bs))) _ _ (λ r. omega arith) (λ r. omega arith)))
+
+list-small : (y : Machine) (w : List ℕ) → listing-number (list y w .says) ≤ 265
+unfolding list
+list-small y w =
+    choose (λ (l : Written). listing-number (l .says) ≤ 265) (not (sound y) || ltb 64 (length (listed y))) _ _ (λ p. omega arith) (λ p.
+    choose (λ (l : Written). listing-number (l .says) ≤ 265) (not (leb 64 (length w))) _ _ (λ q. omega arith) (λ q.
+    let z = ltb-false 64 (length (listed y)) (or-none (not (sound y)) (ltb 64 (length (listed y))) p .1) in omega arith))
+
+pub number-small : (t : ℕ) (ns bs ws os ts : List ℕ) → listing-number (run-words t ns bs ws os ts .listing) ≤ 265
+unfolding run-words list-opened
+number-small t ns bs ws os ts =
+    let o = opening t ns bs .refusal in
+    let y = schedule t ns bs (decoded ws os) .machine in
+    choose (λ (l : Written). listing-number (l .says) ≤ 265) (eqb o 0) (list y ts) _ (λ p. list-small y ts) (λ p. let z = opening-small t ns bs in omega arith)

@@ -1,0 +1,82 @@
+-- `run` gives what `run-words` gives, by `not-run` after a refused opening and `all-run` after an accepted one; the schedule that
+-- it ran is linearizable by the theorem of the crate linear.
+-- Assumes nothing.
+use denote.Ref.{now}
+use Rattle.schedule.specs.Encoding.{room-for, decoded}
+use Rattle.linear.specs.Theorems.{linearizable}
+use mathlib.Core.Path.{sym, _∙_}
+use Rattle.schedule.proofs.Laws.{not-run, all-run}
+use borrow.Author.Needs.{needs}
+use Rattle.schedule.proofs.run.Statement.{statement}
+use Rattle.schedule.proofs.run.Tie as tie
+
+open-requires : tie.Need-open-requires
+open-requires c κs = search needs
+
+same-length : tie.Need-same-length
+same-length c = search needs
+
+same-length-2 : tie.Need-same-length-2
+same-length-2 c = search needs
+
+returns : tie.Need-returns
+returns c =
+    let a = c .before .before .before .before .before .before .before .before .before .before .before .before .before .before .args in
+    let o = c .before .before .before .before .before .before .«open» .ensures in
+    let d = c .if1 .taken in
+    (not-run (a .tasks) (now (a .ns)) (now (a .bs)) (now (a .events)) (now (a .outs)) (now (a .tags)) _ (o .0) _ (o .1) d, λ z. absurd (d z))
+
+number-of-events-requires : tie.Need-number-of-events-requires
+number-of-events-requires c κs = search needs
+
+run-events-requires : tie.Need-run-events-requires
+run-events-requires c κs = search needs
+
+list-requires : tie.Need-list-requires
+list-requires c κs = search needs
+
+same-length-3 : tie.Need-same-length-3
+same-length-3 c = search needs
+
+same-length-4 : tie.Need-same-length-4
+same-length-4 c = search needs
+
+same-length-5 : tie.Need-same-length-5
+same-length-5 c = search needs
+
+same-length-6 : tie.Need-same-length-6
+same-length-6 c = search needs
+
+returns-2 : tie.Need-returns-2
+unfolding room-for
+returns-2 c =
+    let at-list = c .before .before in
+    let at-events = at-list .before .before .before .before .before .before .before .before .before .before in
+    let at-number = at-events .before .before .before .before in
+    let at-open = at-number .before .before .before .before .before .before .before in
+    let a = at-open .before .before .before .before .before .before .before .before .args in
+    let o = at-open .«open» .ensures in
+    let z = at-number .before .if1 .left in
+    let n = at-number .number-of-events .ensures in
+    let r = at-events .run-events .ensures in
+    let l = at-list .list .ensures in (
+      all-run (a .tasks) (now (a .ns)) (now (a .bs)) (now (a .events)) (now (a .outs)) (now (a .tags)) _ (o .0) _ (o .1) z _ n _ (r .0) _ (r .1) _ (l .0) _ (l .1),
+      λ e. linearizable (a .tasks) (now (a .ns)) (now (a .bs)) (sym (o .0) ∙ z) (decoded (now (a .events)) (now (a .outs))),
+    )
+
+pub run-spec : {M : Type 1} → statement M
+run-spec =
+    tie.close
+    (tie.spec
+    open-requires
+    same-length
+    same-length-2
+    returns
+    number-of-events-requires
+    run-events-requires
+    list-requires
+    same-length-3
+    same-length-4
+    same-length-5
+    same-length-6
+    returns-2)

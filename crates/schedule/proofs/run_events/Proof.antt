@@ -1,0 +1,130 @@
+-- `run_events` runs n events. The loop's invariant says what is left: the machine and the words of the whole run are those of
+-- running the remaining events from the present machine, with their outputs after those written. A turn is `turn` of Laws.
+-- Assumes nothing.
+use denote.Ref.{now}
+use Prim.Native.Nat.{_≤_, _-_, _*_}
+use mathlib.Core.Path.{_≡_, refl, _∙_}
+use lib.ListN.{length, drop}
+use Rattle.spec.specs.Machine.{machine-of}
+use Rattle.schedule.specs.Encoding.{events-of}
+use Rattle.schedule.proofs.Laws.{Rest, rest-start, turn, finished}
+use native.Mathlib.Omega.{arith}
+use borrow.Author.Needs.{needs}
+use Rattle.schedule.proofs.run_events.Statement.{statement}
+use Rattle.schedule.proofs.run_events.Tie as tie
+
+abbrev Inv-loop : tie.InvT-loop
+Inv-loop n events ns₀ bs₀ outs₀ t₀ i₀ ns bs outs t i =
+    (i ≤ n) × (length ns ≡ length ns₀) × (length bs ≡ length bs₀) × (length outs ≡ length outs₀)
+    × Rest (machine-of t₀ ns₀ bs₀) outs₀ (events-of n events) (machine-of t ns bs) outs (3 * i) (events-of (n - i) (drop (4 * i) events))
+
+abbrev μ-loop : tie.MeasureT-loop
+μ-loop n events ns₀ bs₀ outs₀ t₀ i₀ ns bs outs t i = n - i
+
+loop-holds : tie.Need-loop-holds Inv-loop μ-loop
+loop-holds c =
+    let a = c .before .before .before .before .args in
+    (omega arith, refl, refl, refl, rest-start (now (a .events)) (a .n) 0 _ _)
+
+add-next : tie.Need-add-next Inv-loop μ-loop
+add-next c = search needs
+
+mul-at : tie.Need-mul-at Inv-loop μ-loop
+mul-at c = search needs
+
+mul-one : tie.Need-mul-one Inv-loop μ-loop
+mul-one c = search needs
+
+shared-slice-read-one : tie.Need-shared-slice-read-one Inv-loop μ-loop
+shared-slice-read-one c = search needs
+
+add-one : tie.Need-add-one Inv-loop μ-loop
+add-one c = search needs
+
+mul-one-2 : tie.Need-mul-one-2 Inv-loop μ-loop
+mul-one-2 c = search needs
+
+shared-slice-read-one-2 : tie.Need-shared-slice-read-one-2 Inv-loop μ-loop
+shared-slice-read-one-2 c = search needs
+
+add-one-2 : tie.Need-add-one-2 Inv-loop μ-loop
+add-one-2 c = search needs
+
+mul-one-3 : tie.Need-mul-one-3 Inv-loop μ-loop
+mul-one-3 c = search needs
+
+shared-slice-read-one-3 : tie.Need-shared-slice-read-one-3 Inv-loop μ-loop
+shared-slice-read-one-3 c = search needs
+
+one-requires : tie.Need-one-requires Inv-loop μ-loop
+one-requires c κs = search needs
+
+mul-write-output : tie.Need-mul-write-output Inv-loop μ-loop
+mul-write-output c = search needs
+
+write-output-requires : tie.Need-write-output-requires Inv-loop μ-loop
+write-output-requires c κs = search needs
+
+loop-less : tie.Need-loop-less Inv-loop μ-loop
+loop-less c = search needs
+
+loop-again : tie.Need-loop-again Inv-loop μ-loop
+loop-again c =
+    let at-write = c .before .before .before in
+    let at-one = at-write .before .before .before .before .before .before in
+    let at-test = at-one .before .before .before .before .before .before in
+    let at-loop = at-test .before in
+    let start = at-loop .before .before .before .before .before in
+    let room = start .pre .1 in
+    let l = at-loop .loop in
+    let h = at-test .loop-test .taken in
+    let m = at-one .one in
+    let o = at-write .write-output in (
+      omega arith,
+      m .kept .1 .1 .1 .1 .0 ∙ l .inv .1,
+      m .kept .1 .1 .1 .1 .1 .0 ∙ l .inv .2,
+      o .kept .0 ∙ l .inv .3,
+      turn (now (start .args .events)) (start .args .n) (l .i) h (omega arith) (l .inv .4) _ (m .ensures) _ (o .ensures),
+    )
+
+same-length : tie.Need-same-length Inv-loop μ-loop
+same-length c = search needs
+
+same-length-2 : tie.Need-same-length-2 Inv-loop μ-loop
+same-length-2 c = search needs
+
+same-length-3 : tie.Need-same-length-3 Inv-loop μ-loop
+same-length-3 c = search needs
+
+returns : tie.Need-returns Inv-loop μ-loop
+returns c =
+    let l = c .before .loop in
+    let a = c .before .before .before .before .before .before .args in
+    finished (now (a .events)) (a .n) (l .i) (omega arith) (l .inv .4)
+
+pub run-events-spec : {M : Type 1} → statement M
+run-events-spec =
+    tie.close
+    (tie.spec
+    Inv-loop
+    μ-loop
+    loop-holds
+    add-next
+    mul-at
+    mul-one
+    shared-slice-read-one
+    add-one
+    mul-one-2
+    shared-slice-read-one-2
+    add-one-2
+    mul-one-3
+    shared-slice-read-one-3
+    one-requires
+    mul-write-output
+    write-output-requires
+    loop-less
+    loop-again
+    same-length
+    same-length-2
+    same-length-3
+    returns)

@@ -1,0 +1,51 @@
+-- `schedule_run` gives what `run` gives, with one number for the list's answer, which `number-small` bounds.
+-- Assumes nothing.
+use Prim.Native.Nat.{ℕ}
+use mathlib.Core.Path.{ap, _∙_}
+use denote.Ref.{now}
+use Rattle.schedule.specs.Encoding.{Result, listing-number, c-result, c-result-of}
+use Rattle.schedule.proofs.Laws.{number-small}
+use native.Mathlib.Omega.{arith}
+use borrow.Author.Needs.{needs}
+use Rattle.schedule.proofs.schedule_run.Statement.{statement}
+use Rattle.schedule.proofs.schedule_run.Tie as tie
+
+run-requires : tie.Need-run-requires
+run-requires c κs = search needs
+
+listing-number-requires : tie.Need-listing-number-requires
+listing-number-requires c κs =
+    let a = c .before .before .before .before .before .before .before .before .before .before .before .before .before .before .before .before .before .before .args in
+    let e = ap (λ (x : Result). listing-number (x .listing)) (c .before .before .before .before .before .before .before .before .run .ensures .0) in
+    let z = number-small (a .tasks) (now (a .ns)) (now (a .bs)) (now (a .events)) (now (a .outs)) (now (a .tags)) in
+    omega arith
+
+same-length : tie.Need-same-length
+same-length c = search needs
+
+same-length-2 : tie.Need-same-length-2
+same-length-2 c = search needs
+
+same-length-3 : tie.Need-same-length-3
+same-length-3 c = search needs
+
+same-length-4 : tie.Need-same-length-4
+same-length-4 c = search needs
+
+returns : tie.Need-returns
+returns c =
+    let r = c .before .before .before .before .before .before .before .before .before .run in
+    let w = r .last .1 in
+    ap (λ (n : ℕ). c-result n (w .0) (w .1 .0) (w .1 .1 .1 .0) (w .1 .1 .1 .1 .0)) (c .listing-number .ensures) ∙ ap c-result-of (r .ensures .0)
+
+pub schedule-run-spec : {M : Type 1} → statement M
+schedule-run-spec =
+    tie.close
+    (tie.spec
+    run-requires
+    listing-number-requires
+    same-length
+    same-length-2
+    same-length-3
+    same-length-4
+    returns)

@@ -1,0 +1,111 @@
+-- A whole schedule as words, for callers outside Rattle: what the words of its events mean, and what is left of every slice.
+-- Assumes nothing.
+use Prim.Native.Nat.{ℕ, zero, suc, _+_, _/_, min}
+use mathlib.Core.List.{List, [], _∷_}
+use lib.Dec.{eqb}
+use lib.ListN.{length, getD, drop}
+use Rattle.spec.specs.declared.Call.the-variants.{Insert, Remove, Contains, Grow, Shrink}
+use Rattle.spec.specs.declared.Listing.{Listing}
+use Rattle.spec.specs.declared.Listing.the-variants.{Count, Refused}
+use Rattle.spec.specs.Lists.{if_then_else_, concat-map}
+use Rattle.spec.specs.Numbers.{call-number, output-words}
+use Rattle.spec.specs.Machine.{Machine, machine-of}
+use Rattle.spec.specs.Words.{overwrite}
+use Rattle.spec.specs.Entries.{opening, Written, list}
+use Rattle.spec.specs.Schedule.{Event, starts, steps, schedule}
+use Rattle.schedule.specs.declared.Outcome.{Outcome}
+
+-- ---- events, four words each: a kind, a task, a tag, and one that is not read
+
+-- the kind of a start is its call's number; every other kind, 0 or above 5, is a step
+unfoldable pub event-of : ℕ → ℕ → ℕ → Event
+event-of kind task tag =
+    if eqb kind (call-number Insert) then starts task Insert tag
+    else if eqb kind (call-number Remove) then starts task Remove tag
+    else if eqb kind (call-number Contains) then starts task Contains tag
+    else if eqb kind (call-number Grow) then starts task Grow tag
+    else if eqb kind (call-number Shrink) then starts task Shrink tag
+    else steps task
+
+-- the first n events of the words
+unfoldable pub events-of : ℕ → List ℕ → List Event
+events-of zero w = []
+events-of (suc n) w = event-of (getD w 0 0) (getD w 1 0) (getD w 2 0) ∷ events-of n (drop 4 w)
+
+-- as many as there are whole events, and as have room for their outputs, three words each
+unfoldable pub room-for : List ℕ → List ℕ → ℕ
+room-for events outs = min (length events / 4) (length outs / 3)
+
+-- the events that are run
+unfoldable pub decoded : List ℕ → List ℕ → List Event
+decoded events outs = events-of (room-for events outs) events
+
+-- ---- what a run leaves
+
+pub record Result : Type 0 where
+  -- of the opening, 0 if accepted
+  pub refusal : ℕ
+  -- the number of events run
+  pub ran : ℕ
+  pub machine : Machine
+  pub outs : List ℕ
+  pub listing : Listing
+  pub tags : List ℕ
+
+-- a list after an accepted opening; after a refused one nothing is written, and the opening's refusal stands for the list's
+unfoldable pub list-opened : ℕ → Machine → List ℕ → Written
+list-opened refusal y w = if eqb refusal 0 then list y w else record { says = Refused refusal; words = w }
+
+-- T, and what the slices hold before: both pools, the events, the words for outputs and for tags. The outputs are written one
+-- after the other from the first word on; the words after them are kept.
+unfoldable pub run-words : ℕ → List ℕ → List ℕ → List ℕ → List ℕ → List ℕ → Result
+run-words t ns bs events outs tags =
+    let o = opening t ns bs in
+    let r = schedule t ns bs (decoded events outs) in
+    let l = list-opened (o .refusal) (r .machine) tags in
+    record {
+      refusal = o .refusal;
+      ran = length (r .outs);
+      machine = r .machine;
+      outs = overwrite outs 0 (concat-map output-words (r .outs));
+      listing = l .says;
+      tags = l .words;
+    }
+
+-- the answer of the code, with what it leaves in four slices
+abbrev pub result-of : Outcome → List ℕ → List ℕ → List ℕ → List ℕ → Result
+result-of r ns bs outs tags =
+    record {
+      refusal = r .refusal;
+      ran = r .ran;
+      machine = machine-of (r .state) ns bs;
+      outs = outs;
+      listing = r .listing;
+      tags = tags;
+    }
+
+-- ---- the same for C, where the answer is one number: of tags listed, or 256 and the refusal's
+
+abbrev pub listing-number : Listing → ℕ
+listing-number (Count n) = n
+listing-number (Refused r) = 256 + r
+
+pub record CResult : Type 0 where
+  pub number : ℕ
+  pub nodes : List ℕ
+  pub buckets : List ℕ
+  pub outs : List ℕ
+  pub tags : List ℕ
+
+abbrev pub c-result-of : Result → CResult
+c-result-of r =
+    record {
+      number = listing-number (r .listing);
+      nodes = r .machine .nodes;
+      buckets = r .machine .buckets;
+      outs = r .outs;
+      tags = r .tags;
+    }
+
+abbrev pub c-result : ℕ → List ℕ → List ℕ → List ℕ → List ℕ → CResult
+c-result n ns bs outs tags = record { number = n; nodes = ns; buckets = bs; outs = outs; tags = tags }

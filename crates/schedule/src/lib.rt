@@ -1,0 +1,174 @@
+// A whole schedule in one call: the opening, then starts and steps given as words, then the list.
+use lines::Stepped;
+use spec::Answer;
+use spec::Call;
+use spec::Listing;
+use spec::Output;
+use spec::State;
+ghost use mathlib.Core.Path.{_≡_};
+ghost use mathlib.Core.List.{List};
+ghost use Prim.Native.Nat.{ℕ, _*_, _+_, _≤_, _/_, _<_, min};
+ghost use lib.ListN.{length};
+ghost use Rattle.spec.specs.Lists.{concat-map};
+ghost use Rattle.spec.specs.Numbers.{answer-number, output-words};
+ghost use Rattle.spec.specs.Machine.{machine-of};
+ghost use Rattle.spec.specs.Words.{overwrite};
+ghost use Rattle.spec.specs.Schedule.{event, run};
+ghost use Rattle.spec.specs.Linearizable.{Linearizable};
+ghost use Rattle.lines.specs.Reply.{reply-of};
+ghost use Rattle.schedule.specs.Encoding.{event-of, events-of, decoded, run-words, result-of, listing-number, c-result, c-result-of};
+
+// What a run gives: the opening's refusal, or 0; the number of events run; the state; the list's answer, in whose place the refusal
+// of an opening stands.
+pub struct Outcome {
+    pub refusal: u32,
+    pub ran: usize,
+    pub state: State,
+    pub listing: Listing,
+}
+
+// Runs one event.
+fn one(s: State, kind: u32, task: u32, tag: u32, ns: &mut [u32], bs: &mut [u32]) -> Stepped
+    ensures { λ r. ⌜ reply-of r (now (ns .exit)) (now (bs .exit)) ≡ event (machine-of s (now (ns .entry)) (now (bs .entry))) (event-of kind task tag) ⌝ }
+{
+    match kind {
+        1 => hashset::start(s, task, Call::Insert, tag, ns, bs),
+        2 => hashset::start(s, task, Call::Remove, tag, ns, bs),
+        3 => hashset::start(s, task, Call::Contains, tag, ns, bs),
+        4 => hashset::start(s, task, Call::Grow, tag, ns, bs),
+        5 => hashset::start(s, task, Call::Shrink, tag, ns, bs),
+        _ => hashset::step(s, task, ns, bs),
+    }
+}
+
+fn answer_number(a: Answer) -> u32
+    ensures { λ r. ⌜ r ≡ answer-number a ⌝ }
+{
+    match a {
+        Answer::Yes => 1,
+        Answer::No => 2,
+        Answer::Full => 3,
+        Answer::Done => 4,
+        Answer::Lost => 5,
+        Answer::Limit => 6,
+    }
+}
+
+fn output_words(out: Output) -> [u32; 3]
+    ensures { λ r. ⌜ r ≡ output-words out ⌝ }
+{
+    match out {
+        Output::At(line) => [0, line, 0],
+        Output::End(a, own) => [1, answer_number(a), own as u32],
+        Output::Refuse(why) => [2, why, 0],
+    }
+}
+
+// Writes an output's three words from this one on.
+fn write_output(outs: &mut [u32], at: usize, out: Output)
+    requires { ⌜ at + 3 ≤ length (now outs) ⌝ }
+    ensures { λ _. ⌜ now (outs .exit) ≡ overwrite (now (outs .entry)) at (output-words out) ⌝ }
+{
+    let w = output_words(out);
+    pool::write_over(&mut outs[at..], &w)
+}
+
+// Runs the first n events and writes their outputs.
+fn run_events(
+    s: State,
+    n: usize,
+    events: &[u32],
+    ns: &mut [u32],
+    bs: &mut [u32],
+    outs: &mut [u32],
+) -> State
+    requires { ⌜ (4 * n ≤ length (now events)) × (3 * n ≤ length (now outs)) ⌝ }
+    ensures { λ r. ⌜ (machine-of r (now (ns .exit)) (now (bs .exit)) ≡ run (machine-of s (now (ns .entry)) (now (bs .entry))) (events-of n (now (events .entry))) .machine)
+        × (now (outs .exit) ≡ overwrite (now (outs .entry)) 0 (concat-map output-words (run (machine-of s (now (ns .entry)) (now (bs .entry))) (events-of n (now (events .entry))) .outs))) ⌝ }
+{
+    let mut t = s;
+    let mut i = 0;
+    while i < n {
+        let next = i + 1;
+        let at = 4 * i;
+        let m = one(t, events[at], events[at + 1], events[at + 2], ns, bs);
+        let out = m.out;
+        write_output(outs, 3 * i, out);
+        let x = m.state;
+        t = x;
+        i = next;
+    }
+    t
+}
+
+// The number of events that are run: so many words of events, so many for outputs.
+fn number_of_events(events: usize, outs: usize) -> usize
+    ensures { λ r. ⌜ r ≡ min (events / 4) (outs / 3) ⌝ }
+{
+    let a = events / 4;
+    let b = outs / 3;
+    if a < b { a } else { b }
+}
+
+// Opens, runs the events that have room for their outputs, and lists.
+pub fn run(
+    tasks: u32,
+    ns: &mut [u32],
+    bs: &mut [u32],
+    events: &[u32],
+    outs: &mut [u32],
+    tags: &mut [u32],
+) -> Outcome
+    ensures words { λ r. ⌜ result-of r (now (ns .exit)) (now (bs .exit)) (now (outs .exit)) (now (tags .exit))
+        ≡ run-words tasks (now (ns .entry)) (now (bs .entry)) (now (events .entry)) (now (outs .entry)) (now (tags .entry)) ⌝ }
+    ensures linearizable { λ r. ⌜ (r .refusal ≡ 0 → Linearizable tasks (now (ns .entry)) (now (bs .entry)) (decoded (now (events .entry)) (now (outs .entry)))) ⌝ }
+{
+    let o = hashset::open(tasks, ns, bs);
+    let refusal = o.refusal;
+    let s = o.state;
+    if refusal != 0 {
+        return Outcome {
+            refusal,
+            ran: 0,
+            state: s,
+            listing: Listing::Refused(refusal),
+        };
+    }
+    let n = number_of_events(events.len(), outs.len());
+    let t = run_events(s, n, events, ns, bs, outs);
+    let l = hashset::list(t, ns, bs, tags);
+    Outcome {
+        refusal: 0,
+        ran: n,
+        state: t,
+        listing: l,
+    }
+}
+
+fn listing_number(l: Listing) -> u32
+    requires { ⌜ listing-number l ≤ 265 ⌝ }
+    ensures { λ r. ⌜ r ≡ listing-number l ⌝ }
+{
+    match l {
+        Listing::Count(n) => n,
+        Listing::Refused(why) => 256 + why,
+    }
+}
+
+// The same for C. Gives the number of tags listed, or 256 and the refusal's number.
+#[no_mangle]
+pub extern "C" fn schedule_run(
+    tasks: u32,
+    ns: &mut [u32],
+    bs: &mut [u32],
+    events: &[u32],
+    outs: &mut [u32],
+    tags: &mut [u32],
+) -> u32
+    ensures { λ r. ⌜ c-result r (now (ns .exit)) (now (bs .exit)) (now (outs .exit)) (now (tags .exit))
+        ≡ c-result-of (run-words tasks (now (ns .entry)) (now (bs .entry)) (now (events .entry)) (now (outs .entry)) (now (tags .entry))) ⌝ }
+{
+    let o = run(tasks, ns, bs, events, outs, tags);
+    let l = o.listing;
+    listing_number(l)
+}
