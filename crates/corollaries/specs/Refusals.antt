@@ -19,9 +19,7 @@ use Rattle.laws.specs.SoundFacts.{SoundFacts}
 use Rattle.laws.specs.StepRefusals.{StepSound}
 use Rattle.laws.specs.Held.{HeldNode, HeldBucket}
 use Rattle.laws.specs.Taking.{AllHeld, all-nodes, all-buckets}
-use Rattle.corollaries.specs.Tables.{Within, Records, OpeningRefused, StartRefused, StepRefused, ListRefused}
-use Rattle.corollaries.specs.Tables.{opening-refused, start-refused, step-refused, list-refused}
-use Rattle.corollaries.specs.Tables.{is-1, is-2, is-3, is-4, is-5, is-6, is-7, is-8, is-8-step, is-8-list, is-9}
+use Rattle.corollaries.specs.Tables.{Within, Records, OpeningRefused, StartRefused, StepRefused, ListRefused, opening-refused, start-refused, step-refused, list-refused, is-1, is-2, is-3, is-4, is-5, is-6, is-7, is-8, is-8-step, is-8-list, is-9}
 
 module _ (t : ℕ) (ns bs : List ℕ) where
   -- 1: T is not 1 to 8

@@ -17,8 +17,8 @@ use Rattle.spec.specs.Sound.{node-count, bucket-count, lines-of, resizes, withi
 use Rattle.spec.specs.Held.{free-node, free-bucket}
 use Rattle.spec.specs.Listed.{size-of, pred-of, place-of, slot, place-for, tags-of, head-of, listed}
 use Rattle.spec.specs.Lines.{answer-36, insert-write, on, writes, answers-writing, frozen, at-limit, resized, gathered, line-12, line-13, line-15, line-16, line-17, line-18, line-32, line-33, insert-36, remove-36, line-36, line-20, line-24, line-27, line-28, line-39, after-40, line-40, line-43, line-44, line-46, line-47, line-48, line-52, line-49, line-50, line-51, all-lines, find-line, effect}
-use Rattle.spec.specs.StepRefusals.{all-held}
-use Rattle.laws.specs.Tests.{At as Seen, hit, miss}
+use Rattle.spec.specs.StepRefusals.{all-held, gains}
+use Rattle.laws.specs.Tests.{At as Seen, hit, miss, bool?}
 use Rattle.laws.specs.SoundFacts.{NodeLink, RunFacts, SoundFacts}
 use Rattle.laws.specs.Sizes.{ListedSize, listed-is, listed-low}
 use Rattle.laws.specs.Soundness.{named}
@@ -26,16 +26,17 @@ use Rattle.laws.specs.Links.{filled-true}
 use Rattle.laws.specs.AfterWrites.{after-node}
 use Rattle.laws.specs.Taking.{some-node, some-bucket}
 use Rattle.laws.specs.Ascending.{Rising, rising-add, rising-remove, rising-filter, rising-union, length-add, length-remove}
-use Rattle.laws.specs.Listing.{head-link, slot-low, size-high}
-use Rattle.spec.specs.declared.Answer.the-variants.{Yes, No, Full}
-use Rattle.spec.specs.Plain.{insert-answer}
-use Rattle.laws.specs.Answers.{InsertAnswer, no-room, there-already, goes-in, insert-answers}
+use Rattle.laws.specs.Listing.{head-link, slot-low, size-high, size-low}
+use Rattle.spec.specs.declared.Answer.the-variants.{Yes}
+use Rattle.laws.specs.Answers.{insert-writes-nothing, gains-yes, insert-writes-tag}
 use Rattle.laws.specs.StepRefusals.{StepSound, room-36, not-all-held, through-t, through-s}
 use Rattle.laws.specs.WritesKeep.{WriteSound, sound-put, sound-pred, sound-head, sound-freeze, sound-new-bucket, write-keeps, sound-new-node, sound-place}
 use Rattle.laws.specs.CallLines.{follows, every-line, pick-one, update-lines, next-of-call, one-of-all, lookup-lines, resize-lines, lines-24, lines-36, All}
 use Rattle.laws.specs.TaskKeeps.{run-to, run-b, run-new-bucket, run-t, run-s, run-i, run-m, run-n, run-emptied, no-link, run-new-node}
 use Rattle.laws.specs.KeptFacts.{run-kept}
 use Rattle.laws.specs.EffectSound.{NextSound, EffectSound, tags-rising, place-low, sound-moves, sound-ends, place-for-low, sound-if, goes, either, pred-of-link}
+use mathlib.Core.Logic.{_⊎_, inr, inl}
+use native.Mathlib.Nat.{mod-lt}
 
 -- one name for all that a line's record is computed with
 line-definitions : ℕ
@@ -132,17 +133,16 @@ module _ (y : Machine) (f : SoundFacts y) (k : ℕ) (c : Task) (going : c .runni
   sound-put-36 ks a e few up = record { write-sound = sound-put (b-below e) few up; next = tt }
 
   sound-insert : c .line ≡ 36 → frozen y (c .b) ≡ false → c .call ≡ 1 → EffectSound y k (insert-36 y c)
-  unfolding insert-36 answer-36 insert-write
-  sound-insert e z q = go (insert-answer (length (listed y)) (member (c .tag) (tags-of y (c .b)))) refl (insert-answers (length (listed y)) (member (c .tag) (tags-of y (c .b))))
+  unfolding insert-36
+  sound-insert e z q = go (answer-36 y c) (room-36 y c (u .room e) z q) (bool? _)
     where
-      go : (a : Answer) → insert-answer (length (listed y)) (member (c .tag) (tags-of y (c .b))) ≡ a
-          → InsertAnswer (length (listed y)) (member (c .tag) (tags-of y (c .b))) a → EffectSound y k (answers-writing (insert-write y c a) a)
-      go Full p (no-room h) = sound-ends y k _
-      go No p (there-already h t) = sound-ends y k _
-      go Yes p (goes-in h t) =
-          let room = room-36 y c (u .room e) z q p in
+      go : (a : Answer) → (a ≡ Yes → length (tags-of y (c .b)) < 64) → (gains a ≡ true) ⊎ (gains a ≡ false) → EffectSound y k (answers-writing (insert-write y c a) a)
+      go a room (inr g) = rw (insert-writes-nothing y c a g) (sound-ends y k a)
+      go a room (inl g) =
+          let h = room (gains-yes a g) in
           let long = length-add (c .tag) (tags-of y (c .b)) in
-          sound-put-36 (add-tag (c .tag) (tags-of y (c .b))) _ e (omega arith) (rising-add (c .tag) (tags-of y (c .b)) (b-rising e))
+          rw (insert-writes-tag y c a (gains-yes a g))
+          (sound-put-36 (add-tag (c .tag) (tags-of y (c .b))) a e (omega arith) (rising-add (c .tag) (tags-of y (c .b)) (b-rising e)))
 
   sound-remove : c .line ≡ 36 → EffectSound y k (remove-36 y c)
   unfolding remove-36
@@ -225,10 +225,10 @@ module _ (y : Machine) (f : SoundFacts y) (k : ℕ) (c : Task) (going : c .runni
       (either (eqb (size-of y (c .t)) (2 * size-of y s)) 43 46 (lines-of (c .call)) (next-line 40 43 refl e) (next-line 40 46 refl e)))))
 
   sound-line-43 : c .line ≡ 43 → EffectSound y k (line-43 y c)
-  unfolding line-43 line-definitions slot
+  unfolding line-43 line-definitions
   sound-line-43 e =
       let d = s-filled 43 refl e in
-      let i : c .i % size-of y (c .s) < size-of y (c .s) = slot-low y f (c .s) (r .s) d (c .i) in
+      let i : c .i % size-of y (c .s) < size-of y (c .s) = mod-lt (c .i) (size-low y f (c .s) (r .s) d) in
       let sz = size-high y f (c .s) (r .s) d in
       let m = place-of y (c .s) (c .i % size-of y (c .s)) in
       sound-moves y k _ (goes going (run-to y k (with-m m c) (run-m y k c r m (place-low y f (c .s) (r .s) d (c .i % size-of y (c .s)) (omega arith))) 44 (next-line 43 44 refl e)))

@@ -73,10 +73,14 @@ module _ (y : Machine) (f : SoundFacts y) where
   unfolding head-of
   head-filled e = omega arith
 
+  pub size-low : (l : ℕ) → NodeLink y l → ¬ (l ≡ 0) → 0 < size-of y l
+  unfolding size-of
+  size-low l g d = let z = listed-low (named y f l g d .size) in omega arith
+
   -- a tag's place in a node is one of its 32
   pub slot-low : (l : ℕ) → NodeLink y l → ¬ (l ≡ 0) → (k : ℕ) → slot k (size-of y l) < size-of y l
-  unfolding slot size-of
-  slot-low l g d k = let z = listed-low (named y f l g d .size) in mod-lt k (omega arith)
+  unfolding slot
+  slot-low l g d k = mod-lt _ (size-low l g d)
 
   pub size-high : (l : ℕ) → NodeLink y l → ¬ (l ≡ 0) → size-of y l ≤ 32
   unfolding size-of

@@ -1,6 +1,7 @@
 -- The test `sound` passes exactly if the facts of SoundFacts hold. What follows for a running task and for a filled link.
 -- Assumes nothing.
 use Prim.Native.Nat.{ℕ, _+_, _*_, _<_}
+use mathlib.Core.Logic.{_↔_}
 use mathlib.Core.Path.{_≡_, ap}
 use mathlib.Core.Bool.{true, not, _&&_}
 use native.Mathlib.Omega.{arith}
@@ -73,6 +74,9 @@ module _ (y : Machine) where
       (at-nodes y (node-count y) (y .nodes) (λ k q. facts-node y k (f .node k q)))
       (at-buckets (bucket-count y) (y .buckets) (λ k q. facts-bucket y (f .buckets-length) k q (f .bucket k q)))
       (at-tasks y 0 (y .state .task) (λ k. let z : 0 + k ≡ k = omega arith in rw z (facts-task y k (getD (y .state .task) k idle) (f .task k))))
+
+  pub sound-iff : (sound y ≡ true) ↔ SoundFacts y
+  sound-iff = (sound-facts, facts-sound)
 
 -- a running task's facts
 pub run-of : (y : Machine) → SoundFacts y → (k : ℕ) → task-of y k .running ≡ true → RunFacts y k (task-of y k)

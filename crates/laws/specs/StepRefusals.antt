@@ -2,7 +2,7 @@
 -- Assumes nothing.
 use Prim.Native.Nat.{ℕ, _+_, _≤_, _<_}
 use mathlib.Core.Path.{_≡_}
-use mathlib.Core.Logic.{_⊎_, inl, inr}
+use mathlib.Core.Logic.{_↔_, _⊎_, inl, inr}
 use mathlib.Core.List.{List, [], _∷_}
 use mathlib.Core.Bool.{Bool, true, false, not, _&&_, _||_}
 use native.Mathlib.Omega.{arith}
@@ -115,6 +115,9 @@ module _ (y : Machine) (c : Task) where
       (nor2 _ _ (and-never (eqb (c .line) 36) _ (λ h. u .room (eqb-true (c .line) 36 h)))
       (and-never (eqb (c .line) 49) _ (λ h. le-ltb 64 (length (gathered y c)) (u .few (eqb-true (c .line) 49 h)))))
       (and-never (eqb (c .line) 27) _ (λ h. let z = u .size (eqb-true (c .line) 27 h) in rw z))))
+
+  pub step-sound-iff : (unsound-step y c ≡ false) ↔ StepSound y c
+  step-sound-iff = (step-sound-facts, facts-step-sound)
 
   full-36 : overfull-36 y c ≡ true → (not (frozen y (c .b)) ≡ true) × (eqb (c .call) 1 ≡ true) × (leb 64 (length (tags-of y (c .b))) ≡ true) × (gains (answer-36 y c) ≡ true)
   unfolding overfull-36

@@ -172,7 +172,8 @@ module _ {y : Machine} {h : Heap} {K : ℕ → Type 0} {R : Records}
         let p = place-filled inv rep s (i + h .size t) {l = c .s} {j = c .i + size-of y (c .t)} (names s (inr refl)) bs (m .fields .0)
         (rw (size-at inv rep t kt (m .t≡), m .i≡)) (inv .past-filled s (i + h .size t) lt bs) in
         rw (effect-47 y c (m .call-fields .line≡))
-        (fill-moves (at-48 s) step-47 names (record { call-fields = at-line (m .call-fields) refl refl refl; t≡ = m .t≡; i≡ = m .i≡; fields = (m .fields .0, (d, m .fields .1, p)) }) refl);
+        (fill-moves (at-48 s) step-47 names
+        (record { call-fields = at-line (m .call-fields) refl refl refl; t≡ = m .t≡; i≡ = m .i≡; fields = (m .fields .0, (d, m .fields .1, p)) }) refl);
   }
   fill-accepts (at-48 s) z m o names v = record {
     sound-step = sound-48 y c (m .call-fields .line≡) (not-none _ (m .fields .1 .1));
@@ -232,7 +233,8 @@ module _ {y : Machine} {h : Heap} {K : ℕ → Type 0} {R : Records}
       go (inr p) =
           let b = place-filled inv rep t i kt (w .1) (m .t≡) (m .i≡) p in
           rw (filled-is _ b)
-          (fill-moves at-51 (step-50-filled p) (λ x u. names x (inl u)) (record { call-fields = at-line (m .call-fields) refl refl refl; t≡ = m .t≡; i≡ = m .i≡; fields = tt }) refl)
+          (fill-moves at-51 (step-50-filled p) (λ x u. names x (inl u))
+          (record { call-fields = at-line (m .call-fields) refl refl refl; t≡ = m .t≡; i≡ = m .i≡; fields = tt }) refl)
       go (inl e) =
           let b = place-empty inv rep t i kt (w .1) (m .t≡) (m .i≡) e in
           let n : number (c .t) ≡ R .node t = rw (m .t≡) (link-number _) in

@@ -28,7 +28,11 @@ same-default zero i a = refl
 same-default (suc n) zero a = refl
 same-default (suc n) (suc i) a = same-default n i a
 
-only-0 : (x : ℕ) → Known (opened (λ k. k)) (λ p. no-call) x → x ≡ 0
+-- what of a tag is taken mod a node's size, in spec's `slot`: the tag itself. Nothing else depends on it
+abbrev pub tag-key : ℕ → ℕ
+tag-key k = k
+
+only-0 : (x : ℕ) → Known (opened tag-key) (λ p. no-call) x → x ≡ 0
 only-0 x (head e) = e
 only-0 x (behind l e) = absurd (tf l refl)
 only-0 x (named p n) = absurd n
@@ -38,7 +42,7 @@ module _ (t h b : ℕ) (so : sound (fresh-machine t h b) ≡ true) where
   unfolding fresh-machine tags count
   no-tags = rw (same-default {A = ℕ} (66 * b - 1) 0 0)
 
-  pub fresh-simulates : Simulates (fresh-machine t h b) (opened (λ k. k)) (λ p. no-call)
+  pub fresh-simulates : Simulates (fresh-machine t h b) (opened tag-key) (λ p. no-call)
   unfolding fresh-machine state-of size pred place Words.changeable task-of member idle slot
   fresh-simulates = record {
     records = record { node = λ x. 0; bucket = λ x i. 0 };
@@ -72,8 +76,8 @@ opening-before t ns bs ok =
     let so : sound (fresh-machine t (length ns / 34) (length bs / 66)) ≡ true = rw e at (opening-sound t ns bs ok) in
     rw e
     (record {
-      configuration = initial (λ k. k);
-      reach = Reachable.initially (λ k. k);
+      configuration = initial tag-key;
+      reach = Reachable.initially tag-key;
       clock = refl;
       sim = fresh-simulates t (length ns / 34) (length bs / 66) so;
       started-as = λ q. tt;

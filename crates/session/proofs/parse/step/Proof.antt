@@ -1,0 +1,21 @@
+use Rattle.session.specs.Grammar.{step-event}
+use borrow.Author.Needs.{needs}
+use Rattle.session.proofs.parse.step.Statement.{statement}
+use Rattle.session.proofs.parse.step.Tie as tie
+
+enum-known-task : tie.Need-enum-known-task
+enum-known-task c = search needs
+
+enum-told : tie.Need-enum-told
+enum-told c = search needs
+
+returns : tie.Need-returns
+unfolding step-event
+returns c = rw (c .before .task .given .1)
+
+returns-2 : tie.Need-returns-2
+unfolding step-event
+returns-2 c = rw (c .enum-told .given .1)
+
+pub step-spec : {M : Type 1} → statement M
+step-spec = tie.close (tie.spec enum-known-task enum-told returns returns-2)

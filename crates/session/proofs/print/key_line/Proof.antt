@@ -1,0 +1,34 @@
+use mathlib.Core.List.{[], _∷_}
+use denote.Ref.{now}
+use Rattle.session.proofs.Laws.{append-3}
+use Rattle.session.specs.Print.{decimal, key-line}
+use Rattle.session.specs.Buffer.{append}
+use borrow.Author.Needs.{needs}
+use Rattle.session.proofs.print.key_line.Statement.{statement}
+use Rattle.session.proofs.print.key_line.Tie as tie
+
+all-bytes-requires : tie.Need-all-bytes-requires
+all-bytes-requires c κs = search needs
+
+number-requires : tie.Need-number-requires
+number-requires c κs = search needs
+
+one-byte-requires : tie.Need-one-byte-requires
+one-byte-requires c κs = search needs
+
+same-length : tie.Need-same-length
+same-length c = search needs
+
+returns : tie.Need-returns
+unfolding key-line append
+returns c =
+    let at-number = c .before .before .before .before .before .before in
+    let at-all-bytes = at-number .before .before .before .before in
+    let entry = at-all-bytes .before .before .before .before in
+    let a = entry .args in
+    append-3 (now (a .key)) (decimal (a .n)) (10 ∷ []) _ _ _ _ (at-all-bytes .all-bytes .ensures) (at-number .number .ensures)
+    (c .before .before .one-byte .ensures)
+
+pub key-line-spec : {M : Type 1} → statement M
+key-line-spec =
+    tie.close (tie.spec all-bytes-requires number-requires one-byte-requires same-length returns)

@@ -1,0 +1,12 @@
+pub mod Ascii
+pub mod Keys
+pub mod Grammar
+pub mod Print
+pub mod Buffer
+pub mod BufferLaws
+pub mod OutputLengths
+pub mod Transcript
+pub mod Everything
+pub mod Cases
+pub mod ReadBack
+pub mod Answered

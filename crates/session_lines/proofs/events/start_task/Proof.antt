@@ -1,0 +1,61 @@
+use mathlib.Core.Path.{sym}
+use denote.Ref.{now}
+use Rattle.spec.specs.Entries.{start}
+use Rattle.session_lines.proofs.Laws.{replies-reading}
+use lib.Seq.{length-take-le}
+use borrow.Author.Needs.{needs}
+use Rattle.session_lines.proofs.events.start_task.Statement.{statement}
+use Rattle.session_lines.proofs.events.start_task.Tie as tie
+
+node-extent-requires : tie.Need-node-extent-requires
+node-extent-requires c κs = search needs
+
+bucket-extent-requires : tie.Need-bucket-extent-requires
+bucket-extent-requires c κs = search needs
+
+slice-aggregate-begin : tie.Need-slice-aggregate-begin
+slice-aggregate-begin c =
+    let at-node-extent = c .before .before .before in
+    let entry = at-node-extent .before .before .before .before in
+    sym (length-take-le (at-node-extent .node-extent .result) (now (entry .args .ns)) (at-node-extent .node-extent .ensures .1))
+
+slice-aggregate-begin-2 : tie.Need-slice-aggregate-begin-2
+slice-aggregate-begin-2 c =
+    let at-bucket-extent = c .before .before .before in
+    let entry = at-bucket-extent .before .before .before .before .before in
+    sym
+    (length-take-le (at-bucket-extent .bucket-extent .result) (now (entry .args .bs)) (at-bucket-extent .bucket-extent .ensures .1))
+
+begin-requires : tie.Need-begin-requires
+begin-requires c κs = search needs
+
+output-requires : tie.Need-output-requires
+output-requires c κs = search needs
+
+same-length : tie.Need-same-length
+same-length c = search needs
+
+returns : tie.Need-returns
+returns c =
+    let at-begin = c .before .before .before .before .before in
+    let at-bucket-extent = at-begin .before .before .before .before in
+    let at-node-extent = at-bucket-extent .before in
+    let entry = at-node-extent .before .before .before .before in
+    replies-reading (entry .args .s) (now (entry .args .ns)) (now (entry .args .bs)) (at-node-extent .node-extent .result)
+    (at-bucket-extent .bucket-extent .result) (at-node-extent .node-extent .ensures .0)
+    (at-bucket-extent .bucket-extent .ensures .0) (entry .args .k)
+    (λ y. start y (entry .args .k) (entry .args .call) (entry .args .tag)) (at-begin .begin .result) _ _ _
+    (at-begin .begin .ensures) (c .before .before .output .ensures)
+
+pub start-task-spec : {M : Type 1} → statement M
+start-task-spec =
+    tie.close
+    (tie.spec
+    node-extent-requires
+    bucket-extent-requires
+    slice-aggregate-begin
+    slice-aggregate-begin-2
+    begin-requires
+    output-requires
+    same-length
+    returns)

@@ -1,0 +1,76 @@
+use mathlib.Core.Path.{sym}
+use denote.Ref.{now}
+use Rattle.spec.specs.Entries.{step}
+use Rattle.session_lines.proofs.Laws.{replies}
+use lib.Seq.{length-take-le}
+use borrow.Author.Needs.{needs}
+use Rattle.session_lines.proofs.events.step_task.Statement.{statement}
+use Rattle.session_lines.proofs.events.step_task.Tie as tie
+
+node-extent-requires : tie.Need-node-extent-requires
+node-extent-requires c κs = search needs
+
+bucket-extent-requires : tie.Need-bucket-extent-requires
+bucket-extent-requires c κs = search needs
+
+slice-relend-prefix-turn : tie.Need-slice-relend-prefix-turn
+slice-relend-prefix-turn c = search needs
+
+slice-aggregate-turn : tie.Need-slice-aggregate-turn
+slice-aggregate-turn c =
+    let at-node-extent = c .before .before .before in
+    let entry = at-node-extent .before .before .before .before in
+    sym (length-take-le (at-node-extent .node-extent .result) (now (entry .args .ns)) (at-node-extent .node-extent .ensures .1))
+
+slice-relend-prefix-turn-2 : tie.Need-slice-relend-prefix-turn-2
+slice-relend-prefix-turn-2 c = search needs
+
+slice-aggregate-turn-2 : tie.Need-slice-aggregate-turn-2
+slice-aggregate-turn-2 c =
+    let at-bucket-extent = c .before .before .before in
+    let entry = at-bucket-extent .before .before .before .before .before in
+    sym
+    (length-take-le (at-bucket-extent .bucket-extent .result) (now (entry .args .bs)) (at-bucket-extent .bucket-extent .ensures .1))
+
+turn-requires : tie.Need-turn-requires
+turn-requires c κs = search needs
+
+output-requires : tie.Need-output-requires
+output-requires c κs = search needs
+
+same-length : tie.Need-same-length
+same-length c = search needs
+
+same-length-2 : tie.Need-same-length-2
+same-length-2 c = search needs
+
+same-length-3 : tie.Need-same-length-3
+same-length-3 c = search needs
+
+returns : tie.Need-returns
+returns c =
+    let at-turn = c .before .before .before .before .before .before .before .before .before in
+    let at-bucket-extent = at-turn .before .before .before .before in
+    let at-node-extent = at-bucket-extent .before in
+    let entry = at-node-extent .before .before .before .before in
+    replies (entry .args .s) (now (entry .args .ns)) (now (entry .args .bs)) (at-node-extent .node-extent .result)
+    (at-bucket-extent .bucket-extent .result) (at-node-extent .node-extent .ensures .0)
+    (at-bucket-extent .bucket-extent .ensures .0) (entry .args .k) (λ y. step y (entry .args .k)) (at-turn .turn .result) _ _
+    _ _ _ (at-turn .turn .ensures) (c .before .before .output .ensures)
+
+pub step-task-spec : {M : Type 1} → statement M
+step-task-spec =
+    tie.close
+    (tie.spec
+    node-extent-requires
+    bucket-extent-requires
+    slice-relend-prefix-turn
+    slice-aggregate-turn
+    slice-relend-prefix-turn-2
+    slice-aggregate-turn-2
+    turn-requires
+    output-requires
+    same-length
+    same-length-2
+    same-length-3
+    returns)

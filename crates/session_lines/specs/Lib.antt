@@ -1,0 +1,4 @@
+pub mod Handling
+pub mod PoolLengths
+pub mod Openings
+pub mod PrintsTranscript

@@ -1,0 +1,106 @@
+// The event lines, each a start or a step, and the final listing.
+ghost use mathlib.Core.Path.{_≡_};
+ghost use lib.ListN.{replicate};
+ghost use Rattle.session.specs.Grammar.{closed-line, parse-event-line};
+ghost use Rattle.session.specs.Buffer.{buffer, append};
+ghost use Rattle.session.specs.Transcript.{final-listing};
+ghost use Rattle.spec.specs.Entries.{start as start-of, step as step-of, list as list-of};
+ghost use Rattle.session_lines.specs.Handling.{session-machine, reply-effect, event-effect, LineHandled};
+use crate::Handled;
+use crate::Phase;
+use crate::Session;
+use session::EventLine;
+use spec::Call;
+use spec::Listing;
+
+// Starts a call for a task, and prints the answer.
+fn start_task(
+    s: Session,
+    k: u32,
+    call: Call,
+    tag: u32,
+    ns: &[u32],
+    bs: &[u32],
+    out: &mut [u8],
+) -> Handled
+    ensures { λ r. ⌜ LineHandled (reply-effect k (start-of (session-machine s (now (ns .entry)) (now (bs .entry))) k call tag) s (now (ns .entry)) (now (bs .entry))) r (now (ns .entry)) (now (bs .entry)) (now (out .entry)) (now (out .exit)) ⌝ }
+{
+    let a = crate::pools::node_extent(s.nodes, ns.len());
+    let b = crate::pools::bucket_extent(s.buckets, bs.len());
+    let before = s.state;
+    let d = lent::begin(before, k, call, tag, &ns[..a], &bs[..b]);
+    let answered = d.out;
+    let m = d.state;
+    let c = session::print::output(out, 0, k, answered);
+    let next = Session {
+        phase: Phase::Events,
+        tasks: s.tasks,
+        nodes: s.nodes,
+        buckets: s.buckets,
+        state: m,
+    };
+    Handled {
+        session: next,
+        printed: c,
+    }
+}
+
+// Steps a task by one line of Figure 2, and prints the answer.
+fn step_task(s: Session, k: u32, ns: &mut [u32], bs: &mut [u32], out: &mut [u8]) -> Handled
+    ensures { λ r. ⌜ LineHandled (reply-effect k (step-of (session-machine s (now (ns .entry)) (now (bs .entry))) k) s (now (ns .entry)) (now (bs .entry))) r (now (ns .exit)) (now (bs .exit)) (now (out .entry)) (now (out .exit)) ⌝ }
+{
+    let a = crate::pools::node_extent(s.nodes, ns.len());
+    let b = crate::pools::bucket_extent(s.buckets, bs.len());
+    let before = s.state;
+    let d = lent::turn(before, k, &mut ns[..a], &mut bs[..b]);
+    let answered = d.out;
+    let m = d.state;
+    let c = session::print::output(out, 0, k, answered);
+    let next = Session {
+        phase: Phase::Events,
+        tasks: s.tasks,
+        nodes: s.nodes,
+        buckets: s.buckets,
+        state: m,
+    };
+    Handled {
+        session: next,
+        printed: c,
+    }
+}
+
+pub fn event_line(
+    s: Session,
+    ns: &mut [u32],
+    bs: &mut [u32],
+    line: &[u8],
+    out: &mut [u8],
+) -> Handled
+    ensures { λ r. ⌜ LineHandled (event-effect s (parse-event-line (closed-line (now (line .entry)))) (now (ns .entry)) (now (bs .entry))) r (now (ns .exit)) (now (bs .exit)) (now (out .entry)) (now (out .exit)) ⌝ }
+{
+    match session::parse::event_line(line) {
+        EventLine::Start(k, call, tag) => start_task(s, k, call, tag, ns, bs, out),
+        EventLine::Step(k) => step_task(s, k, ns, bs, out),
+        EventLine::Outside => crate::stop(s, 10, out),
+    }
+}
+
+// The final listing.
+pub fn listing(s: Session, ns: &[u32], bs: &[u32], out: &mut [u8]) -> usize
+    ensures { λ r. ⌜ buffer (now (out .exit)) r ≡ append (final-listing (session-machine s (now (ns .entry)) (now (bs .entry))) (list-of (session-machine s (now (ns .entry)) (now (bs .entry))) (replicate 64 0) .says)) (buffer (now (out .entry)) 0) ⌝ }
+{
+    let a = crate::pools::node_extent(s.nodes, ns.len());
+    let b = crate::pools::bucket_extent(s.buckets, bs.len());
+    let m = s.state;
+    let head = m.head;
+    let size = crate::pools::node_size(&ns[..a], head);
+    let mut w = [0u32; 64];
+    let listed = hashset::list(m, &ns[..a], &bs[..b], &mut w);
+    match listed {
+        Listing::Count(n) => {
+            let e = n as usize;
+            session::print::listing(out, 0, size, &w[..e])
+        }
+        Listing::Refused(r) => session::print::refusal(out, 0, r),
+    }
+}

@@ -1,0 +1,11 @@
+use mathlib.Core.Path.{refl}
+use Rattle.session_stream.specs.Stream.{empty-line}
+use Rattle.session_stream.proofs.empty_line.Statement.{statement}
+use Rattle.session_stream.proofs.empty_line.Tie as tie
+
+returns : tie.Need-returns
+unfolding empty-line
+returns c = refl
+
+pub empty-line-spec : {M : Type 1} → statement M
+empty-line-spec = tie.close (tie.spec returns)

@@ -1,0 +1,75 @@
+use Rattle.session.specs.BufferLaws.{append-within}
+use Prim.Native.Nat.{_+_}
+use denote.Ref.{now}
+use Rattle.session_stream.proofs.Laws.{rest-length, ends-session, ends-transcript}
+use native.Mathlib.Omega.{arith}
+use borrow.Author.Needs.{needs}
+use Rattle.session_stream.proofs.transcript.Statement.{statement}
+use Rattle.session_stream.proofs.transcript.Tie as tie
+
+new-session-requires : tie.Need-new-session-requires
+new-session-requires c κs = search needs
+
+empty-line-requires : tie.Need-empty-line-requires
+empty-line-requires c κs = search needs
+
+feed-bytes-requires : tie.Need-feed-bytes-requires
+feed-bytes-requires c κs = search needs
+
+sub-end-stream : tie.Need-sub-end-stream
+sub-end-stream c =
+    let f = c .before .before .before .before .before .before .before .before .before .before .feed-bytes in
+    omega (arith, append-within _ _ _ _ (f .ensures .wrote), f .kept .1 .1 .1 .1 .1 .0)
+
+part-end-stream-start : tie.Need-part-end-stream-start
+part-end-stream-start c =
+    let f = c .before .before .before .before .before .before .before .before .before .before .feed-bytes in
+    omega (arith, append-within _ _ _ _ (f .ensures .wrote), f .kept .1 .1 .1 .1 .1 .0)
+
+part-end-stream-end : tie.Need-part-end-stream-end
+part-end-stream-end c = search needs
+
+end-stream-requires : tie.Need-end-stream-requires
+end-stream-requires c κs = search needs
+
+add-result : tie.Need-add-result
+add-result c =
+    let e = c .before .before .end-stream in
+    let f = c .before .before .before .before .before .before .before .before .before .before .before .before .before .before .feed-bytes in
+    omega (arith, append-within _ _ _ _ (e .ensures), append-within _ _ _ _ (f .ensures .wrote), f .kept .1 .1 .1 .1 .1 .0, rest-length (f .last .1 .1 .1 .1 .1 .0) (f .result .printed), c .before .before .before .before .before .before .before .before .before .before .before .before .before .before .before .before .before .before .before .before .before .before .before .before)
+
+same-length : tie.Need-same-length
+same-length c = search needs
+
+same-length-2 : tie.Need-same-length-2
+same-length-2 c = search needs
+
+same-length-3 : tie.Need-same-length-3
+same-length-3 c = search needs
+
+returns : tie.Need-returns
+returns c =
+    let e = c .before .before .end-stream in
+    let f = c .before .before .before .before .before .before .before .before .before .before .before .before .before .before .feed-bytes in
+    let h = c .before .before .before .before .before .before .before .before .before .before .before .before .before .before .before .before .before .before .empty-line in
+    let s = c .before .before .before .before .before .before .before .before .before .before .before .before .before .before .before .before .before .before .before .new-session in
+    let a = c .before .before .before .before .before .before .before .before .before .before .before .before .before .before .before .before .before .before .before .before .before .before .before .before .args in
+    let r = ends-session (s .result) (h .result) (s .ensures) (h .ensures) (now (a .input)) (now (a .ns)) (now (a .bs)) (now (a .out)) (f .result) (f .last .1 .1 .1 .0) (f .last .1 .1 .1 .1 .0) (f .last .1 .1 .1 .1 .1 .0) (e .last .1 .1 .1 .1 .0) (e .result) (f .ensures) (f .kept .1 .1 .1 .1 .1 .0) (e .ensures) in
+    (r, λ i j. ends-transcript (now (a .input)) (now (a .ns)) (now (a .bs)) (now (a .out)) (f .result .printed + e .result) _ _ _ r i j)
+
+pub transcript-spec : {M : Type 1} → statement M
+transcript-spec =
+    tie.close
+    (tie.spec
+    new-session-requires
+    empty-line-requires
+    feed-bytes-requires
+    sub-end-stream
+    part-end-stream-start
+    part-end-stream-end
+    end-stream-requires
+    add-result
+    same-length
+    same-length-2
+    same-length-3
+    returns)

@@ -1,0 +1,3 @@
+pub mod Stream
+pub mod PrintsTranscript
+pub mod OutputBounds

@@ -1,0 +1,105 @@
+-- A session, one byte of its input at a time, with at most 41 bytes of a line kept: the definitions that the code is held to.
+-- That they print the paper's transcript is shown in PrintsTranscript. Assumes nothing.
+use Prim.Native.Nat.{ℕ, _+_}
+use mathlib.Core.Path.{_≡_}
+use mathlib.Core.List.{List, [], _∷_, _++_}
+use lib.Dec.{ltb, eqb}
+use lib.ListN.{length, take, set, replicate}
+use Rattle.spec.specs.Lists.{if_then_else_}
+use Rattle.session.specs.Keys.{newline}
+use Rattle.session.specs.Grammar.{closed-line}
+use Rattle.session.specs.Buffer.{buffer, append, Written}
+use Rattle.session_lines.specs.declared.Session.{Session}
+use Rattle.session_lines.specs.Handling.{LineEffect, new-session, line-effect, end-output, unclosed-output}
+use Rattle.session_stream.specs.declared.PartialLine.{PartialLine}
+use Rattle.session_stream.specs.declared.Fed.{Fed}
+
+-- ---- a line that is not closed yet
+
+abbrev pub partial : List ℕ → ℕ → PartialLine
+partial bytes len = record { bytes = bytes; len = len }
+
+unfoldable pub empty-line : PartialLine
+empty-line = partial (replicate 41 0) 0
+
+-- the line's bytes so far
+abbrev pub line-bytes : PartialLine → List ℕ
+line-bytes h = take (h .len) (h .bytes)
+
+-- one byte more. A line of 41 bytes is too long however it goes on
+unfoldable pub pushed : PartialLine → ℕ → PartialLine
+pushed h x = if ltb (h .len) 41 then partial (set (h .bytes) (h .len) x) (h .len + 1) else h
+
+-- ---- a session in the middle of its input
+
+-- where it stands, what the lent pools hold, and what is printed so far
+pub record Progress : Type 0 where
+  pub session : Session
+  pub line : PartialLine
+  pub nodes : List ℕ
+  pub buckets : List ℕ
+  pub prints : List ℕ
+
+abbrev pub begin : Session → PartialLine → List ℕ → List ℕ → Progress
+begin s h ns bs = record { session = s; line = h; nodes = ns; buckets = bs; prints = [] }
+
+-- a line is handled, and the next one is empty
+unfoldable pub handled : Progress → LineEffect → Progress
+handled p d =
+    record {
+      session = d .session;
+      line = partial (p .line .bytes) 0;
+      nodes = d .nodes;
+      buckets = d .buckets;
+      prints = p .prints ++ d .prints;
+    }
+
+-- a byte is kept
+unfoldable pub kept : Progress → ℕ → Progress
+kept p x =
+    record {
+      session = p .session;
+      line = pushed (p .line) x;
+      nodes = p .nodes;
+      buckets = p .buckets;
+      prints = p .prints;
+    }
+
+-- "lines .. each closed by byte 10"
+unfoldable pub feed : Progress → ℕ → Progress
+feed p x =
+    if eqb x newline then handled p (line-effect (p .session) (p .nodes) (p .buckets) (closed-line (line-bytes (p .line))))
+    else kept p x
+
+unfoldable pub feeds : Progress → List ℕ → Progress
+feeds p [] = p
+feeds p (x ∷ xs) = feeds (feed p x) xs
+
+-- what the end of the input prints: the last line is closed, or not
+unfoldable pub stream-end : Progress → List ℕ
+stream-end p =
+    if eqb (length (line-bytes (p .line))) 0 then end-output (p .session) (p .nodes) (p .buckets)
+    else unclosed-output (p .session)
+
+unfoldable pub stream-output : Progress → List ℕ
+stream-output p = p .prints ++ stream-end p
+
+-- a whole input over lent pools
+unfoldable pub streamed : List ℕ → List ℕ → List ℕ → Progress
+streamed input ns bs = feeds (begin new-session empty-line ns bs) input
+
+-- ---- what the code is held to: what it gives, what it leaves in the pools, and what it appended to the buffer that held `before`
+-- and then holds `after`
+
+pub record Fed-as (p : Progress) (r : Fed) (ns bs before after : List ℕ) : Type 0 where
+  pub session : r .session ≡ p .session
+  pub line : r .line ≡ p .line
+  pub nodes : ns ≡ p .nodes
+  pub buckets : bs ≡ p .buckets
+  pub wrote : buffer after (r .printed) ≡ append (p .prints) (buffer before 0)
+
+-- a whole session over pools that held `ns` and `bs`
+pub record Ended-as (input ns bs before : List ℕ) (count : ℕ) (ns' bs' after : List ℕ) : Type 0 where
+  pub nodes : ns' ≡ streamed input ns bs .nodes
+  pub buckets : bs' ≡ streamed input ns bs .buckets
+  pub wrote : Written (stream-output (streamed input ns bs)) before after count

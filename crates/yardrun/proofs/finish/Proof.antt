@@ -1,0 +1,47 @@
+use mathlib.Core.Path.{sym}
+use lib.Seq.{length-take-le}
+use Rattle.session.specs.BufferLaws.{append-within}
+use native.Mathlib.Omega.{arith}
+use borrow.Author.Needs.{needs}
+use Rattle.yardrun.proofs.finish.Statement.{statement}
+use Rattle.yardrun.proofs.finish.Tie as tie
+
+output-room-requires : tie.Need-output-room-requires
+output-room-requires c κs = search needs
+
+slice-aggregate-end-stream : tie.Need-slice-aggregate-end-stream
+slice-aggregate-end-stream c = search needs
+
+end-stream-requires : tie.Need-end-stream-requires
+end-stream-requires c κs = search needs
+
+array-share-prefix-out : tie.Need-array-share-prefix-out
+array-share-prefix-out c =
+    let at-output-room = c .before .before .before in
+    let e = c .before .end-stream in
+    omega (arith, append-within _ _ _ _ (e .ensures), e .kept .1 .1 .1 .1 .0, at-output-room .output-room .ensures)
+
+slice-aggregate-write-all : tie.Need-slice-aggregate-write-all
+slice-aggregate-write-all c =
+    let at-output-room = c .before .before .before .before in
+    let e = c .before .before .end-stream in
+    sym
+    (length-take-le (e .result) (e .last .1 .1 .1 .1 .0) (omega (arith, append-within _ _ _ _ (e .ensures), e .kept .1 .1 .1 .1 .0, at-output-room .output-room .ensures)))
+
+write-all-requires : tie.Need-write-all-requires
+write-all-requires c κs = search needs
+
+returns : tie.Need-returns
+returns c = search needs
+
+pub finish-spec : {M : Type 1} → statement M
+finish-spec =
+    tie.close
+    (tie.spec
+    output-room-requires
+    slice-aggregate-end-stream
+    end-stream-requires
+    array-share-prefix-out
+    slice-aggregate-write-all
+    write-all-requires
+    returns)
