@@ -13,14 +13,13 @@ use lib.ListN.{length, getD, take, drop, set, length-take, length-drop, length-a
 use lib.Seq.{drop-cons, append-snoc}
 use denote.Enum.Declared.{tagOf}
 use types.Run.{OneOf}
-use Rattle.spec.specs.Lists.{if_then_else_, member, ascending, filter, add-tag, union}
-use Rattle.laws.specs.Ascending.{ascending-union}
+use Rattle.spec.specs.Lists.{if_then_else_, filter, add-tag, union}
 use Rattle.spec.specs.Words.{bucket-of}
 use Rattle.bucket.specs.declared.Bucket.{Bucket}
 use Rattle.bucket.specs.declared.Changed.{Changed}
 use Rattle.bucket.specs.declared.Response.{Response}
 use Rattle.bucket.specs.declared.Response.the-variants.{Yes, No, Full}
-use Rattle.bucket.specs.Bucket.{tags-in, rank, added, joined, changed}
+use Rattle.bucket.specs.Bucket.{tags-in, rank, found, added, joined, changed}
 use Rattle.bucket.proofs.Response.{the-type}
 use Rattle.bucket.proofs.Laws.{add-rank, add-present}
 use Rattle.bucket.proofs.Pad.{padded, words-bucket, tags-of-bucket}
@@ -64,10 +63,6 @@ union-more xs ys i z h =
     let e : suc (i - 1) ≡ i = omega arith in
     ap (λ (l : List ℕ). foldr add-tag ys l) (drop-cons xs (i - 1) 0 l) ∙ ap (λ (n : ℕ). add-tag (getD xs (i - 1) 0) (foldr add-tag ys (drop n xs))) e
 
-pub ascending-tail-union : (i : ℕ) (xs ys : List ℕ) → ascending ys ≡ true → ascending (tail-union i xs ys) ≡ true
-unfolding union
-ascending-tail-union i xs ys h = ascending-union (drop i xs) ys h
-
 pub length-add : (x : ℕ) (ts : List ℕ) → length ts ≤ length (add-tag x ts)
 unfolding add-tag
 length-add x [] = omega arith
@@ -84,7 +79,7 @@ length-tail-union zero xs ys = omega arith
 length-tail-union (suc i) [] ys = omega arith
 length-tail-union (suc i) (x ∷ xs) ys = omega (arith, length-tail-union i xs ys, length-add x (foldr add-tag ys xs))
 
-pub length-put : (x : ℕ) (ts : List ℕ) → member x ts ≡ false → length (add-tag x ts) ≡ length ts + 1
+pub length-put : (x : ℕ) (ts : List ℕ) → found x ts ≡ false → length (add-tag x ts) ≡ length ts + 1
 length-put x ts m = rw (add-rank x ts m, length-append (take (rank x ts) ts) (x ∷ drop (rank x ts) ts), length-take (rank x ts) ts, length-drop (rank x ts) ts) (omega arith)
 
 -- what `added` makes of a changeable bucket with the tags ts
@@ -92,16 +87,16 @@ pub record Adds (a : Changed) (ts : List ℕ) (x : ℕ) : Type 0 where
   pub full : a .answer ≡ Full → 64 < length (add-tag x ts)
   pub more : (a .answer ≡ Full → ⊥) → (length (add-tag x ts) ≤ 64) × (a .bucket .words ≡ bucket-of 1 (add-tag x ts))
 
-module _ (ts : List ℕ) (x : ℕ) (h : length ts ≤ 64) (asc : ascending ts ≡ true) where
+module _ (ts : List ℕ) (x : ℕ) (h : length ts ≤ 64) where
   abbrev adding : List ℕ → Changed
   adding l =
-      if member x l then changed (bucket-of 1 ts) No
+      if found x l then changed (bucket-of 1 ts) No
       else if leb 64 (length l) then changed (bucket-of 1 ts) Full else changed (bucket-of 1 (add-tag x l)) Yes
 
-  cases : (m f : Bool) → member x ts ≡ m → leb 64 (length ts) ≡ f
+  cases : (m f : Bool) → found x ts ≡ m → leb 64 (length ts) ≡ f
       → Adds (if m then changed (bucket-of 1 ts) No else if f then changed (bucket-of 1 ts) Full else changed (bucket-of 1 (add-tag x ts)) Yes) ts x
   cases true f em ef =
-      record { full = λ q. let z : _≡_ {A = ℕ} 0 1 = cc in omega arith; more = λ q. rw (add-present x ts asc em) (h, refl) }
+      record { full = λ q. let z : _≡_ {A = ℕ} 0 1 = cc in omega arith; more = λ q. rw (add-present x ts em) (h, refl) }
   cases false true em ef =
       let l = leb-true 64 (length ts) ef in
       record { full = λ q. omega (arith, length-put x ts em); more = λ q. absurd (q refl) }
@@ -116,7 +111,7 @@ module _ (ts : List ℕ) (x : ℕ) (h : length ts ≤ 64) (asc : ascending ts �
   pub adds : (b : Bucket) → b .words ≡ bucket-of 1 ts → Adds (added b x) ts x
   adds b e =
       subst (λ (w : List ℕ). Adds (added (record { words = w }) x) ts x) (sym e)
-      (subst (λ (a : Changed). Adds a ts x) (sym at-words) (cases (member x ts) (leb 64 (length ts)) refl refl))
+      (subst (λ (a : Changed). Adds a ts x) (sym at-words) (cases (found x ts) (leb 64 (length ts)) refl refl))
 
 -- the answer is not Full
 pub not-full : (d : Response) → OneOf (0 ∷ 1 ∷ 2 ∷ []) (tagOf the-type d) → d ≡ Full → ⊥

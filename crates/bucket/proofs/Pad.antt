@@ -6,9 +6,9 @@ use Prim.Native.Nat.{ℕ, zero, suc, _+_, _-_, _<_, _≤_}
 use native.Mathlib.Omega.{arith}
 use lib.ListN.{length, getD, take, drop, set, replicate, length-take, length-drop, length-append}
 use lib.Seq.{paste, take-at, drop-append-add, set-at, append-snoc, take-take, drop-drop, length-take-le, take-nil}
-use Rattle.spec.specs.Lists.{member, ascending, add-tag, remove-tag}
+use Rattle.spec.specs.Lists.{add-tag, remove-tag}
 use Rattle.spec.specs.Words.{bucket-of}
-use Rattle.bucket.specs.Bucket.{tags-in, rank}
+use Rattle.bucket.specs.Bucket.{tags-in, rank, found}
 use Rattle.bucket.proofs.Laws.{add-rank, remove-rank}
 
 -- a list of words, then zeros up to 66 words
@@ -129,19 +129,19 @@ module _ (f n p : ℕ) (ws : List ℕ) (len : length ws ≡ 66) (en : n ≡ leng
       rw (length-append (take p (tags-in ws)) (drop (suc p) (tags-in ws)), length-take p (tags-in ws), length-drop (suc p) (tags-in ws)) (omega arith) in
       x₂ ∙ ap padded (ap (λ (k : ℕ). f ∷ k ∷ (take p D ++ take (n - 1 - p) E)) c ∙ rw (t, d))
 
-  pub put-bucket : (x : ℕ) → n < 64 → p ≤ n → p ≡ rank x (tags-in ws) → member x (tags-in ws) ≡ false
+  pub put-bucket : (x : ℕ) → n < 64 → p ≤ n → p ≡ rank x (tags-in ws) → found x (tags-in ws) ≡ false
       → o₁ ≡ paste (set (set (replicate 66 0) 0 f) 1 (n + 1)) 2 (drop 2 ws) p
       → o₂ ≡ paste (set o₁ (2 + p) x) (3 + p) (drop (2 + p) ws) (n - p)
       → o₂ ≡ bucket-of f (add-tag x (tags-in ws))
   put-bucket x hn hp ep m e₁ e₂ =
       put-words x hn hp e₁ e₂ ∙ words-bucket f (putAt p x (tags-in ws)) ∙ rw (ep, add-rank x (tags-in ws) m)
 
-  pub cut-bucket : (x : ℕ) → n ≤ 64 → p < n → p ≡ rank x (tags-in ws) → member x (tags-in ws) ≡ true → ascending (tags-in ws) ≡ true
+  pub cut-bucket : (x : ℕ) → n ≤ 64 → p < n → p ≡ rank x (tags-in ws) → found x (tags-in ws) ≡ true
       → o₁ ≡ paste (set (set (replicate 66 0) 0 f) 1 (n - 1)) 2 (drop 2 ws) p
       → o₂ ≡ paste o₁ (2 + p) (drop (3 + p) ws) (n - 1 - p)
       → o₂ ≡ bucket-of f (remove-tag x (tags-in ws))
-  cut-bucket x hn hp ep m a e₁ e₂ =
-      cut-words hn hp e₁ e₂ ∙ words-bucket f (cutAt p (tags-in ws)) ∙ rw (ep, remove-rank x (tags-in ws) a m)
+  cut-bucket x hn hp ep m e₁ e₂ =
+      cut-words hn hp e₁ e₂ ∙ words-bucket f (cutAt p (tags-in ws)) ∙ rw (ep, remove-rank x (tags-in ws) m)
 
 -- the tags in a bucket with the flag f
 pub fresh-words : (f : ℕ) (ws o : List ℕ) → length ws ≡ 66 → o ≡ paste (set (set (replicate 66 0) 0 f) 1 (length (tags-in ws))) 2 (drop 2 ws) (length (tags-in ws))

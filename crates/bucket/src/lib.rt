@@ -1,14 +1,14 @@
-// A bucket of at most 64 tags, by value: 66 words. It is read out of the pool and written back through the part of the pool
-// that begins at its first word.
+// A bucket of at most 64 tags, by value: 66 words. Its methods take it by value and hand back the next bucket with the answer.
+// Every contract holds for any words: what a bucket says of its tags, `tags-in` of specs/, is defined for all of them.
 ghost use mathlib.Core.Path.{_≡_};
 ghost use mathlib.Core.Bool.{true, false};
-ghost use Prim.Native.Nat.{_+_, _*_, _≤_, _<_};
-ghost use lib.ListN.{length, take, drop, getD, set};
+ghost use Prim.Native.Nat.{_+_, _≤_, _<_};
+ghost use lib.ListN.{length, drop};
 ghost use lib.Seq.{paste};
-ghost use Rattle.spec.specs.Lists.{member, ascending, add-tag, remove-tag};
-ghost use Rattle.spec.specs.Words.{overwrite, bucket-of, tags};
-ghost use Rattle.spec.specs.Sound.{sound-bucket};
-ghost use Rattle.bucket.specs.Bucket.{rank, tags-in, bucket-at, added, removed, frozen-of, joined, split-of, add-answer, add-words, remove-answer, remove-words};
+ghost use Rattle.spec.specs.Lists.{add-tag, remove-tag};
+ghost use Rattle.spec.specs.Words.{bucket-of};
+ghost use Rattle.spec.specs.Listed.{slot};
+ghost use Rattle.bucket.specs.Bucket.{rank, stands-at, found, tags-in, added, removed, frozen-of, joined, split-of};
 
 pub struct Bucket {
     pub words: [u32; 66],
@@ -27,8 +27,15 @@ pub struct Changed {
     pub answer: Response,
 }
 
+// The number of a tag's place in a node of this size, the tag itself for size 0.
+pub fn slot(tag: u32, size: u32) -> u32
+    ensures { λ r. ⌜ r ≡ slot tag size ⌝ }
+{
+    if size == 0 { tag } else { tag % size }
+}
+
 // d with n words of s, from word `from`, put at word `at`.
-pub fn copied(d: [u32; 66], at: usize, s: &[u32], from: usize, n: usize) -> [u32; 66]
+fn copied(d: [u32; 66], at: usize, s: &[u32], from: usize, n: usize) -> [u32; 66]
     requires { ⌜ (at + n ≤ 66) × (from + n ≤ length (now s)) ⌝ }
     ensures { λ r. ⌜ r ≡ paste d at (drop from (now (s .entry))) n ⌝ }
 {
@@ -50,8 +57,8 @@ impl Bucket {
         if 64 < n { 64 } else { n as usize }
     }
 
-    // The place of the first tag that is not below this one.
-    pub fn place(self, tag: u32) -> usize
+    // The search: the position of the first tag that is not below this one, the count if there is none.
+    pub fn position(self, tag: u32) -> usize
         ensures { λ r. ⌜ r ≡ rank tag (tags-in (self .words)) ⌝ }
     {
         let n = self.count();
@@ -65,12 +72,11 @@ impl Bucket {
         i
     }
 
-    pub fn has(self, tag: u32) -> bool
-        requires { ⌜ ascending (tags-in (self .words)) ≡ true ⌝ }
-        ensures { λ r. ⌜ r ≡ member tag (tags-in (self .words)) ⌝ }
+    // The tag stands at position p.
+    fn stands_at(self, p: usize, tag: u32) -> bool
+        ensures { λ r. ⌜ r ≡ stands-at p tag (tags-in (self .words)) ⌝ }
     {
         let n = self.count();
-        let p = self.place(tag);
         if n <= p {
             return false;
         }
@@ -78,9 +84,16 @@ impl Bucket {
         w[2 + p] == tag
     }
 
-    // The changeable bucket with a tag more, at place p.
+    pub fn has(self, tag: u32) -> bool
+        ensures { λ r. ⌜ r ≡ found tag (tags-in (self .words)) ⌝ }
+    {
+        let p = self.position(tag);
+        self.stands_at(p, tag)
+    }
+
+    // The changeable bucket with a tag more, at position p.
     fn put(self, n: usize, p: usize, tag: u32) -> Bucket
-        requires { ⌜ (n ≡ length (tags-in (self .words))) × (n < 64) × (p ≤ n) × (p ≡ rank tag (tags-in (self .words))) × (member tag (tags-in (self .words)) ≡ false) ⌝ }
+        requires { ⌜ (n ≡ length (tags-in (self .words))) × (n < 64) × (p ≤ n) × (p ≡ rank tag (tags-in (self .words))) × (found tag (tags-in (self .words)) ≡ false) ⌝ }
         ensures { λ r. ⌜ r .words ≡ bucket-of 1 (add-tag tag (tags-in (self .words))) ⌝ }
     {
         let w = self.words;
@@ -93,9 +106,9 @@ impl Bucket {
         Bucket { words: out }
     }
 
-    // The changeable bucket without the tag at place p.
+    // The changeable bucket without the tag at position p.
     fn cut(self, n: usize, p: usize, tag: u32) -> Bucket
-        requires { ⌜ (n ≡ length (tags-in (self .words))) × (n ≤ 64) × (p < n) × (p ≡ rank tag (tags-in (self .words))) × (member tag (tags-in (self .words)) ≡ true) × (ascending (tags-in (self .words)) ≡ true) ⌝ }
+        requires { ⌜ (n ≡ length (tags-in (self .words))) × (n ≤ 64) × (p < n) × (p ≡ rank tag (tags-in (self .words))) × (found tag (tags-in (self .words)) ≡ true) ⌝ }
         ensures { λ r. ⌜ r .words ≡ bucket-of 1 (remove-tag tag (tags-in (self .words))) ⌝ }
     {
         let w = self.words;
@@ -108,7 +121,6 @@ impl Bucket {
     }
 
     pub fn add(self, tag: u32) -> Changed
-        requires { ⌜ ascending (tags-in (self .words)) ≡ true ⌝ }
         ensures { λ r. ⌜ r ≡ added self tag ⌝ }
     {
         let flag = self.words[0];
@@ -118,7 +130,8 @@ impl Bucket {
                 answer: Response::Frozen,
             };
         }
-        if self.has(tag) {
+        let p = self.position(tag);
+        if self.stands_at(p, tag) {
             return Changed {
                 bucket: self,
                 answer: Response::No,
@@ -131,7 +144,6 @@ impl Bucket {
                 answer: Response::Full,
             };
         }
-        let p = self.place(tag);
         let b = self.put(n, p, tag);
         Changed {
             bucket: b,
@@ -140,7 +152,6 @@ impl Bucket {
     }
 
     pub fn remove(self, tag: u32) -> Changed
-        requires { ⌜ ascending (tags-in (self .words)) ≡ true ⌝ }
         ensures { λ r. ⌜ r ≡ removed self tag ⌝ }
     {
         let flag = self.words[0];
@@ -150,9 +161,9 @@ impl Bucket {
                 answer: Response::Frozen,
             };
         }
-        if self.has(tag) {
+        let p = self.position(tag);
+        if self.stands_at(p, tag) {
             let n = self.count();
-            let p = self.place(tag);
             let b = self.cut(n, p, tag);
             return Changed {
                 bucket: b,
@@ -176,7 +187,6 @@ impl Bucket {
 
 // The changeable bucket of m's tags with tag mod size = i.
 pub fn split(m: Bucket, size: u32, i: u32) -> Bucket
-    requires { ⌜ 0 < size ⌝ }
     ensures { λ r. ⌜ r ≡ split-of m size i ⌝ }
 {
     let n = m.count();
@@ -187,7 +197,7 @@ pub fn split(m: Bucket, size: u32, i: u32) -> Bucket
     let mut j = 0;
     while j < n {
         let t = w[2 + j];
-        if t % size == i {
+        if slot(t, size) == i {
             out[2 + len] = t;
             len += 1;
         }
@@ -213,7 +223,6 @@ fn opened(b: Bucket) -> Bucket
 
 // The changeable bucket of both buckets' tags, those of a put in from the last to the first.
 pub fn union(a: Bucket, b: Bucket) -> Changed
-    requires { ⌜ ascending (tags-in (b .words)) ≡ true ⌝ }
     ensures { λ r. ⌜ r ≡ joined a b ⌝ }
 {
     let w = a.words;
@@ -235,98 +244,4 @@ pub fn union(a: Bucket, b: Bucket) -> Changed
         bucket: out,
         answer: Response::Yes,
     }
-}
-
-// Bucket number k of the pool.
-pub fn load(pool: &[u32], k: usize) -> Bucket
-    requires { ⌜ (k < 1024) × (66 * k + 66 ≤ length (now pool)) ⌝ }
-    ensures { λ r. ⌜ r ≡ bucket-at (now (pool .entry)) k ⌝ }
-{
-    let w = copied([0u32; 66], 0, pool, 66 * k, 66);
-    Bucket { words: w }
-}
-
-// The bucket's words over the first words of a part of the pool.
-pub fn store(part: &mut [u32], b: Bucket)
-    requires { ⌜ 66 ≤ length (now part) ⌝ }
-    ensures { λ _. ⌜ now (part .exit) ≡ overwrite (now (part .entry)) 0 (b .words) ⌝ }
-{
-    let w = b.words;
-    let mut i = 0;
-    while i < 66 {
-        part[i] = w[i];
-        i += 1;
-    }
-}
-
-// The bucket at the front of a part of the pool gains a tag.
-pub fn add(part: &mut [u32], tag: u32) -> Response
-    requires { ⌜ (66 ≤ length (now part)) × (ascending (tags-in (take 66 (now part))) ≡ true) ⌝ }
-    ensures { λ r. ⌜ (r ≡ added (bucket-at (now (part .entry)) 0) tag .answer) × (now (part .exit) ≡ overwrite (now (part .entry)) 0 (added (bucket-at (now (part .entry)) 0) tag .bucket .words)) ⌝ }
-{
-    let b = load(part, 0);
-    let d = b.add(tag);
-    let c = d.bucket;
-    store(part, c);
-    d.answer
-}
-
-pub fn remove(part: &mut [u32], tag: u32) -> Response
-    requires { ⌜ (66 ≤ length (now part)) × (ascending (tags-in (take 66 (now part))) ≡ true) ⌝ }
-    ensures { λ r. ⌜ (r ≡ removed (bucket-at (now (part .entry)) 0) tag .answer) × (now (part .exit) ≡ overwrite (now (part .entry)) 0 (removed (bucket-at (now (part .entry)) 0) tag .bucket .words)) ⌝ }
-{
-    let b = load(part, 0);
-    let d = b.remove(tag);
-    let c = d.bucket;
-    store(part, c);
-    d.answer
-}
-
-pub fn freeze(part: &mut [u32])
-    requires { ⌜ 66 ≤ length (now part) ⌝ }
-    ensures { λ _. ⌜ now (part .exit) ≡ set (now (part .entry)) 0 0 ⌝ }
-{
-    let b = load(part, 0);
-    store(part, b.freeze());
-}
-
-// Bucket number k of the pool gains a tag.
-pub fn add_at(pool: &mut [u32], k: usize, tag: u32) -> Response
-    requires { ⌜ (k < 1024) × (66 * k + 66 ≤ length (now pool)) × (sound-bucket (drop (66 * k) (now pool)) ≡ true) ⌝ }
-    ensures { λ r. ⌜ (r ≡ add-answer (now (pool .entry)) k tag) × (now (pool .exit) ≡ add-words (now (pool .entry)) k tag) ⌝ }
-{
-    let at = 66 * k;
-    add(&mut pool[at..], tag)
-}
-
-pub fn remove_at(pool: &mut [u32], k: usize, tag: u32) -> Response
-    requires { ⌜ (k < 1024) × (66 * k + 66 ≤ length (now pool)) × (sound-bucket (drop (66 * k) (now pool)) ≡ true) ⌝ }
-    ensures { λ r. ⌜ (r ≡ remove-answer (now (pool .entry)) k tag) × (now (pool .exit) ≡ remove-words (now (pool .entry)) k tag) ⌝ }
-{
-    let at = 66 * k;
-    remove(&mut pool[at..], tag)
-}
-
-pub fn freeze_at(pool: &mut [u32], k: usize)
-    requires { ⌜ (k < 1024) × (66 * k + 66 ≤ length (now pool)) ⌝ }
-    ensures { λ r. ⌜ now (pool .exit) ≡ set (now (pool .entry)) (66 * k) 0 ⌝ }
-{
-    let at = 66 * k;
-    freeze(&mut pool[at..])
-}
-
-pub fn store_at(pool: &mut [u32], k: usize, b: Bucket)
-    requires { ⌜ (k < 1024) × (66 * k + 66 ≤ length (now pool)) ⌝ }
-    ensures { λ r. ⌜ now (pool .exit) ≡ overwrite (now (pool .entry)) (66 * k) (b .words) ⌝ }
-{
-    let at = 66 * k;
-    store(&mut pool[at..], b)
-}
-
-pub fn has_at(pool: &[u32], k: usize, tag: u32) -> bool
-    requires { ⌜ (k < 1024) × (66 * k + 66 ≤ length (now pool)) × (sound-bucket (drop (66 * k) (now pool)) ≡ true) ⌝ }
-    ensures { λ r. ⌜ r ≡ member tag (tags (now (pool .entry)) k) ⌝ }
-{
-    let b = load(pool, k);
-    b.has(tag)
 }

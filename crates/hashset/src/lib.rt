@@ -99,7 +99,7 @@ fn begun(call: Call, tag: u32) -> Task
 pub fn start(s: State, k: u32, call: Call, tag: u32, ns: &[u32], bs: &[u32]) -> Stepped
     ensures { λ r. ⌜ reply-of r (now (ns .entry)) (now (bs .entry)) ≡ start (machine-of s (now (ns .entry)) (now (bs .entry))) k call tag ⌝ }
 {
-    if !pool::sound(s, ns, bs) {
+    if !pool::soundness::sound(s, ns, bs) {
         return lines::refused(s, 8);
     }
     if s.tasks <= k {
@@ -127,7 +127,7 @@ pub fn start(s: State, k: u32, call: Call, tag: u32, ns: &[u32], bs: &[u32]) -> 
 pub fn show<'a>(s: State, ns: &[u32], bs: &'a [u32], k: u32) -> &'a [u32]
     ensures { λ r. ⌜ now r ≡ show (machine-of s (now (ns .entry)) (now (bs .entry))) k ⌝ }
 {
-    if !pool::sound(s, ns, bs) {
+    if !pool::soundness::sound(s, ns, bs) {
         return &bs[0..0];
     }
     if s.buckets <= k {
@@ -150,7 +150,7 @@ pub fn show<'a>(s: State, ns: &[u32], bs: &'a [u32], k: u32) -> &'a [u32]
 pub fn step(s: State, k: u32, ns: &mut [u32], bs: &mut [u32]) -> Stepped
     ensures { λ r. ⌜ reply-of r (now (ns .exit)) (now (bs .exit)) ≡ step (machine-of s (now (ns .entry)) (now (bs .entry))) k ⌝ }
 {
-    if !pool::sound(s, ns, bs) {
+    if !pool::soundness::sound(s, ns, bs) {
         return lines::refused(s, 8);
     }
     if s.tasks <= k {
@@ -199,7 +199,7 @@ pub fn step(s: State, k: u32, ns: &mut [u32], bs: &mut [u32]) -> Stepped
 pub fn list(s: State, ns: &[u32], bs: &[u32], out: &mut [u32]) -> Listing
     ensures { λ r. ⌜ (r ≡ list (machine-of s (now (ns .entry)) (now (bs .entry))) (now (out .entry)) .says) × (now (out .exit) ≡ list (machine-of s (now (ns .entry)) (now (bs .entry))) (now (out .entry)) .words) ⌝ }
 {
-    if !pool::sound(s, ns, bs) {
+    if !pool::soundness::sound(s, ns, bs) {
         return Listing::Refused(8);
     }
     let g = listing::gather(s, ns, bs);

@@ -1,147 +1,132 @@
-// Which nodes and buckets are held, as marks, and which one is taken next.
+// Which nodes and buckets are held, as marks, and which one is taken next: the first that is not held after the last taken, going
+// round. Each held node is marked first, and then its places are walked once.
 use spec::State;
 use spec::Task;
 ghost use mathlib.Core.Path.{_≡_};
-ghost use mathlib.Core.Bool.{Bool, true, false};
 ghost use mathlib.Core.List.{List, [], _∷_};
-ghost use Prim.Native.Nat.{ℕ, _+_, _-_, _*_, _≤_, _<_};
-ghost use lib.ListN.{length, getD};
-ghost use Rattle.spec.specs.Machine.{Machine, machine-of};
-ghost use Rattle.spec.specs.Words.{number, places, link};
+ghost use Prim.Native.Nat.{ℕ, _≤_, _<_};
+ghost use lib.ListN.{length};
 ghost use Rattle.spec.specs.Lists.{concat-map};
-ghost use Rattle.spec.specs.Held.{chain, task-nodes, task-buckets, held-nodes, held-buckets, first-free, cyclic-order, free-node, free-bucket};
-ghost use Rattle.held.specs.Held.{marked, Marks, Exactly, seen};
+ghost use Rattle.spec.specs.Machine.{machine-of};
+ghost use Rattle.spec.specs.Words.{places};
+ghost use Rattle.spec.specs.Held.{chain, task-nodes, task-buckets, held-nodes, first-free, cyclic-order};
+ghost use Rattle.held.specs.Held.{Marks, Exactly, marked-numbers, placed-low, node-to-take, bucket-to-take};
 
-fn no_marks() -> [bool; 1024]
-    ensures { λ r. ⌜ Exactly r [] ⌝ }
-{
-    [false; 1024]
-}
-
-fn mark(m: [bool; 1024], l: u32) -> [bool; 1024]
-    ensures { λ r. ⌜ Marks m r (l ∷ []) ⌝ }
+// The mark of a link, if there is one.
+fn mark(m: &mut [bool], l: u32)
+    ensures { λ _. ⌜ Marks (now (m .entry)) (now (m .exit)) (l ∷ []) ⌝ }
 {
     if l == 0 {
-        return m;
+        return;
     }
-    if 1024 < l {
-        return m;
-    }
-    let mut out = m;
     let k = l as usize - 1;
-    out[k] = true;
-    out
+    if k < m.len() {
+        m[k] = true;
+    }
 }
 
-fn mark_places(ns: &[u32], m: [bool; 1024], l: u32) -> [bool; 1024]
-    ensures { λ r. ⌜ Marks m r (places (now (ns .entry)) (number l)) ⌝ }
-{
-    let k = pool::number_of(l);
-    let a = 34 * k + 2;
-    let mut out = m;
-    let mut i: usize = 0;
-    while i < 32 {
-        let w = pool::word(ns, a + i);
-        let o = mark(out, w);
-        out = o;
-        i += 1;
-    }
-    out
-}
-
-fn visit(ns: &[u32], m: [bool; 1024], l: u32, deep: bool) -> [bool; 1024]
-    ensures { λ r. ⌜ Marks m r (seen deep (now (ns .entry)) l) ⌝ }
-{
-    if deep {
-        return mark_places(ns, m, l);
-    }
-    mark(m, l)
-}
+// ---- nodes
 
 // A node and its predecessors, h at most.
-fn mark_chain(ns: &[u32], m: [bool; 1024], h: u32, from: u32, deep: bool) -> [bool; 1024]
-    ensures { λ r. ⌜ Marks m r (concat-map (seen deep (now (ns .entry))) (chain (now (ns .entry)) h from)) ⌝ }
+fn mark_chain(ns: &[u32], m: &mut [bool], h: u32, from: u32)
+    ensures { λ _. ⌜ Marks (now (m .entry)) (now (m .exit)) (chain (now (ns .entry)) h from) ⌝ }
 {
-    let mut out = m;
     let mut at = from;
     let mut left = h;
     while 0 < left {
         if at == 0 {
-            return out;
+            return;
         }
-        let o = visit(ns, out, at, deep);
-        out = o;
+        mark(m, at);
         let p = pool::pred_of(ns, at);
         at = p;
         left -= 1;
     }
-    out
 }
 
-fn mark_task(ns: &[u32], m: [bool; 1024], h: u32, c: Task, deep: bool) -> [bool; 1024]
-    ensures { λ r. ⌜ Marks m r (concat-map (seen deep (now (ns .entry))) (concat-map (chain (now (ns .entry)) h) (task-nodes c))) ⌝ }
+fn mark_task_nodes(ns: &[u32], m: &mut [bool], h: u32, c: Task)
+    ensures { λ _. ⌜ Marks (now (m .entry)) (now (m .exit)) (concat-map (chain (now (ns .entry)) h) (task-nodes c)) ⌝ }
 {
     let running = c.running;
     if running {
-        let x = mark_chain(ns, m, h, c.t, deep);
-        let y = mark_chain(ns, x, h, c.s, deep);
-        return mark_chain(ns, y, h, c.new_node, deep);
+        mark_chain(ns, m, h, c.t);
+        mark_chain(ns, m, h, c.s);
+        mark_chain(ns, m, h, c.new_node);
     }
-    m
 }
 
-// Every node that is held, or every place of one.
-fn mark_held(s: State, ns: &[u32], deep: bool) -> [bool; 1024]
+fn mark_nodes(s: State, ns: &[u32], m: &mut [bool])
     requires { ⌜ s .head < 64 ⌝ }
-    ensures { λ r. ⌜ ((bs : List ℕ) → Exactly r (concat-map (seen deep (now (ns .entry))) (held-nodes (machine-of s (now (ns .entry)) bs)))) ⌝ }
+    ensures { λ _. ⌜ ((bs : List ℕ) → Marks (now (m .entry)) (now (m .exit)) (held-nodes (machine-of s (now (ns .entry)) bs))) ⌝ }
 {
     let h = s.nodes;
     let ts = s.task;
-    let z = no_marks();
-    let mut out = mark_chain(ns, z, h, s.head + 1, deep);
+    mark_chain(ns, m, h, s.head + 1);
     let mut k: usize = 0;
     while k < 8 {
         let c = ts[k];
-        let o = mark_task(ns, out, h, c, deep);
-        out = o;
+        mark_task_nodes(ns, m, h, c);
         k += 1;
     }
-    out
 }
 
-fn mark_own(m: [bool; 1024], c: Task) -> [bool; 1024]
-    ensures { λ r. ⌜ Marks m r (task-buckets c) ⌝ }
+// ---- buckets
+
+// The buckets that node k places.
+fn mark_places(ns: &[u32], m: &mut [bool], k: u32)
+    ensures { λ _. ⌜ Marks (now (m .entry)) (now (m .exit)) (places (now (ns .entry)) k) ⌝ }
+{
+    let mut i: u32 = 0;
+    while i < 32 {
+        let l = pool::place_at(ns, k, i);
+        mark(m, l);
+        i += 1;
+    }
+}
+
+// The buckets that the marked nodes place.
+fn mark_placed(ns: &[u32], nodes: [bool; 64], m: &mut [bool])
+    ensures { λ _. ⌜ Marks (now (m .entry)) (now (m .exit)) (concat-map (places (now (ns .entry))) (marked-numbers nodes)) ⌝ }
+{
+    let mut k: u32 = 0;
+    while k < 64 {
+        if nodes[k as usize] {
+            mark_places(ns, m, k);
+        }
+        k += 1;
+    }
+}
+
+fn mark_task_buckets(m: &mut [bool], c: Task)
+    ensures { λ _. ⌜ Marks (now (m .entry)) (now (m .exit)) (task-buckets c) ⌝ }
 {
     let running = c.running;
     if running {
-        let x = mark(m, c.b);
-        let y = mark(x, c.m);
-        let z = mark(y, c.n);
-        return mark(z, c.new_bucket);
+        mark(m, c.b);
+        mark(m, c.m);
+        mark(m, c.n);
+        mark(m, c.new_bucket);
     }
-    m
 }
 
-fn mark_buckets(s: State, ns: &[u32]) -> [bool; 1024]
-    requires { ⌜ s .head < 64 ⌝ }
-    ensures { λ r. ⌜ ((bs : List ℕ) → Exactly r (held-buckets (machine-of s (now (ns .entry)) bs))) ⌝ }
+fn mark_own(s: State, m: &mut [bool])
+    ensures { λ _. ⌜ Marks (now (m .entry)) (now (m .exit)) (concat-map task-buckets (s .task)) ⌝ }
 {
     let ts = s.task;
-    let mut out = mark_held(s, ns, true);
     let mut k: usize = 0;
     while k < 8 {
         let c = ts[k];
-        let o = mark_own(out, c);
-        out = o;
+        mark_task_buckets(m, c);
         k += 1;
     }
-    out
 }
 
+// ---- taking
+
 // The link of the first of n records that is not marked after the last, going round; 0 if all are.
-fn first_unmarked(m: [bool; 1024], n: u32, last: u32) -> u32
-    requires { ⌜ (n ≤ 1024) × (last < n) ⌝ }
-    ensures { λ r. ⌜ ((ls : List ℕ) → Exactly m ls → r ≡ first-free ls (cyclic-order n last)) ⌝ }
+fn first_unmarked(m: &[bool], n: u32, last: u32) -> u32
+    requires { ⌜ (n ≤ length (now m)) × (n ≤ 1024) × (last < n) ⌝ }
+    ensures { λ r. ⌜ ((ls : List ℕ) → Exactly (now (m .entry)) ls → r ≡ first-free ls (cyclic-order n last)) ⌝ }
 {
     let mut j: u32 = 1;
     while j <= n {
@@ -154,18 +139,45 @@ fn first_unmarked(m: [bool; 1024], n: u32, last: u32) -> u32
     0
 }
 
+// The link of the node to be taken, 0 if all are held or a number of the state is out of bounds.
 pub fn free_node_of(s: State, ns: &[u32]) -> u32
-    requires { ⌜ (s .head < 64) × (s .nodes ≤ 64) × (s .«last_node» < s .nodes) ⌝ }
-    ensures { λ r. ⌜ ((bs : List ℕ) → r ≡ free-node (machine-of s (now (ns .entry)) bs)) ⌝ }
+    ensures { λ r. ⌜ ((bs : List ℕ) → r ≡ node-to-take (machine-of s (now (ns .entry)) bs)) ⌝ }
 {
-    let m = mark_held(s, ns, false);
-    first_unmarked(m, s.nodes, s.last_node)
+    let h = s.nodes;
+    let last = s.last_node;
+    if 64 <= s.head {
+        return 0;
+    }
+    if 64 < h {
+        return 0;
+    }
+    if h <= last {
+        return 0;
+    }
+    let mut nodes = [false; 64];
+    mark_nodes(s, ns, &mut nodes);
+    first_unmarked(&nodes, h, last)
 }
 
+// The same of a bucket.
 pub fn free_bucket_of(s: State, ns: &[u32]) -> u32
-    requires { ⌜ (s .head < 64) × (s .buckets ≤ 1024) × (s .«last_bucket» < s .buckets) ⌝ }
-    ensures { λ r. ⌜ ((bs : List ℕ) → r ≡ free-bucket (machine-of s (now (ns .entry)) bs)) ⌝ }
+    ensures { λ r. ⌜ ((bs : List ℕ) → r ≡ bucket-to-take (machine-of s (now (ns .entry)) bs)) ⌝ }
 {
-    let m = mark_buckets(s, ns);
-    first_unmarked(m, s.buckets, s.last_bucket)
+    let b = s.buckets;
+    let last = s.last_bucket;
+    if 64 <= s.head {
+        return 0;
+    }
+    if 1024 < b {
+        return 0;
+    }
+    if b <= last {
+        return 0;
+    }
+    let mut nodes = [false; 64];
+    mark_nodes(s, ns, &mut nodes);
+    let mut buckets = [false; 1024];
+    mark_placed(ns, nodes, &mut buckets);
+    mark_own(s, &mut buckets);
+    first_unmarked(&buckets, b, last)
 }

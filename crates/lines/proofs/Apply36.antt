@@ -19,7 +19,7 @@ use Rattle.spec.specs.Lines.{answer-36, insert-write, moves, answers, answers-w
 use Rattle.spec.specs.StepRefusals.{overfull-36}
 use Rattle.spec.specs.Entries.{refuse, accept, step-running}
 use Rattle.bucket.specs.declared.Response.the-variants.{Yes, No, Frozen, Full}
-use Rattle.bucket.specs.Bucket.{add-answer, add-words, remove-answer, remove-words}
+use Rattle.pool.specs.Pool.{add-answer, add-words, remove-answer, remove-words}
 use Rattle.lines.proofs.Laws.{past-36, pass-36}
 
 -- ---- what a bucket answers, read back

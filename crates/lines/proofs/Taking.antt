@@ -18,9 +18,8 @@ use Rattle.spec.specs.Lines.{resized}
 use Rattle.bucket.specs.declared.Bucket.{Bucket}
 use Rattle.bucket.specs.declared.Response.the-variants.{Yes, Full}
 use Rattle.bucket.specs.Bucket.{tags-in, changed, joined}
-use Rattle.bucket.proofs.At.{few}
+use Rattle.pool.proofs.At.{few}
 use Rattle.pool.proofs.Laws.{listed-small}
-use Rattle.listing.proofs.Laws.{made}
 use Rattle.lines.specs.Made.{Sized, Makes}
 
 -- ---- sizes
@@ -81,17 +80,12 @@ pub few-tags : (w : List ℕ) (k : ℕ) → sound-bucket (drop (66 * k) w) ≡ t
 unfolding tags
 few-tags w k s = rw (length-take (count w k) (drop (66 * k + 2) w)) (omega (arith, few w k s))
 
-pub makes-fine : (b : Bucket) (ts : List ℕ) → length ts ≤ 64 → b .words ≡ bucket-of 1 ts → Makes (made false b) ts
-makes-fine b ts l e = record { over = λ q. absurd (false≢true q); fine = λ q. (l, e) }
-
-pub makes-over : (b : Bucket) (ts : List ℕ) → 64 < length ts → Makes (made true b) ts
-makes-over b ts l = record { over = λ q. l; fine = λ q. absurd (false≢true (sym q)) }
+-- from one bucket, and from two
+pub makes-one : (b : Bucket) (ts : List ℕ) → length ts ≤ 64 → b .words ≡ bucket-of 1 ts → Makes (changed (b .words) Yes) ts
+makes-one b ts l e = record { over = λ q. (let z : _≡_ {A = ℕ} 0 1 = cc in absurd (omega arith)); fine = λ q. (l, e) }
 
 module _ (a b : Bucket) where
-  U : List ℕ
-  U = union (tags-in (a .words)) (tags-in (b .words))
-
-  pub joined-full : joined a b .answer ≡ Full → 64 < length (union (tags-in (a .words)) (tags-in (b .words)))
+  joined-full : joined a b .answer ≡ Full → 64 < length (union (tags-in (a .words)) (tags-in (b .words)))
   unfolding joined
   joined-full = go (leb (length (union (tags-in (a .words)) (tags-in (b .words)))) 64) refl
     where
@@ -101,7 +95,7 @@ module _ (a b : Bucket) where
       go true p e = let z : _≡_ {A = ℕ} 0 1 = cc in absurd (omega arith)
       go false p e = leb-false _ _ p
 
-  pub joined-fine : (joined a b .answer ≡ Full → ⊥)
+  joined-fine : (joined a b .answer ≡ Full → ⊥)
       → (length (union (tags-in (a .words)) (tags-in (b .words))) ≤ 64) × (joined a b .bucket .words ≡ bucket-of 1 (union (tags-in (a .words)) (tags-in (b .words))))
   unfolding joined
   joined-fine = go (leb (length (union (tags-in (a .words)) (tags-in (b .words)))) 64) refl
@@ -112,3 +106,6 @@ module _ (a b : Bucket) where
           × ((if t then changed (bucket-of 1 (union (tags-in (a .words)) (tags-in (b .words)))) Yes else changed (b .words) Full) .bucket .words ≡ bucket-of 1 (union (tags-in (a .words)) (tags-in (b .words))))
       go true p e = (leb-true _ _ p, refl)
       go false p e = absurd (e refl)
+
+  pub makes-two : Makes (joined a b) (union (tags-in (a .words)) (tags-in (b .words)))
+  makes-two = record { over = joined-full; fine = joined-fine }

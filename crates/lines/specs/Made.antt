@@ -8,12 +8,13 @@ use lib.ListN.{length}
 use Rattle.spec.specs.Words.{bucket-of}
 use Rattle.spec.specs.Sound.{listed-size}
 use Rattle.spec.specs.Lines.{resized}
-use Rattle.listing.specs.declared.Gathered.{Gathered}
+use Rattle.bucket.specs.declared.Changed.{Changed}
+use Rattle.bucket.specs.declared.Response.the-variants.{Full}
 
 pub record Sized (call z r : ℕ) : Type 0 where
   pub none : r ≡ 0 → listed-size (resized call z) ≡ false
   pub some : (r ≡ 0 → ⊥) → (listed-size (resized call z) ≡ true) × (r ≡ resized call z)
 
-pub record Makes (g : Gathered) (ts : List ℕ) : Type 0 where
-  pub over : g .full ≡ true → 64 < length ts
-  pub fine : g .full ≡ false → (length ts ≤ 64) × (g .bucket .words ≡ bucket-of 1 ts)
+pub record Makes (d : Changed) (ts : List ℕ) : Type 0 where
+  pub over : d .answer ≡ Full → 64 < length ts
+  pub fine : (d .answer ≡ Full → ⊥) → (length ts ≤ 64) × (d .bucket .words ≡ bucket-of 1 ts)

@@ -1,7 +1,6 @@
 // APPLY, lines 32 to 36 of Figure 2, for insert and remove. Line 35's call of INITBUCKET is lines 39 to 51.
 use crate::Stepped;
 use bucket::Response;
-use listing::Gathered;
 use spec::Answer;
 use spec::State;
 use spec::Task;
@@ -9,13 +8,10 @@ ghost use mathlib.Core.Path.{_≡_};
 ghost use mathlib.Core.List.{List};
 ghost use mathlib.Core.Bool.{true};
 ghost use Prim.Native.Nat.{ℕ, _≤_, _<_};
-ghost use lib.ListN.{length};
 ghost use Rattle.spec.specs.Sound.{sound};
 ghost use Rattle.spec.specs.Machine.{machine-of};
 ghost use Rattle.spec.specs.Entries.{step-running};
 ghost use Rattle.lines.specs.Reply.{reply-of};
-ghost use lib.Dec.{leb};
-ghost use Rattle.listing.specs.Gathered.{Holds, Sets};
 
 // t <- head
 pub fn line32(s: State, k: usize, c: Task) -> Stepped
@@ -38,7 +34,7 @@ pub fn line33(s: State, k: usize, c: Task, ns: &[u32]) -> Stepped
     }
     let b = pool::place_for(ns, t, c.tag);
     let z = pool::size_of(ns, t);
-    let i = pool::rem(c.tag, z);
+    let i = bucket::slot(c.tag, z);
     let mut x = c;
     x.b = b;
     if b == 0 {
@@ -46,19 +42,6 @@ pub fn line33(s: State, k: usize, c: Task, ns: &[u32]) -> Stepped
         return crate::go(s, k, x, 39);
     }
     crate::go(s, k, x, 36)
-}
-
-// 64 tags or more.
-fn at_least_64(g: Gathered) -> bool
-    requires { ⌜ Sets g ⌝ }
-    ensures { λ r. ⌜ ((ts : List ℕ) → Holds g ts → r ≡ leb 64 (length ts)) ⌝ }
-{
-    let full = g.full;
-    if full {
-        return true;
-    }
-    let b = g.bucket;
-    64 <= b.count()
 }
 
 // INVOKE(b, op): a frozen bucket sends the task back to line 32
@@ -86,11 +69,11 @@ pub fn line36(s: State, k: usize, c: Task, ns: &[u32], bs: &mut [u32]) -> Steppe
     }
     let call = c.call;
     if call == 1 {
-        let g = listing::gather(s, ns, bs);
-        if at_least_64(g) {
+        let n = listing::count(s, ns, bs);
+        if 64 <= n {
             return crate::end(s, k, c, Answer::Full);
         }
-        let d = bucket::add_at(bs, j, c.tag);
+        let d = pool::buckets::add_at(bs, j, c.tag);
         return match d {
             Response::Yes => crate::end(s, k, c, Answer::Yes),
             Response::No => crate::end(s, k, c, Answer::No),
@@ -98,7 +81,7 @@ pub fn line36(s: State, k: usize, c: Task, ns: &[u32], bs: &mut [u32]) -> Steppe
             Response::Full => crate::refused(s, 8),
         };
     }
-    let d = bucket::remove_at(bs, j, c.tag);
+    let d = pool::buckets::remove_at(bs, j, c.tag);
     match d {
         Response::Yes => crate::end(s, k, c, Answer::Yes),
         Response::No => crate::end(s, k, c, Answer::No),

@@ -98,7 +98,7 @@ pub fn line18(s: State, k: usize, c: Task, bs: &[u32]) -> Stepped
     if b == 0 {
         return crate::refused(s, 8);
     }
-    if bucket::has_at(bs, b as usize - 1, c.tag) {
+    if pool::buckets::has_at(bs, b as usize - 1, c.tag) {
         return crate::end(s, k, c, Answer::Yes);
     }
     crate::end(s, k, c, Answer::No)

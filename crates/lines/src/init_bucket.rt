@@ -1,7 +1,7 @@
 // INITBUCKET, lines 39 to 51 of Figure 2: filling place i of t. Line 52 is the second freeze of line 48.
 use crate::Stepped;
+use bucket::Changed;
 use bucket::Response;
-use listing::Gathered;
 use spec::State;
 use spec::Task;
 ghost use mathlib.Core.Path.{_≡_};
@@ -14,7 +14,6 @@ ghost use Rattle.spec.specs.Machine.{machine-of};
 ghost use Rattle.spec.specs.Lines.{gathered};
 ghost use Rattle.spec.specs.Entries.{step-running};
 ghost use Rattle.lines.specs.Reply.{reply-of};
-ghost use Rattle.spec.specs.Words.{number, size};
 ghost use Rattle.spec.specs.declared.State.{State};
 ghost use Rattle.lines.specs.Made.{Makes};
 
@@ -75,7 +74,7 @@ pub fn line43(s: State, k: usize, c: Task, ns: &[u32]) -> Stepped
         return crate::refused(s, 8);
     }
     let z = pool::size_of(ns, p);
-    let i = pool::rem(c.i, z);
+    let i = bucket::slot(c.i, z);
     let m = pool::place_of(ns, p, i);
     let mut x = c;
     x.m = m;
@@ -91,7 +90,7 @@ pub fn line44(s: State, k: usize, c: Task, bs: &mut [u32]) -> Stepped
     if m == 0 {
         return crate::refused(s, 8);
     }
-    bucket::freeze_at(bs, m as usize - 1);
+    pool::buckets::freeze_at(bs, m as usize - 1);
     crate::go(s, k, c, 49)
 }
 
@@ -150,7 +149,7 @@ pub fn line48(s: State, k: usize, c: Task, bs: &mut [u32]) -> Stepped
     if m == 0 {
         return crate::refused(s, 8);
     }
-    bucket::freeze_at(bs, m as usize - 1);
+    pool::buckets::freeze_at(bs, m as usize - 1);
     crate::go(s, k, c, 52)
 }
 
@@ -163,45 +162,33 @@ pub fn line52(s: State, k: usize, c: Task, bs: &mut [u32]) -> Stepped
     if n == 0 {
         return crate::refused(s, 8);
     }
-    bucket::freeze_at(bs, n as usize - 1);
+    pool::buckets::freeze_at(bs, n as usize - 1);
     crate::go(s, k, c, 49)
 }
 
-// The bucket that line 49 makes.
-fn make(c: Task, ns: &[u32], bs: &[u32]) -> Gathered
-    requires { ⌜ (0 < c .m) × (c .m ≤ 1024) × (c .n ≤ 1024) × (66 * c .m ≤ length (now bs)) × (66 * c .n ≤ length (now bs)) × (sound-bucket (drop (66 * (c .m - 1)) (now bs)) ≡ true) × ((0 < c .n) → sound-bucket (drop (66 * (c .n - 1)) (now bs)) ≡ true) × ((size (now ns) (number (c .t)) ≡ 0) → ⊥) ⌝ }
+// The bucket that line 49 makes, or that the tags are too many for one.
+fn new_bucket_of(c: Task, ns: &[u32], bs: &[u32]) -> Changed
+    requires { ⌜ (0 < c .m) × (c .m ≤ 1024) × (c .n ≤ 1024) × (66 * c .m ≤ length (now bs)) × (66 * c .n ≤ length (now bs)) × (sound-bucket (drop (66 * (c .m - 1)) (now bs)) ≡ true) × ((0 < c .n) → sound-bucket (drop (66 * (c .n - 1)) (now bs)) ≡ true) ⌝ }
     ensures { λ r. ⌜ ((s : State) → Makes r (gathered (machine-of s (now (ns .entry)) (now (bs .entry))) c)) ⌝ }
 {
     let m = c.m;
     let n = c.n;
-    let a = bucket::load(bs, m as usize - 1);
+    let a = pool::buckets::load(bs, m as usize - 1);
     if n == 0 {
         let z = pool::size_of(ns, c.t);
         let b = bucket::split(a, z, c.i);
-        return Gathered {
-            full: false,
+        return Changed {
             bucket: b,
+            answer: Response::Yes,
         };
     }
-    let b = bucket::load(bs, n as usize - 1);
-    let d = bucket::union(a, b);
-    let k = d.answer;
-    let v = d.bucket;
-    if let Response::Full = k {
-        return Gathered {
-            full: true,
-            bucket: v,
-        };
-    }
-    Gathered {
-        full: false,
-        bucket: v,
-    }
+    let b = pool::buckets::load(bs, n as usize - 1);
+    bucket::union(a, b)
 }
 
 // b' <- a new bucket with the tags copied from m, or from m and n
 pub fn line49(s: State, k: usize, c: Task, ns: &[u32], bs: &mut [u32]) -> Stepped
-    requires { ⌜ (k < 8) × (c .line ≡ 49) × (sound (machine-of s (now ns) (now bs)) ≡ true) × (c .m ≤ s .buckets) × (c .n ≤ s .buckets) × ((c .t ≡ 0 → ⊥) → (size (now ns) (number (c .t)) ≡ 0) → ⊥) ⌝ }
+    requires { ⌜ (k < 8) × (c .line ≡ 49) × (sound (machine-of s (now ns) (now bs)) ≡ true) × (c .m ≤ s .buckets) × (c .n ≤ s .buckets) ⌝ }
     ensures { λ r. ⌜ reply-of r (now (ns .entry)) (now (bs .exit)) ≡ step-running (machine-of s (now (ns .entry)) (now (bs .entry))) k c ⌝ }
 {
     let t = c.t;
@@ -212,9 +199,9 @@ pub fn line49(s: State, k: usize, c: Task, ns: &[u32], bs: &mut [u32]) -> Steppe
     if m == 0 {
         return crate::refused(s, 8);
     }
-    let g = make(c, ns, bs);
-    let full = g.full;
-    if full {
+    let g = new_bucket_of(c, ns, bs);
+    let d = g.answer;
+    if let Response::Full = d {
         return crate::refused(s, 8);
     }
     let f = held::free_bucket_of(s, ns);
@@ -222,7 +209,7 @@ pub fn line49(s: State, k: usize, c: Task, ns: &[u32], bs: &mut [u32]) -> Steppe
         return crate::refused(s, 7);
     }
     let b = g.bucket;
-    bucket::store_at(bs, f as usize - 1, b);
+    pool::buckets::store_at(bs, f as usize - 1, b);
     let mut u = s;
     u.last_bucket = f - 1;
     let mut x = c;
@@ -251,7 +238,7 @@ pub fn line50(s: State, k: usize, c: Task, ns: &mut [u32]) -> Stepped
     let p = pool::place_of(ns, t, i);
     if p == 0 {
         let j = pool::number_of(t);
-        pool::put(ns, 34 * j + 2 + i as usize, b);
+        pool::put(ns, 34 * (j as usize) + 2 + i as usize, b);
         return crate::go(s, k, c, 51);
     }
     crate::go(s, k, c, 51)

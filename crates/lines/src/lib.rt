@@ -24,8 +24,8 @@ pub struct Stepped {
     pub state: State,
 }
 
-// Own steps, one more, staying at 65535.
-fn more(n: u16) -> u16
+// One own step more, staying at 65535.
+fn one_more_own_step(n: u16) -> u16
     ensures { λ r. ⌜ r ≡ min (n + 1) 65535 ⌝ }
 {
     if n < 65535 { n + 1 } else { 65535 }
@@ -46,7 +46,7 @@ pub fn go(s: State, k: usize, c: Task, l: u32) -> Stepped
     ensures { λ r. ⌜ ((ns bs : List ℕ) → reply-of r ns bs ≡ accept (machine-of s ns bs) k (c .own) (moves (with-line l c))) ⌝ }
 {
     let mut x = c;
-    x.own = more(c.own);
+    x.own = one_more_own_step(c.own);
     x.line = l;
     let mut t = s;
     t.task[k] = x;
@@ -61,7 +61,7 @@ pub fn end(s: State, k: usize, c: Task, a: Answer) -> Stepped
     requires { ⌜ k < 8 ⌝ }
     ensures { λ r. ⌜ ((ns bs : List ℕ) → reply-of r ns bs ≡ accept (machine-of s ns bs) k (c .own) (answers a)) ⌝ }
 {
-    let n = more(c.own);
+    let n = one_more_own_step(c.own);
     let mut t = s;
     t.task[k] = Task {
         running: false,

@@ -14,7 +14,7 @@ ghost use Rattle.lines.specs.Reply.{reply-of};
 ghost use Rattle.lines.specs.Made.{Sized};
 
 // Growing at 32 or shrinking at 1.
-fn limit(call: u32, z: u32) -> bool
+fn at_limit(call: u32, z: u32) -> bool
     ensures { λ r. ⌜ r ≡ at-limit call z ⌝ }
 {
     if call == 4 {
@@ -30,7 +30,7 @@ pub fn line20(s: State, k: usize, c: Task, ns: &[u32]) -> Stepped
 {
     let h = s.head + 1;
     let z = pool::size_of(ns, h);
-    if limit(c.call, z) {
+    if at_limit(c.call, z) {
         return crate::end(s, k, c, Answer::Limit);
     }
     let mut x = c;
@@ -49,7 +49,7 @@ pub fn line24(s: State, k: usize, c: Task, ns: &mut [u32]) -> Stepped
         return crate::refused(s, 8);
     }
     let j = pool::number_of(t);
-    pool::put(ns, 34 * j + 1, 0);
+    pool::put(ns, 34 * (j as usize) + 1, 0);
     crate::go(s, k, c, 27)
 }
 
@@ -62,13 +62,13 @@ fn new_size(call: u32, z: u32) -> u32
             return 0;
         }
         let w = 2 * z;
-        if pool::is_listed_size(w) {
+        if pool::soundness::is_listed_size(w) {
             return w;
         }
         return 0;
     }
     let w = z / 2;
-    if pool::is_listed_size(w) {
+    if pool::soundness::is_listed_size(w) {
         return w;
     }
     0

@@ -1,54 +1,92 @@
-// The tags in the set, gathered in a bucket: those of the head's buckets and of its predecessor's that the set has.
+// The tags in the set: how many they are, and all of them in a bucket. A tag counts at the one place where it is looked up: place
+// number `tag mod size` of the head or, where that is empty, of the head's predecessor. So each tag of the buckets that the two nodes
+// place is looked at once.
 use bucket::Bucket;
 use bucket::Response;
 use spec::State;
 ghost use mathlib.Core.Path.{_≡_};
-ghost use mathlib.Core.Bool.{Bool, true, false, _&&_};
-ghost use mathlib.Core.List.{List, [], _∷_, foldr};
-ghost use Prim.Native.Nat.{ℕ, _+_, _-_, _*_, _≤_, _<_};
-ghost use lib.ListN.{length, drop};
-ghost use Rattle.spec.specs.Lists.{member, filter, add-tag};
-ghost use Rattle.spec.specs.Words.{number, filled, tags};
-ghost use Rattle.spec.specs.Sound.{sound-bucket, sound};
-ghost use Rattle.spec.specs.Listed.{in-set, node-tags, placed-tags, listed};
-ghost use Rattle.spec.specs.Machine.{machine-of};
-ghost use Rattle.listing.specs.Gathered.{Holds, Sets};
+ghost use Prim.Native.Nat.{_≤_};
+ghost use lib.ListN.{length};
+ghost use Rattle.listing.specs.Listing.{looked-up, place-tags, places-tags, set-tags, add-to, adds, nothing};
 
+// ---- where a tag is looked up
+
+// Place j of node k is where the tag is looked up. For the head's predecessor, `old`, the head's own place must be empty.
+fn is_looked_up(ns: &[u32], head: u32, k: u32, old: bool, j: u32, tag: u32) -> bool
+    ensures { λ r. ⌜ r ≡ looked-up (now (ns .entry)) head k old j tag ⌝ }
+{
+    let z = pool::size_at(ns, k);
+    let i = bucket::slot(tag, z);
+    if i != j {
+        return false;
+    }
+    if old {
+        let p = pool::place_for_at(ns, head, tag);
+        return p == 0;
+    }
+    true
+}
+
+// ---- how many
+
+fn count_place(ns: &[u32], bs: &[u32], head: u32, k: u32, old: bool, j: u32) -> u32
+    ensures { λ r. ⌜ (r ≡ length (place-tags (now (ns .entry)) (now (bs .entry)) head k old j)) × (r ≤ 64) ⌝ }
+{
+    let l = pool::place_at(ns, k, j);
+    if l == 0 {
+        return 0;
+    }
+    let b = pool::buckets::load(bs, l as usize - 1);
+    let w = b.words;
+    let n = b.count();
+    let mut found: u32 = 0;
+    let mut i = 0;
+    while i < n {
+        if is_looked_up(ns, head, k, old, j, w[2 + i]) {
+            found += 1;
+        }
+        i += 1;
+    }
+    found
+}
+
+fn count_node(ns: &[u32], bs: &[u32], head: u32, k: u32, old: bool) -> u32
+    ensures { λ r. ⌜ (r ≡ length (places-tags (now (ns .entry)) (now (bs .entry)) head k old 0 32)) × (r ≤ 2048) ⌝ }
+{
+    let mut found: u32 = 0;
+    let mut j: u32 = 0;
+    while j < 32 {
+        let n = count_place(ns, bs, head, k, old, j);
+        found += n;
+        j += 1;
+    }
+    found
+}
+
+pub fn count(s: State, ns: &[u32], bs: &[u32]) -> u32
+    ensures { λ r. ⌜ r ≡ length (set-tags (now (ns .entry)) (now (bs .entry)) (s .head)) ⌝ }
+{
+    let head = s.head;
+    let a = count_node(ns, bs, head, head, false);
+    let q = pool::pred_at(ns, head);
+    if q == 0 {
+        return a;
+    }
+    let k = pool::number_of(q);
+    let b = count_node(ns, bs, head, k, true);
+    a + b
+}
+
+// ---- which
+
+// A set of tags in a bucket, as long as they are at most 64.
 pub struct Gathered {
     pub full: bool,
     pub bucket: Bucket,
 }
 
-fn has_in(bs: &[u32], l: u32, tag: u32) -> bool
-    requires { ⌜ (l ≤ 1024) × (66 * l ≤ length (now bs)) × ((0 < l) → sound-bucket (drop (66 * (l - 1)) (now bs)) ≡ true) ⌝ }
-    ensures { λ r. ⌜ r ≡ (filled l && member tag (tags (now (bs .entry)) (number l))) ⌝ }
-{
-    if l == 0 {
-        return false;
-    }
-    bucket::has_at(bs, l as usize - 1, tag)
-}
-
-pub fn in_set(s: State, ns: &[u32], bs: &[u32], tag: u32) -> bool
-    requires { ⌜ sound (machine-of s (now ns) (now bs)) ≡ true ⌝ }
-    ensures { λ r. ⌜ r ≡ in-set (machine-of s (now (ns .entry)) (now (bs .entry))) tag ⌝ }
-{
-    let h = s.head + 1;
-    let p = pool::place_for(ns, h, tag);
-    if p != 0 {
-        return has_in(bs, p, tag);
-    }
-    let q = pool::pred_of(ns, h);
-    if q == 0 {
-        return false;
-    }
-    let r = pool::place_for(ns, q, tag);
-    has_in(bs, r, tag)
-}
-
 fn add_to(g: Gathered, tag: u32) -> Gathered
-    requires { ⌜ Sets g ⌝ }
-    ensures { λ r. ⌜ ((ts : List ℕ) → Holds g ts → Holds r (add-tag tag ts)) ⌝ }
+    ensures { λ r. ⌜ r ≡ add-to g tag ⌝ }
 {
     let full = g.full;
     if full {
@@ -70,70 +108,65 @@ fn add_to(g: Gathered, tag: u32) -> Gathered
     }
 }
 
-// Put in, if the set has it.
-fn offer(s: State, ns: &[u32], bs: &[u32], g: Gathered, tag: u32) -> Gathered
-    requires { ⌜ (sound (machine-of s (now ns) (now bs)) ≡ true) × Sets g ⌝ }
-    ensures { λ r. ⌜ ((ts : List ℕ) → Holds g ts → Holds r (foldr add-tag ts (filter (in-set (machine-of s (now (ns .entry)) (now (bs .entry)))) (tag ∷ [])))) ⌝ }
+fn gather_place(
+    ns: &[u32],
+    bs: &[u32],
+    head: u32,
+    k: u32,
+    old: bool,
+    j: u32,
+    g: Gathered,
+) -> Gathered
+    ensures { λ r. ⌜ r ≡ adds g (place-tags (now (ns .entry)) (now (bs .entry)) head k old j) ⌝ }
 {
-    if in_set(s, ns, bs, tag) {
-        return add_to(g, tag);
-    }
-    g
-}
-
-// The tags of a bucket, from the last to the first; none for no bucket.
-fn offer_bucket(s: State, ns: &[u32], bs: &[u32], g: Gathered, l: u32) -> Gathered
-    requires { ⌜ (sound (machine-of s (now ns) (now bs)) ≡ true) × (l ≤ s .buckets) × Sets g ⌝ }
-    ensures { λ r. ⌜ ((ts : List ℕ) → Holds g ts → Holds r (foldr add-tag ts (filter (in-set (machine-of s (now (ns .entry)) (now (bs .entry)))) (placed-tags (machine-of s (now (ns .entry)) (now (bs .entry))) l)))) ⌝ }
-{
+    let l = pool::place_at(ns, k, j);
     if l == 0 {
         return g;
     }
-    let k = l as usize - 1;
-    let b = bucket::load(bs, k);
+    let b = pool::buckets::load(bs, l as usize - 1);
     let w = b.words;
+    let n = b.count();
     let mut out = g;
-    let mut i = b.count();
-    while 0 < i {
-        let o = offer(s, ns, bs, out, w[1 + i]);
-        out = o;
-        i -= 1;
+    let mut i = 0;
+    while i < n {
+        let t = w[2 + i];
+        if is_looked_up(ns, head, k, old, j, t) {
+            let o = add_to(out, t);
+            out = o;
+        }
+        i += 1;
     }
     out
 }
 
-// The tags that a node's buckets have, from the last place to the first; none for no node.
-fn offer_node(s: State, ns: &[u32], bs: &[u32], g: Gathered, l: u32) -> Gathered
-    requires { ⌜ (sound (machine-of s (now ns) (now bs)) ≡ true) × (l ≤ s .nodes) × Sets g ⌝ }
-    ensures { λ r. ⌜ ((ts : List ℕ) → Holds g ts → Holds r (foldr add-tag ts (filter (in-set (machine-of s (now (ns .entry)) (now (bs .entry)))) (node-tags (machine-of s (now (ns .entry)) (now (bs .entry))) l)))) ⌝ }
+fn gather_node(ns: &[u32], bs: &[u32], head: u32, k: u32, old: bool, g: Gathered) -> Gathered
+    ensures { λ r. ⌜ r ≡ adds g (places-tags (now (ns .entry)) (now (bs .entry)) head k old 0 32) ⌝ }
 {
-    if l == 0 {
-        return g;
-    }
     let mut out = g;
-    let mut i: u32 = 32;
-    while 0 < i {
-        let p = pool::place_of(ns, l, i - 1);
-        let o = offer_bucket(s, ns, bs, out, p);
+    let mut j: u32 = 0;
+    while j < 32 {
+        let o = gather_place(ns, bs, head, k, old, j, out);
         out = o;
-        i -= 1;
+        j += 1;
     }
     out
 }
 
-// All tags in the set.
 pub fn gather(s: State, ns: &[u32], bs: &[u32]) -> Gathered
-    requires { ⌜ sound (machine-of s (now ns) (now bs)) ≡ true ⌝ }
-    ensures { λ r. ⌜ Holds r (listed (machine-of s (now (ns .entry)) (now (bs .entry)))) ⌝ }
+    ensures { λ r. ⌜ r ≡ adds nothing (set-tags (now (ns .entry)) (now (bs .entry)) (s .head)) ⌝ }
 {
+    let head = s.head;
     let mut w = [0u32; 66];
     w[0] = 1;
     let z = Gathered {
         full: false,
         bucket: Bucket { words: w },
     };
-    let h = s.head + 1;
-    let q = pool::pred_of(ns, h);
-    let x = offer_node(s, ns, bs, z, q);
-    offer_node(s, ns, bs, x, h)
+    let x = gather_node(ns, bs, head, head, false, z);
+    let q = pool::pred_at(ns, head);
+    if q == 0 {
+        return x;
+    }
+    let k = pool::number_of(q);
+    gather_node(ns, bs, head, k, true, x)
 }

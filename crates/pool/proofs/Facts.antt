@@ -182,3 +182,14 @@ module _ (y : Machine) (s : sound y ≡ true) where
   task-fact k x h r =
       let g : sound-task y (0 + k) (getD (y .state .task) k x) ≡ true = nth-task y 0 (y .state .task) k x (tasks-of y s) h in
       runs-fact (0 + k) (getD (y .state .task) k x) (sym (task-runs y (0 + k) (getD (y .state .task) k x) r) ∙ g)
+
+  -- a link within the bucket pool
+  pub record Link (l : ℕ) : Type 0 where
+    pub most : l ≤ 1024
+    pub fits : 66 * l ≤ length (y .buckets)
+    pub good : 0 < l → sound-bucket (drop (66 * (l - 1)) (y .buckets)) ≡ true
+
+  pub link-of : (l : ℕ) → l ≤ y .state .buckets → Link l
+  link-of l h =
+      let n = numbers-of y s in
+      record { most = omega arith; fits = omega arith; good = λ z. bucket-fact (l - 1) (omega arith) }

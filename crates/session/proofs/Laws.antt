@@ -1,4 +1,4 @@
--- Laws of the grammar and of printing, in the form in which the code's loops and branches use them.
+-- Laws of the grammar and of printing that the proofs of the functions cite, in the form in which loops and branches use them.
 -- Assumes nothing.
 use mathlib.Core.Path.{_≡_, refl, sym, ap, _∙_}
 use mathlib.Core.List.{List, [], _∷_, _++_}
@@ -14,6 +14,7 @@ use Rattle.session.specs.declared.Decimal.the-variants.{Value, NotDecima
 use Rattle.session.specs.declared.EventLine.the-variants.{Outside}
 use Rattle.session.specs.Grammar.{starts-with, equals, comma-position, parse-digits, parse-number, parse-call}
 use Rattle.session.specs.Print.{decimal-digits, key-line, tag-lines}
+use Rattle.session.specs.BufferLaws.{append-both}
 use Rattle.session.specs.Buffer.{Buffer, buffer, append-byte, append}
 
 -- ---- byte strings
@@ -83,7 +84,7 @@ module _ (n : ℕ) (s : List ℕ) (i : ℕ) where
     unfolding parse-digits
     digits-on l g o = rw (add-one, drop-cons s i 0 h, ← e, le-leb _ _ l, le-leb _ _ g, le-leb _ _ o)
 
--- a parse-number by its first byte
+-- a number by its first byte
 pub number-none : (s : List ℕ) → length s ≡ 0 → parse-number s ≡ NotDecimal
 unfolding parse-number
 number-none [] h = refl
@@ -117,15 +118,6 @@ pub append-out : (bytes : List ℕ) (at b : ℕ) → length bytes ≤ at → app
 unfolding append-byte
 append-out bytes at b h = rw (le-ltb _ _ h)
 
-pub append-one : (b : ℕ) (t : Buffer) → append (b ∷ []) t ≡ append-byte b t
-unfolding append
-append-one b t = refl
-
-pub append-append : (xs ys : List ℕ) (t : Buffer) → append (xs ++ ys) t ≡ append ys (append xs t)
-unfolding append
-append-append [] ys t = refl
-append-append (x ∷ xs) ys t = append-append xs ys (append-byte x t)
-
 pub append-on : (s : List ℕ) (i : ℕ) (t : Buffer) → i < length s → append (drop i s) t ≡ append (drop (i + 1) s) (append-byte (getD s i 0) t)
 unfolding append
 append-on s i t h = rw (add-one, drop-cons s i 0 h)
@@ -136,13 +128,13 @@ append-end s i t h = rw (drop-of-length-le s h)
 
 pub tags-on : (ts : List ℕ) (i : ℕ) (t : Buffer) → i < length ts → append (tag-lines (drop i ts)) t ≡ append (tag-lines (drop (i + 1) ts)) (append (key-line (116 ∷ 97 ∷ 103 ∷ 61 ∷ []) (getD ts i 0)) t)
 unfolding tag-lines
-tags-on ts i t h = rw (add-one, drop-cons ts i 0 h) (append-append _ _ t)
+tags-on ts i t h = rw (add-one, drop-cons ts i 0 h) (append-both _ _ t)
 
 pub tags-end : (ts : List ℕ) (i : ℕ) (t : Buffer) → length ts ≤ i → append (tag-lines (drop i ts)) t ≡ t
 unfolding tag-lines append
 tags-end ts i t h = rw (drop-of-length-le ts h)
 
--- a parse-number below ten, and one from ten on
+-- a number below ten, and one from ten on
 pub decimal-one : (p n : ℕ) → n < 10 → decimal-digits (suc p) n ≡ (48 + n) ∷ []
 unfolding decimal-digits
 decimal-one p n h = rw (lt-ltb _ _ h)
@@ -153,7 +145,7 @@ decimal-more p n h = rw (le-ltb _ _ h)
 
 -- several printed one after the other
 pub append-2 : (x y : List ℕ) (t u v : Buffer) → u ≡ append x t → v ≡ append y u → v ≡ append (x ++ y) t
-append-2 x y t u v p q = q ∙ ap (append y) p ∙ sym (append-append x y t)
+append-2 x y t u v p q = q ∙ ap (append y) p ∙ sym (append-both x y t)
 
 pub append-3 : (x y z : List ℕ) (t u v w : Buffer) → u ≡ append x t → v ≡ append y u → w ≡ append z v → w ≡ append (x ++ y ++ z) t
 append-3 x y z t u v w p q r = append-2 (x ++ y) z t v w (append-2 x y t u v p q) r

@@ -7,8 +7,9 @@ use Prim.Native.Nat.{ℕ, suc, _+_, _<_, _≤_, min}
 use native.Mathlib.Omega.{arith}
 use borrow.Author.Tests.{lt-ltb, le-ltb, ltb-true, ltb-false}
 use lib.Dec.{ltb}
-use lib.ListN.{length, take, drop, set, length-append, take-append-drop}
+use lib.ListN.{length, take, drop, set, length-append, length-set, take-append-drop}
 use lib.Seq.{length-take-le, take-all, take-at}
+use Rattle.spec.specs.Lists.{if_then_else_}
 use Rattle.session.specs.Buffer.{Buffer, buffer, append-byte, append, Written}
 
 -- appended one after the other
@@ -99,6 +100,26 @@ written-within bs before after count w = let c = w .counted in omega arith
 
 pub append-within : (bs before after : List ℕ) (count : ℕ) → buffer after count ≡ append bs (buffer before 0) → count ≤ length before
 append-within bs before after count e = written-within bs before after count (append-written bs before after count e)
+
+-- the same from a place in the middle on
+append-place : (bs : List ℕ) (t : Buffer) → t .at ≤ length (t .bytes) → append bs t .at ≤ length (t .bytes)
+unfolding append append-byte
+append-place [] t h = h
+append-place (b ∷ bs) t h = go (ltb (t .at) (length (t .bytes))) refl (append-place bs)
+  where
+    go : (a : Bool) → ltb (t .at) (length (t .bytes)) ≡ a → ((u : Buffer) → u .at ≤ length (u .bytes) → append bs u .at ≤ length (u .bytes))
+        → append bs (if a then buffer (set (t .bytes) (t .at) b) (t .at + 1) else t) .at ≤ length (t .bytes)
+    go true e ih =
+        let l : length (set (t .bytes) (t .at) b) ≡ length (t .bytes) = length-set (t .bytes) (t .at) b in
+        let k : t .at < length (t .bytes) = ltb-true _ _ e in
+        omega (arith, ih (buffer (set (t .bytes) (t .at) b) (t .at + 1)) (omega arith))
+    go false e ih = ih t h
+
+pub append-on-within : (bs before after : List ℕ) (from count : ℕ) → from ≤ length before → buffer after count ≡ append bs (buffer before from)
+    → count ≤ length before
+append-on-within bs before after from count h e =
+    let c : count ≡ append bs (buffer before from) .at = ap (λ (t : Buffer). t .at) e in
+    omega (arith, append-place bs (buffer before from) h)
 
 -- where the buffer has room, its first bytes are those, all of them
 pub written-whole : (bs before after : List ℕ) (count : ℕ) → Written bs before after count → length bs ≤ length before

@@ -29,7 +29,7 @@ use Rattle.session_lines.specs.declared.Phase.{Phase}
 use Rattle.session_lines.specs.declared.Phase.the-variants.{Events, Stopped}
 use Rattle.session_lines.specs.declared.Session.{Session}
 use Rattle.session_lines.specs.declared.Handled.{Handled}
-use Rattle.session_lines.specs.Handling.{session, SessionEffect, SessionHandled, LineHandled, keeping, extent, node-extent, bucket-extent, node-part, bucket-part, session-machine, with-machine, opened-effect, open-effect, reply-effect, phase-effect, line-effect, phase-end, end-output, phase-unclosed, unclosed-output}
+use Rattle.session_lines.specs.Handling.{session, SessionEffect, SessionHandled, LineHandled, pools-kept, extent, node-extent, bucket-extent, node-part, bucket-part, session-machine, with-machine, opened-effect, open-effect, reply-effect, phase-effect, line-effect, phase-end, end-output, phase-unclosed, unclosed-output}
 
 abbrev pub handled : Session → ℕ → Handled
 handled s n = record { session = s; printed = n }
@@ -69,8 +69,8 @@ unfolding append
 nothing-appended t = refl
 
 pub keeps : (d : SessionEffect) (r : Handled) (ns bs before after : List ℕ) → SessionHandled d r before after
-    → LineHandled (keeping d ns bs) r ns bs before after
-unfolding keeping
+    → LineHandled (pools-kept d ns bs) r ns bs before after
+unfolding pools-kept
 keeps d r ns bs before after h = record { next = h .next; nodes = refl; buckets = refl; wrote = h .wrote }
 
 -- ---- an entry over the session's part of the pools
@@ -235,5 +235,5 @@ module _ (s : Session) (p : Phase) (e : s .phase ≡ p) where
 -- nothing is done once the session has stopped
 pub does-nothing : (s : Session) (ns bs : List ℕ) (l : InputLine) (before : List ℕ)
     → LineHandled (phase-effect Stopped s ns bs l) (handled s 0) ns bs before before
-unfolding phase-effect keeping
+unfolding phase-effect pools-kept
 does-nothing s ns bs l before = record { next = refl; nodes = refl; buckets = refl; wrote = nothing-appended (buffer before 0) }

@@ -45,8 +45,8 @@ pub record LineEffect : Type 0 where
   pub buckets : List ℕ
   pub prints : List ℕ
 
-unfoldable pub keeping : SessionEffect → List ℕ → List ℕ → LineEffect
-keeping d ns bs = record { session = d .session; nodes = ns; buckets = bs; prints = d .prints }
+unfoldable pub pools-kept : SessionEffect → List ℕ → List ℕ → LineEffect
+pools-kept d ns bs = record { session = d .session; nodes = ns; buckets = bs; prints = d .prints }
 
 -- "After 10, or a refused opening, it prints nothing more."
 unfoldable pub stopped : Session → ℕ → SessionEffect
@@ -107,7 +107,7 @@ open-effect s ns bs = opened-effect (opening (s .tasks) (node-part s ns) (bucket
 
 unfoldable pub buckets-effect : Session → Decimal → List ℕ → List ℕ → LineEffect
 buckets-effect s (Value b) ns bs = open-effect (session Buckets (s .tasks) (s .nodes) b (s .state)) ns bs
-buckets-effect s NotDecimal ns bs = keeping (stopped s 10) ns bs
+buckets-effect s NotDecimal ns bs = pools-kept (stopped s 10) ns bs
 
 -- ---- the events
 
@@ -118,16 +118,16 @@ reply-effect k r s ns bs = with-machine Events (output-line k (r .out)) (r .mach
 unfoldable pub event-effect : Session → EventLine → List ℕ → List ℕ → LineEffect
 event-effect s (Start k call tag) ns bs = reply-effect k (start (session-machine s ns bs) k call tag) s ns bs
 event-effect s (Step k) ns bs = reply-effect k (step (session-machine s ns bs) k) s ns bs
-event-effect s Outside ns bs = keeping (stopped s 10) ns bs
+event-effect s Outside ns bs = pools-kept (stopped s 10) ns bs
 
 -- ---- a line, by where the session stands
 
 unfoldable pub phase-effect : Phase → Session → List ℕ → List ℕ → InputLine → LineEffect
-phase-effect Tasks s ns bs l = keeping (tasks-effect s (parse-header-line tasks-key l)) ns bs
-phase-effect Nodes s ns bs l = keeping (nodes-effect s (parse-header-line nodes-key l)) ns bs
+phase-effect Tasks s ns bs l = pools-kept (tasks-effect s (parse-header-line tasks-key l)) ns bs
+phase-effect Nodes s ns bs l = pools-kept (nodes-effect s (parse-header-line nodes-key l)) ns bs
 phase-effect Buckets s ns bs l = buckets-effect s (parse-header-line buckets-key l) ns bs
 phase-effect Events s ns bs l = event-effect s (parse-event-line l) ns bs
-phase-effect Stopped s ns bs l = keeping (record { session = s; prints = [] }) ns bs
+phase-effect Stopped s ns bs l = pools-kept (record { session = s; prints = [] }) ns bs
 
 unfoldable pub line-effect : Session → List ℕ → List ℕ → InputLine → LineEffect
 line-effect s ns bs l = phase-effect (s .phase) s ns bs l

@@ -21,14 +21,14 @@ use Rattle.session.specs.Grammar.{InputLine, parse-header-line, parse-event-lin
 use Rattle.session.specs.Print.{refusal-line, output-line}
 use Rattle.session.specs.Transcript.{add-event, events, is-event, all-events, task-in, output-lines, end-lines, ran-lines, event-lines, pool-words, session-opening, opened-lines, header-of, read-header, header-lines, lines-transcript}
 use Rattle.session_lines.specs.declared.Phase.the-variants.{Tasks, Nodes, Buckets, Events, Stopped}
-use Rattle.session_lines.specs.Handling.{session, new-session, keeping, stopped, tasks-effect, nodes-effect, node-extent, bucket-extent, node-part, bucket-part, session-machine, with-machine, opened-effect, open-effect, buckets-effect, reply-effect, event-effect, phase-effect, line-effect, phase-end, end-output, lines-output}
+use Rattle.session_lines.specs.Handling.{session, new-session, pools-kept, stopped, tasks-effect, nodes-effect, node-extent, bucket-extent, node-part, bucket-part, session-machine, with-machine, opened-effect, open-effect, buckets-effect, reply-effect, event-effect, phase-effect, line-effect, phase-end, end-output, lines-output}
 use Rattle.session_lines.specs.PoolLengths.{event-lengths}
 use Rattle.session_lines.specs.Openings.{part-length, part-words, machine-back, Alike, opening-same, opening-lengths}
 
 -- ---- a session that has stopped prints nothing more
 
 stopped-silent : (ls : List InputLine) (t h b : ℕ) (m : State) (ns bs : List ℕ) → lines-output (session Stopped t h b m) ns bs ls ≡ []
-unfolding lines-output line-effect phase-effect keeping end-output phase-end
+unfolding lines-output line-effect phase-effect pools-kept end-output phase-end
 stopped-silent [] t h b m ns bs = refl
 stopped-silent (l ∷ ls) t h b m ns bs = stopped-silent ls t h b m ns bs
 
@@ -70,7 +70,7 @@ module _ (t h b : ℕ) (m : State) (ns bs : List ℕ) (e : Event) (k : ℕ) (ls 
 
 events-print : (ls : List InputLine) (t h b : ℕ) (m : State) (ns bs : List ℕ)
     → lines-output (session Events t h b m) ns bs ls ≡ event-lines (session-machine (session Events t h b m) ns bs) ls
-unfolding lines-output line-effect phase-effect end-output phase-end event-effect keeping stopped event event-lines ran-lines events all-events add-event is-event task-in run output-lines end-lines
+unfolding lines-output line-effect phase-effect end-output phase-end event-effect pools-kept stopped event event-lines ran-lines events all-events add-event is-event task-in run output-lines end-lines
 events-print [] t h b m ns bs = refl
 events-print (l ∷ ls) t h b m ns bs = go (λ t' h' b' m' ns' bs'. events-print ls t' h' b' m' ns' bs') (parse-event-line l) refl
   where
@@ -133,38 +133,38 @@ module _ (ns bs : List ℕ) (nodes-fit : 2176 ≤ length ns) (buckets-fit : 1320
 
   third : (t h b : ℕ) (m : State) (x : Decimal) (l : InputLine) (ls : List InputLine) → parse-header-line buckets-key l ≡ x
       → lines-output (session Buckets t h b m) ns bs (l ∷ ls) ≡ header-lines (header-of (Value t) (Value h) x ls)
-  unfolding lines-output line-effect phase-effect buckets-effect keeping stopped header-of header-lines
+  unfolding lines-output line-effect phase-effect buckets-effect pools-kept stopped header-of header-lines
   third t h b m (Value x) l ls q = rw q (open-prints t h x m ls)
   third t h b m NotDecimal l ls q = rw q (refusal-last 10 ls t h b m ns bs)
 
   second : (t h b : ℕ) (m : State) (x : Decimal) (k l : InputLine) (ls : List InputLine) → parse-header-line nodes-key k ≡ x
       → lines-output (session Nodes t h b m) ns bs (k ∷ l ∷ ls) ≡ header-lines (header-of (Value t) x (parse-header-line buckets-key l) ls)
-  unfolding lines-output line-effect phase-effect nodes-effect keeping stopped header-of header-lines
+  unfolding lines-output line-effect phase-effect nodes-effect pools-kept stopped header-of header-lines
   second t h b m (Value x) k l ls q = rw q (third t x b m (parse-header-line buckets-key l) l ls refl)
   second t h b m NotDecimal k l ls q = rw q (refusal-last 10 (l ∷ ls) t h b m ns bs)
 
   first : (t h b : ℕ) (m : State) (x : Decimal) (j k l : InputLine) (ls : List InputLine) → parse-header-line tasks-key j ≡ x
       → lines-output (session Tasks t h b m) ns bs (j ∷ k ∷ l ∷ ls) ≡ header-lines (header-of x (parse-header-line nodes-key k) (parse-header-line buckets-key l) ls)
-  unfolding lines-output line-effect phase-effect tasks-effect keeping stopped header-of header-lines
+  unfolding lines-output line-effect phase-effect tasks-effect pools-kept stopped header-of header-lines
   first t h b m (Value x) j k l ls q = rw q (second x h b m (parse-header-line nodes-key k) k l ls refl)
   first t h b m NotDecimal j k l ls q = rw q (refusal-last 10 (k ∷ l ∷ ls) t h b m ns bs)
 
   -- fewer than three
   only-one : (t h b : ℕ) (m : State) (x : Decimal) (j : InputLine) → parse-header-line tasks-key j ≡ x
       → lines-output (session Tasks t h b m) ns bs (j ∷ []) ≡ refusal-line 10
-  unfolding lines-output line-effect phase-effect tasks-effect keeping stopped end-output phase-end
+  unfolding lines-output line-effect phase-effect tasks-effect pools-kept stopped end-output phase-end
   only-one t h b m (Value x) j q = rw q
   only-one t h b m NotDecimal j q = rw q (refusal-last 10 [] t h b m ns bs)
 
   only-second : (t h b : ℕ) (m : State) (x : Decimal) (k : InputLine) → parse-header-line nodes-key k ≡ x
       → lines-output (session Nodes t h b m) ns bs (k ∷ []) ≡ refusal-line 10
-  unfolding lines-output line-effect phase-effect nodes-effect keeping stopped end-output phase-end
+  unfolding lines-output line-effect phase-effect nodes-effect pools-kept stopped end-output phase-end
   only-second t h b m (Value x) k q = rw q
   only-second t h b m NotDecimal k q = rw q (refusal-last 10 [] t h b m ns bs)
 
   only-two : (t h b : ℕ) (m : State) (x : Decimal) (j k : InputLine) → parse-header-line tasks-key j ≡ x
       → lines-output (session Tasks t h b m) ns bs (j ∷ k ∷ []) ≡ refusal-line 10
-  unfolding lines-output line-effect phase-effect tasks-effect keeping stopped
+  unfolding lines-output line-effect phase-effect tasks-effect pools-kept stopped
   only-two t h b m (Value x) j k q = rw q (only-second x h b m (parse-header-line nodes-key k) k refl)
   only-two t h b m NotDecimal j k q = rw q (refusal-last 10 (k ∷ []) t h b m ns bs)
 

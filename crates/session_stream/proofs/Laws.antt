@@ -21,7 +21,7 @@ use Rattle.session_lines.specs.declared.Handled.{Handled}
 use Rattle.session_lines.specs.Handling.{LineEffect, new-session, line-effect, end-output, unclosed-output, LineHandled}
 use Rattle.session_stream.specs.declared.PartialLine.{PartialLine}
 use Rattle.session_stream.specs.declared.Fed.{Fed}
-use Rattle.session_stream.specs.Stream.{partial, empty-line, line-bytes, pushed, Progress, begin, handled, kept, feed, feeds, stream-end, stream-output, streamed, Fed-as, Ended-as}
+use Rattle.session_stream.specs.Stream.{partial, empty-line, line-bytes, pushed, Progress, begin, handled, kept, feed, feeds, stream-end, stream-output, streamed, FedAs, EndedAs}
 use Rattle.session_stream.specs.PrintsTranscript.{stream-prints-transcript}
 
 abbrev pub fed : Session → PartialLine → ℕ → Fed
@@ -49,7 +49,7 @@ nothing-appended t = refl
 module _ (s : Session) (h : PartialLine) (ns bs : List ℕ) where
   pub feeds-line : (x n : ℕ) (r : Handled) (n' b' before after : List ℕ) → x ≡ 10 → take n (h .bytes) ≡ line-bytes h
       → LineHandled (line-effect s ns bs (closed-line (take n (h .bytes)))) r n' b' before after
-      → Fed-as (feed (begin s h ns bs) x) (fed (r .session) (partial (h .bytes) 0) (r .printed)) n' b' before after
+      → FedAs (feed (begin s h ns bs) x) (fed (r .session) (partial (h .bytes) 0) (r .printed)) n' b' before after
   unfolding feed handled
   feeds-line x n r n' b' before after z e d =
       let f : LineHandled (line-effect s ns bs (closed-line (line-bytes h))) r n' b' before after =
@@ -57,7 +57,7 @@ module _ (s : Session) (h : PartialLine) (ns bs : List ℕ) where
       rw (eq-eqb _ _ z) (record { session = f .next; line = refl; nodes = f .nodes; buckets = f .buckets; wrote = f .wrote })
 
   pub feeds-byte : (x : ℕ) (q : PartialLine) (before : List ℕ) → (x ≡ 10 → ⊥) → q ≡ pushed h x
-      → Fed-as (feed (begin s h ns bs) x) (fed s q 0) ns bs before before
+      → FedAs (feed (begin s h ns bs) x) (fed s q 0) ns bs before before
   unfolding feed kept
   feeds-byte x q before z e =
       rw (ne-eqb _ _ z) (record { session = refl; line = e; nodes = refl; buckets = refl; wrote = nothing-appended (buffer before 0) })
@@ -146,9 +146,9 @@ feed-same p x = go (eqb x newline)
     go false = (refl, refl, refl, refl)
 
 -- a byte after others
-feeds-on : (p : Progress) (s : Session) (h : PartialLine) (a : ℕ) (ns bs first out : List ℕ) → Fed-as p (fed s h a) ns bs first out → length out ≡ length first
-    → (x : ℕ) (r : Fed) (n' b' tail : List ℕ) → Fed-as (feed (begin s h ns bs) x) r n' b' (take (length out - a) (drop a out)) tail
-    → Fed-as (feed p x) (fed (r .session) (r .line) (a + r .printed)) n' b' first (take a out ++ (tail ++ drop (length out - a) (drop a out)))
+feeds-on : (p : Progress) (s : Session) (h : PartialLine) (a : ℕ) (ns bs first out : List ℕ) → FedAs p (fed s h a) ns bs first out → length out ≡ length first
+    → (x : ℕ) (r : Fed) (n' b' tail : List ℕ) → FedAs (feed (begin s h ns bs) x) r n' b' (take (length out - a) (drop a out)) tail
+    → FedAs (feed p x) (fed (r .session) (r .line) (a + r .printed)) n' b' first (take a out ++ (tail ++ drop (length out - a) (drop a out)))
 feeds-on p s h a ns bs first out f l x r n' b' tail g =
     let w : a ≤ length out = omega (arith, append-within (p .prints) first out a (f .wrote)) in
     let e : begin s h ns bs ≡ begin (p .session) (p .line) (p .nodes) (p .buckets) = cc (f .session, f .line, f .nodes, f .buckets) in
@@ -171,9 +171,9 @@ feeds-both p (x ∷ xs) ys = feeds-both (feed p x) xs ys
 
 -- byte i after the first i bytes
 pub feeds-next : (p : Progress) (xs : List ℕ) (i : ℕ) → i < length xs → (s : Session) (h : PartialLine) (a : ℕ) (ns bs first out : List ℕ)
-    → Fed-as (feeds p (take i xs)) (fed s h a) ns bs first out → length out ≡ length first
-    → (r : Fed) (n' b' tail : List ℕ) → Fed-as (feed (begin s h ns bs) (getD xs i 0)) r n' b' (take (length out - a) (drop a out)) tail
-    → Fed-as (feeds p (take (i + 1) xs)) (fed (r .session) (r .line) (a + r .printed)) n' b' first (take a out ++ (tail ++ drop (length out - a) (drop a out)))
+    → FedAs (feeds p (take i xs)) (fed s h a) ns bs first out → length out ≡ length first
+    → (r : Fed) (n' b' tail : List ℕ) → FedAs (feed (begin s h ns bs) (getD xs i 0)) r n' b' (take (length out - a) (drop a out)) tail
+    → FedAs (feeds p (take (i + 1) xs)) (fed (r .session) (r .line) (a + r .printed)) n' b' first (take a out ++ (tail ++ drop (length out - a) (drop a out)))
 unfolding feeds
 feeds-next p xs i j s h a ns bs first out f l r n' b' tail g =
     let e : feeds p (take (i + 1) xs) ≡ feed (feeds p (take i xs)) (getD xs i 0) =
@@ -181,11 +181,11 @@ feeds-next p xs i j s h a ns bs first out f l r n' b' tail g =
     rw e (feeds-on (feeds p (take i xs)) s h a ns bs first out f l (getD xs i 0) r n' b' tail g)
 
 pub feeds-all : (p : Progress) (xs : List ℕ) (i : ℕ) → length xs ≤ i → (r : Fed) (ns bs first out : List ℕ)
-    → Fed-as (feeds p (take i xs)) r ns bs first out → Fed-as (feeds p xs) r ns bs first out
-feeds-all p xs i h r ns bs first out f = subst (λ (l : List ℕ). Fed-as (feeds p l) r ns bs first out) (take-all i xs h) f
+    → FedAs (feeds p (take i xs)) r ns bs first out → FedAs (feeds p xs) r ns bs first out
+feeds-all p xs i h r ns bs first out f = subst (λ (l : List ℕ). FedAs (feeds p l) r ns bs first out) (take-all i xs h) f
 
 -- no byte yet
-pub feeds-none : (s : Session) (h : PartialLine) (ns bs out : List ℕ) → Fed-as (feeds (begin s h ns bs) []) (fed s h 0) ns bs out out
+pub feeds-none : (s : Session) (h : PartialLine) (ns bs out : List ℕ) → FedAs (feeds (begin s h ns bs) []) (fed s h 0) ns bs out out
 unfolding feeds
 feeds-none s h ns bs out = record { session = refl; line = refl; nodes = refl; buckets = refl; wrote = nothing-appended (buffer out 0) }
 
@@ -193,14 +193,14 @@ feeds-none s h ns bs out = record { session = refl; line = refl; nodes = refl; b
 
 pub ends-session : (s : Session) (h : PartialLine) → s ≡ new-session → h ≡ empty-line
     → (input ns bs first : List ℕ) (f : Fed) (n' b' out q : List ℕ) (n : ℕ)
-    → Fed-as (feeds (begin s h ns bs) input) f n' b' first out → length out ≡ length first
+    → FedAs (feeds (begin s h ns bs) input) f n' b' first out → length out ≡ length first
     → buffer q n ≡ append (stream-end (begin (f .session) (f .line) n' b')) (buffer (take (length out - f .printed) (drop (f .printed) out)) 0)
-    → Ended-as input ns bs first (f .printed + n) n' b' (take (f .printed) out ++ (q ++ drop (length out - f .printed) (drop (f .printed) out)))
+    → EndedAs input ns bs first (f .printed + n) n' b' (take (f .printed) out ++ (q ++ drop (length out - f .printed) (drop (f .printed) out)))
 unfolding streamed stream-output stream-end
 ends-session s h es eh input ns bs first f n' b' out q n g' l e =
     let p = feeds (begin new-session empty-line ns bs) input in
     let x : begin s h ns bs ≡ begin new-session empty-line ns bs = cc (es, eh) in
-    let g : Fed-as p f n' b' first out = subst (λ (r : Progress). Fed-as (feeds r input) f n' b' first out) x g' in
+    let g : FedAs p f n' b' first out = subst (λ (r : Progress). FedAs (feeds r input) f n' b' first out) x g' in
     let w : f .printed ≤ length out = omega (arith, append-within (p .prints) first out (f .printed) (g .wrote)) in
     let z : begin (f .session) (f .line) n' b' ≡ begin (p .session) (p .line) (p .nodes) (p .buckets) = cc (g .session, g .line, g .nodes, g .buckets) in
     record {
@@ -213,7 +213,7 @@ ends-session s h es eh input ns bs first f n' b' out q n g' l e =
     }
 
 -- over pools that are long enough it is the transcript
-pub ends-transcript : (input ns bs first : List ℕ) (n : ℕ) (n' b' out : List ℕ) → Ended-as input ns bs first n n' b' out
+pub ends-transcript : (input ns bs first : List ℕ) (n : ℕ) (n' b' out : List ℕ) → EndedAs input ns bs first n n' b' out
     → 2176 ≤ length ns → 13200 ≤ length bs → Written (transcript input) first out n
 ends-transcript input ns bs first n n' b' out e f g =
     subst (λ (t : List ℕ). Written t first out n) (stream-prints-transcript ns bs f g input) (e .wrote)

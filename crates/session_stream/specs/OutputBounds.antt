@@ -26,7 +26,7 @@ use Rattle.session.specs.OutputLengths.{refusal-length, output-length, listing-
 use Rattle.session_lines.specs.declared.Phase.{Phase}
 use Rattle.session_lines.specs.declared.Phase.the-variants.{Tasks, Nodes, Buckets, Events, Stopped}
 use Rattle.session_lines.specs.declared.Session.{Session}
-use Rattle.session_lines.specs.Handling.{new-session, session, session-machine, keeping, stopped, tasks-effect, nodes-effect, with-machine, opened-effect, open-effect, buckets-effect, reply-effect, event-effect, phase-effect, line-effect, phase-end, end-output, phase-unclosed, unclosed-output}
+use Rattle.session_lines.specs.Handling.{new-session, session, session-machine, pools-kept, stopped, tasks-effect, nodes-effect, with-machine, opened-effect, open-effect, buckets-effect, reply-effect, event-effect, phase-effect, line-effect, phase-end, end-output, phase-unclosed, unclosed-output}
 use Rattle.session_stream.specs.Stream.{empty-line, line-bytes, Progress, begin, handled, kept, feed, feeds, stream-end, stream-output, streamed}
 use Rattle.session_stream.specs.PrintsTranscript.{stream-prints-transcript}
 
@@ -51,18 +51,18 @@ opened-bound o s ns bs = go (eqb (o .refusal) 0)
     go false = omega (arith, refusal-length (o .refusal))
 
 buckets-bound : (s : Session) (x : Decimal) (ns bs : List ℕ) → length (buckets-effect s x ns bs .prints) ≤ 52
-unfolding buckets-effect open-effect keeping stopped
+unfolding buckets-effect open-effect pools-kept stopped
 buckets-bound s (Value b) ns bs = opened-bound _ (session Buckets (s .tasks) (s .nodes) b (s .state)) ns bs
 buckets-bound s NotDecimal ns bs = omega (arith, refusal-length 10)
 
 event-bound : (s : Session) (x : EventLine) (ns bs : List ℕ) → length (event-effect s x ns bs .prints) ≤ 52
-unfolding event-effect reply-effect with-machine keeping stopped
+unfolding event-effect reply-effect with-machine pools-kept stopped
 event-bound s (Start k call tag) ns bs = output-length k _
 event-bound s (Step k) ns bs = output-length k _
 event-bound s Outside ns bs = omega (arith, refusal-length 10)
 
 pub line-bound : (s : Session) (ns bs : List ℕ) (l : InputLine) → length (line-effect s ns bs l .prints) ≤ 52
-unfolding line-effect phase-effect keeping
+unfolding line-effect phase-effect pools-kept
 line-bound s ns bs l = go (s .phase)
   where
     go : (p : Phase) → length (phase-effect p s ns bs l .prints) ≤ 52

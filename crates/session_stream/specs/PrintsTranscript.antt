@@ -19,7 +19,7 @@ use Rattle.session.specs.Transcript.{transcript}
 use Rattle.session_lines.specs.declared.Phase.{Phase}
 use Rattle.session_lines.specs.declared.Phase.the-variants.{Tasks, Nodes, Buckets, Events, Stopped}
 use Rattle.session_lines.specs.declared.Session.{Session}
-use Rattle.session_lines.specs.Handling.{LineEffect, new-session, session-machine, keeping, stopped, tasks-effect, nodes-effect, buckets-effect, event-effect, phase-effect, line-effect, phase-end, end-output, phase-unclosed, unclosed-output, lines-output}
+use Rattle.session_lines.specs.Handling.{LineEffect, new-session, session-machine, pools-kept, stopped, tasks-effect, nodes-effect, buckets-effect, event-effect, phase-effect, line-effect, phase-end, end-output, phase-unclosed, unclosed-output, lines-output}
 use Rattle.session_lines.specs.PrintsTranscript.{lines-print-transcript}
 use Rattle.session_stream.specs.declared.PartialLine.{PartialLine}
 use Rattle.session_stream.specs.Stream.{partial, empty-line, line-bytes, pushed, Progress, begin, handled, kept, feed, feeds, stream-end, stream-output, streamed}
@@ -66,8 +66,8 @@ module _ (l : List ℕ) where
   short-effect s ns bs = go (s .phase)
     where
       go : (p : Phase) → phase-effect p s ns bs (closed-line (take 41 l)) ≡ phase-effect p s ns bs (closed-line l)
-      go Tasks = ap (λ (x : Decimal). keeping (tasks-effect s x) ns bs) (short-header tasks-key)
-      go Nodes = ap (λ (x : Decimal). keeping (nodes-effect s x) ns bs) (short-header nodes-key)
+      go Tasks = ap (λ (x : Decimal). pools-kept (tasks-effect s x) ns bs) (short-header tasks-key)
+      go Nodes = ap (λ (x : Decimal). pools-kept (nodes-effect s x) ns bs) (short-header nodes-key)
       go Buckets = ap (λ (x : Decimal). buckets-effect s x ns bs) (short-header buckets-key)
       go Events = ap (λ (x : EventLine). event-effect s x ns bs) short-event
       go Stopped = refl
@@ -75,7 +75,7 @@ module _ (l : List ℕ) where
 -- ---- a line that is not closed is the last one
 
 unclosed-last : (l : List ℕ) (s : Session) (ns bs : List ℕ) → lines-output s ns bs (open-line l ∷ []) ≡ unclosed-output s
-unfolding lines-output line-effect unclosed-output phase-effect keeping stopped tasks-effect nodes-effect buckets-effect event-effect parse-header-line parse-event-line admissible end-output phase-end phase-unclosed
+unfolding lines-output line-effect unclosed-output phase-effect pools-kept stopped tasks-effect nodes-effect buckets-effect event-effect parse-header-line parse-event-line admissible end-output phase-end phase-unclosed
 unclosed-last l s ns bs = go (s .phase) refl
   where
     after : Phase → List ℕ
@@ -92,22 +92,22 @@ unclosed-last l s ns bs = go (s .phase) refl
 
 -- ---- what is kept of a line, against the line so far
 
-record Keeps (h : PartialLine) (line : List ℕ) : Type 0 where
+record LineSoFar (h : PartialLine) (line : List ℕ) : Type 0 where
   room : length (h .bytes) ≡ 41
   some : h .len ≡ min 41 (length line)
   same : line-bytes h ≡ take 41 line
 
-keeps-none : (b : List ℕ) → length b ≡ 41 → Keeps (partial b 0) []
-keeps-none b e = record { room = e; some = refl; same = refl }
+so-far-none : (b : List ℕ) → length b ≡ 41 → LineSoFar (partial b 0) []
+so-far-none b e = record { room = e; some = refl; same = refl }
 
-keeps-more : (h : PartialLine) (line : List ℕ) (x : ℕ) → Keeps h line → Keeps (pushed h x) (line ++ (x ∷ []))
+so-far-more : (h : PartialLine) (line : List ℕ) (x : ℕ) → LineSoFar h line → LineSoFar (pushed h x) (line ++ (x ∷ []))
 unfolding pushed
-keeps-more h line x o = go (ltb (h .len) 41) refl
+so-far-more h line x o = go (ltb (h .len) 41) refl
   where
     l : length (line ++ (x ∷ [])) ≡ length line + 1
     l = simp length-append (omega arith)
 
-    go : (b : Bool) → ltb (h .len) 41 ≡ b → Keeps (if b then partial (set (h .bytes) (h .len) x) (h .len + 1) else h) (line ++ (x ∷ []))
+    go : (b : Bool) → ltb (h .len) 41 ≡ b → LineSoFar (if b then partial (set (h .bytes) (h .len) x) (h .len + 1) else h) (line ++ (x ∷ []))
     go true e =
         let f : h .len < 41 = ltb-true _ _ e in
         let g : length line < 41 = omega (arith, o .some) in
@@ -129,20 +129,20 @@ keeps-more h line x o = go (ltb (h .len) 41) refl
           same = o .same ∙ sym (take-append-le 41 line (x ∷ []) g);
         }
 
-kept-length : (h : PartialLine) (line : List ℕ) → Keeps h line → length (line-bytes h) ≡ min 41 (length line)
+kept-length : (h : PartialLine) (line : List ℕ) → LineSoFar h line → length (line-bytes h) ≡ min 41 (length line)
 kept-length h line o = ap length (o .same) ∙ length-take 41 line
 
-kept-effect : (h : PartialLine) (line : List ℕ) (s : Session) (ns bs : List ℕ) → Keeps h line
+kept-effect : (h : PartialLine) (line : List ℕ) (s : Session) (ns bs : List ℕ) → LineSoFar h line
     → line-effect s ns bs (closed-line (line-bytes h)) ≡ line-effect s ns bs (closed-line line)
 kept-effect h line s ns bs o = ap (λ (w : List ℕ). line-effect s ns bs (closed-line w)) (o .same) ∙ short-effect line s ns bs
 
 -- ---- a byte at a time
 
 -- what is still to come, as lines of which the first one's bytes so far are `line`
-abbrev to-come : Progress → List ℕ → List ℕ → List ℕ
-to-come p line xs = p .prints ++ lines-output (p .session) (p .nodes) (p .buckets) (split-lines line xs)
+abbrev output-left : Progress → List ℕ → List ℕ → List ℕ
+output-left p line xs = p .prints ++ lines-output (p .session) (p .nodes) (p .buckets) (split-lines line xs)
 
-feed-closes : (p : Progress) (x : ℕ) (line : List ℕ) → eqb x newline ≡ true → Keeps (p .line) line
+feed-closes : (p : Progress) (x : ℕ) (line : List ℕ) → eqb x newline ≡ true → LineSoFar (p .line) line
     → feed p x ≡ handled p (line-effect (p .session) (p .nodes) (p .buckets) (closed-line line))
 unfolding feed
 feed-closes p x line e o = rw e (ap (handled p) (kept-effect (p .line) line (p .session) (p .nodes) (p .buckets) o))
@@ -151,28 +151,28 @@ feed-keeps : (p : Progress) (x : ℕ) → eqb x newline ≡ false → feed p x �
 unfolding feed
 feed-keeps p x e = rw e
 
-handled-empty : (p : Progress) (d : LineEffect) → length (p .line .bytes) ≡ 41 → Keeps (handled p d .line) []
+handled-empty : (p : Progress) (d : LineEffect) → length (p .line .bytes) ≡ 41 → LineSoFar (handled p d .line) []
 unfolding handled
-handled-empty p d e = keeps-none (p .line .bytes) e
+handled-empty p d e = so-far-none (p .line .bytes) e
 
-kept-more : (p : Progress) (line : List ℕ) (x : ℕ) → Keeps (p .line) line → Keeps (kept p x .line) (line ++ (x ∷ []))
+kept-more : (p : Progress) (line : List ℕ) (x : ℕ) → LineSoFar (p .line) line → LineSoFar (kept p x .line) (line ++ (x ∷ []))
 unfolding kept
-kept-more p line x o = keeps-more (p .line) line x o
+kept-more p line x o = so-far-more (p .line) line x o
 
-handled-to-come : (p : Progress) (d : LineEffect) (line xs : List ℕ)
-    → to-come (handled p d) line xs ≡ p .prints ++ (d .prints ++ lines-output (d .session) (d .nodes) (d .buckets) (split-lines line xs))
+handled-left : (p : Progress) (d : LineEffect) (line xs : List ℕ)
+    → output-left (handled p d) line xs ≡ p .prints ++ (d .prints ++ lines-output (d .session) (d .nodes) (d .buckets) (split-lines line xs))
 unfolding handled
-handled-to-come p d line xs = append-assoc (p .prints) (d .prints) _
+handled-left p d line xs = append-assoc (p .prints) (d .prints) _
 
-kept-to-come : (p : Progress) (x : ℕ) (line xs : List ℕ) → to-come (kept p x) line xs ≡ to-come p line xs
+kept-left : (p : Progress) (x : ℕ) (line xs : List ℕ) → output-left (kept p x) line xs ≡ output-left p line xs
 unfolding kept
-kept-to-come p x line xs = refl
+kept-left p x line xs = refl
 
-feeds-lines : (xs line : List ℕ) (p : Progress) → Keeps (p .line) line → stream-output (feeds p xs) ≡ to-come p line xs
+feeds-lines : (xs line : List ℕ) (p : Progress) → LineSoFar (p .line) line → stream-output (feeds p xs) ≡ output-left p line xs
 unfolding feeds stream-output stream-end split-lines lines-output
 feeds-lines [] line p o = go (eqb (length line) 0) refl
   where
-    go : (b : Bool) → eqb (length line) 0 ≡ b → stream-output p ≡ to-come p line []
+    go : (b : Bool) → eqb (length line) 0 ≡ b → stream-output p ≡ output-left p line []
     go true e =
         let z : length line ≡ 0 = eqb-true _ _ e in
         let y : length (line-bytes (p .line)) ≡ 0 = omega (arith, kept-length (p .line) line o) in
@@ -183,22 +183,22 @@ feeds-lines [] line p o = go (eqb (length line) 0) refl
         rw (e, ne-eqb _ _ y) (ap (λ (w : List ℕ). p .prints ++ w) (sym (unclosed-last line (p .session) (p .nodes) (p .buckets))))
 feeds-lines (x ∷ xs) line p o = go (λ l' p' o'. feeds-lines xs l' p' o') (eqb x newline) refl
   where
-    go : ((l' : List ℕ) (p' : Progress) → Keeps (p' .line) l' → stream-output (feeds p' xs) ≡ to-come p' l' xs)
-        → (b : Bool) → eqb x newline ≡ b → stream-output (feeds p (x ∷ xs)) ≡ to-come p line (x ∷ xs)
+    go : ((l' : List ℕ) (p' : Progress) → LineSoFar (p' .line) l' → stream-output (feeds p' xs) ≡ output-left p' l' xs)
+        → (b : Bool) → eqb x newline ≡ b → stream-output (feeds p (x ∷ xs)) ≡ output-left p line (x ∷ xs)
     go ih true e =
         let d = line-effect (p .session) (p .nodes) (p .buckets) (closed-line line) in
         let f : feed p x ≡ handled p d = feed-closes p x line e o in
         let s : split-lines line (x ∷ xs) ≡ closed-line line ∷ split-lines [] xs = rw e in
         ap (λ (q : Progress). stream-output (feeds q xs)) f
         ∙ ih [] (handled p d) (handled-empty p d (o .room))
-        ∙ handled-to-come p d [] xs
+        ∙ handled-left p d [] xs
         ∙ ap (λ (ls : List InputLine). p .prints ++ lines-output (p .session) (p .nodes) (p .buckets) ls) (sym s)
     go ih false e =
         let f : feed p x ≡ kept p x = feed-keeps p x e in
         let s : split-lines line (x ∷ xs) ≡ split-lines (line ++ (x ∷ [])) xs = rw e in
         ap (λ (q : Progress). stream-output (feeds q xs)) f
         ∙ ih (line ++ (x ∷ [])) (kept p x) (kept-more p line x o)
-        ∙ kept-to-come p x (line ++ (x ∷ [])) xs
+        ∙ kept-left p x (line ++ (x ∷ [])) xs
         ∙ ap (λ (ls : List InputLine). p .prints ++ lines-output (p .session) (p .nodes) (p .buckets) ls) (sym s)
 
 -- over lent pools of at least 64 nodes and 200 buckets
@@ -206,5 +206,5 @@ pub stream-prints-transcript : (ns bs : List ℕ) → 2176 ≤ length ns → 132
     → stream-output (streamed input ns bs) ≡ transcript input
 unfolding streamed transcript input-lines empty-line
 stream-prints-transcript ns bs f g input =
-    feeds-lines input [] (begin new-session (partial (replicate 41 0) 0) ns bs) (keeps-none (replicate 41 0) refl)
+    feeds-lines input [] (begin new-session (partial (replicate 41 0) 0) ns bs) (so-far-none (replicate 41 0) refl)
     ∙ lines-print-transcript ns bs f g (split-lines [] input)

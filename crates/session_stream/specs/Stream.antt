@@ -91,7 +91,7 @@ streamed input ns bs = feeds (begin new-session empty-line ns bs) input
 -- ---- what the code is held to: what it gives, what it leaves in the pools, and what it appended to the buffer that held `before`
 -- and then holds `after`
 
-pub record Fed-as (p : Progress) (r : Fed) (ns bs before after : List ℕ) : Type 0 where
+pub record FedAs (p : Progress) (r : Fed) (ns bs before after : List ℕ) : Type 0 where
   pub session : r .session ≡ p .session
   pub line : r .line ≡ p .line
   pub nodes : ns ≡ p .nodes
@@ -99,7 +99,7 @@ pub record Fed-as (p : Progress) (r : Fed) (ns bs before after : List ℕ) : Typ
   pub wrote : buffer after (r .printed) ≡ append (p .prints) (buffer before 0)
 
 -- a whole session over pools that held `ns` and `bs`
-pub record Ended-as (input ns bs before : List ℕ) (count : ℕ) (ns' bs' after : List ℕ) : Type 0 where
+pub record EndedAs (input ns bs before : List ℕ) (count : ℕ) (ns' bs' after : List ℕ) : Type 0 where
   pub nodes : ns' ≡ streamed input ns bs .nodes
   pub buckets : bs' ≡ streamed input ns bs .buckets
   pub wrote : Written (stream-output (streamed input ns bs)) before after count

@@ -6,7 +6,7 @@ ghost use Prim.Native.Nat.{_≤_};
 ghost use lib.ListN.{length, take};
 ghost use Rattle.session.specs.Buffer.{buffer, append, Written};
 ghost use Rattle.session.specs.Transcript.{transcript};
-ghost use Rattle.session_stream.specs.Stream.{empty-line, line-bytes, pushed, begin, feed, feeds, stream-end, Fed-as, Ended-as};
+ghost use Rattle.session_stream.specs.Stream.{empty-line, line-bytes, pushed, begin, feed, feeds, stream-end, FedAs, EndedAs};
 use session_lines::Session;
 
 // The bytes of a line that is not closed yet, and how many they are.
@@ -68,7 +68,7 @@ pub fn feed_byte(
     bs: &mut [u32],
     out: &mut [u8],
 ) -> Fed
-    ensures { λ r. ⌜ Fed-as (feed (begin s h (now (ns .entry)) (now (bs .entry))) x) r (now (ns .exit)) (now (bs .exit)) (now (out .entry)) (now (out .exit)) ⌝ }
+    ensures { λ r. ⌜ FedAs (feed (begin s h (now (ns .entry)) (now (bs .entry))) x) r (now (ns .exit)) (now (bs .exit)) (now (out .entry)) (now (out .exit)) ⌝ }
 {
     if x == 10 {
         let n = line_length(h);
@@ -99,7 +99,7 @@ pub fn feed_bytes(
     bs: &mut [u32],
     out: &mut [u8],
 ) -> Fed
-    ensures { λ r. ⌜ Fed-as (feeds (begin s h (now (ns .entry)) (now (bs .entry))) (now (input .entry))) r (now (ns .exit)) (now (bs .exit)) (now (out .entry)) (now (out .exit)) ⌝ }
+    ensures { λ r. ⌜ FedAs (feeds (begin s h (now (ns .entry)) (now (bs .entry))) (now (input .entry))) r (now (ns .exit)) (now (bs .exit)) (now (out .entry)) (now (out .exit)) ⌝ }
 {
     let mut session = s;
     let mut line = h;
@@ -133,7 +133,7 @@ pub fn end_stream(s: Session, h: PartialLine, ns: &[u32], bs: &[u32], out: &mut 
 // A whole session: its input as a slice, over lent pools. What it prints is written from the buffer's first byte on, as far as
 // there is room, and its length given. With 2,176 node words and 13,200 bucket words or more it is the input's transcript.
 pub fn transcript(input: &[u8], ns: &mut [u32], bs: &mut [u32], out: &mut [u8]) -> usize
-    ensures all { λ r. ⌜ Ended-as (now (input .entry)) (now (ns .entry)) (now (bs .entry)) (now (out .entry)) r (now (ns .exit)) (now (bs .exit)) (now (out .exit)) ⌝ }
+    ensures all { λ r. ⌜ EndedAs (now (input .entry)) (now (ns .entry)) (now (bs .entry)) (now (out .entry)) r (now (ns .exit)) (now (bs .exit)) (now (out .exit)) ⌝ }
     ensures whole { λ r. ⌜ (2176 ≤ length (now (ns .entry)) → 13200 ≤ length (now (bs .entry)) → Written (transcript (now (input .entry))) (now (out .entry)) (now (out .exit)) r) ⌝ }
 {
     let s = session_lines::new_session();

@@ -34,19 +34,19 @@ fn output_room() -> [u8; 53248]
 }
 
 // A session between two reads, and whether the input may go on.
-struct Between {
+struct ReadOutcome {
     session: Session,
     line: PartialLine,
     more: bool,
 }
 
 // One read of standard input, and what it prints; where it gives nothing the input is at its end.
-fn read_some(s: Session, h: PartialLine, ns: &mut [u32], bs: &mut [u32]) -> Between {
+fn read_some(s: Session, h: PartialLine, ns: &mut [u32], bs: &mut [u32]) -> ReadOutcome {
     let mut input = input_room();
     let got = libc::read(0, &mut input);
     let n = io::count(got, &input);
     if n == 0 {
-        return Between {
+        return ReadOutcome {
             session: s,
             line: h,
             more: false,
@@ -58,7 +58,7 @@ fn read_some(s: Session, h: PartialLine, ns: &mut [u32], bs: &mut [u32]) -> Betw
     let session = f.session;
     let line = f.line;
     io::write_all(1, &out[..m]);
-    Between {
+    ReadOutcome {
         session,
         line,
         more: true,

@@ -1,3 +1,5 @@
+-- `bucket::split` meets its contract: the words so far are the tags passed that belong to the place, then zeros; the count goes in last.
+-- Assumes nothing.
 use mathlib.Core.Path.{_≡_, refl, sym, ap, _∙_}
 use mathlib.Core.List.{List, [], _∷_, _++_}
 use mathlib.Core.Bool.{Bool}
@@ -51,8 +53,8 @@ mul-t c = search needs
 array-read-t : tie.Need-array-read-t Inv-loop μ-loop
 array-read-t c = search needs
 
-rem-if1 : tie.Need-rem-if1 Inv-loop μ-loop
-rem-if1 c = search needs
+slot-requires : tie.Need-slot-requires Inv-loop μ-loop
+slot-requires c κs = search needs
 
 add-out : tie.Need-add-out Inv-loop μ-loop
 add-out c = search needs
@@ -73,15 +75,16 @@ loop-less : tie.Need-loop-less Inv-loop μ-loop
 loop-less c = search needs
 
 loop-again : tie.Need-loop-again Inv-loop μ-loop
-unfolding slot
 loop-again c =
-    let a = c .before .before .before .before .before .args in
-    let l = c .before .before .loop in
+    let a = c .before .before .before .before .before .before .args in
+    let l = c .before .before .before .loop in
     let ws = a .m .words in
     let acc = l .inv .0 in
     let t = getD ws (2 + l .j) 0 in
     let in′ : l .j < length (tags-in ws) = omega arith in
     let e : getD (tags-in ws) (l .j) 0 ≡ t = tag-at ws (l .j) in′ in
+    let s : c .before .slot .result ≡ slot t (a .size) = c .before .slot .ensures in
+    let test = ap (λ (k : ℕ). eqb k (a .i)) (sym s) in
     let n : length (acc ++ (t ∷ [])) ≡ l .len + 1 = rw (length-append acc (t ∷ [])) (omega arith) in
     ⊎-elim
     (λ y. (
@@ -90,9 +93,9 @@ loop-again c =
       omega arith,
       y .1 ∙ ap (λ (o : List ℕ). set o (2 + l .len) t) (l .inv .3) ∙ pad-push (1 ∷ 0 ∷ acc) t (2 + l .len) (omega arith) (omega arith),
       n ∙ sym (y .2),
-      sym (filter-yes (mine (a .size) (a .i)) (tags-in ws) acc (l .j) t in′ e (eq-eqb _ _ (y .0 .taken))) ∙ l .inv .5,
+      sym (filter-yes (mine (a .size) (a .i)) (tags-in ws) acc (l .j) t in′ e (test ∙ eq-eqb _ _ (y .0 .taken))) ∙ l .inv .5,
     ))
-    (λ y. (acc, omega arith, omega arith, y .1 ∙ l .inv .3, omega arith, sym (filter-no (mine (a .size) (a .i)) (tags-in ws) acc (l .j) t in′ e (ne-eqb _ _ (y .0 .left))) ∙ l .inv .5))
+    (λ y. (acc, omega arith, omega arith, y .1 ∙ l .inv .3, omega arith, sym (filter-no (mine (a .size) (a .i)) (tags-in ws) acc (l .j) t in′ e (test ∙ ne-eqb _ _ (y .0 .left))) ∙ l .inv .5))
     (c .if1 .came)
 
 cast-out : tie.Need-cast-out Inv-loop μ-loop
@@ -102,7 +105,7 @@ array-write-out-3 : tie.Need-array-write-out-3 Inv-loop μ-loop
 array-write-out-3 c = search needs
 
 returns : tie.Need-returns Inv-loop μ-loop
-unfolding split-of slot
+unfolding split-of
 returns c =
     let a = c .before .before .before .before .args in
     let l = c .before .loop in
@@ -122,7 +125,7 @@ split-spec =
     add-t
     mul-t
     array-read-t
-    rem-if1
+    slot-requires
     add-out
     mul-out
     array-write-out-2

@@ -1,3 +1,5 @@
+-- `bucket::union` meets its contract: the bucket so far has b's tags with those of a from i on, and what is too much for it is too much
+-- for the whole. Assumes nothing.
 use mathlib.Core.Path.{_≡_, sym, ap, _∙_}
 use mathlib.Core.List.{List}
 use Prim.Native.Nat.{ℕ, _≤_, _<_, _-_, _+_}
@@ -7,8 +9,7 @@ use Rattle.spec.specs.Words.{bucket-of}
 use Rattle.bucket.specs.declared.Changed.{Changed}
 use Rattle.bucket.specs.Bucket.{tags-in}
 use Rattle.bucket.proofs.Laws.{tag-at}
-use Rattle.bucket.proofs.Pad.{tags-of-bucket}
-use Rattle.bucket.proofs.Fill.{tail-union, union-start, union-more, ascending-tail-union, length-tail-union, adds, not-full, tags-size, is-full, is-joined}
+use Rattle.bucket.proofs.Fill.{tail-union, union-start, union-more, length-tail-union, adds, not-full, tags-size, is-full, is-joined}
 use native.Mathlib.Omega.{arith}
 use borrow.Author.Needs.{needs}
 use Rattle.bucket.proofs.union.Statement.{statement}
@@ -53,9 +54,7 @@ array-read-add : tie.Need-array-read-add Inv-loop μ-loop
 array-read-add c = search needs
 
 add-requires : tie.Need-add-requires Inv-loop μ-loop
-add-requires c κs =
-    let u = tail-union (c .before .loop .i) (tags-in (c .before .before .before .before .before .args .a .words)) (tags-in (c .before .before .before .before .before .args .b .words)) in
-    rw (c .before .loop .inv .3, tags-of-bucket 1 u) (ascending-tail-union (c .before .loop .i) (tags-in (c .before .before .before .before .before .args .a .words)) (tags-in (c .before .before .before .before .before .args .b .words)) (c .before .before .before .before .before .pre))
+add-requires c κs = search needs
 
 enum-told : tie.Need-enum-told Inv-loop μ-loop
 enum-told c = search needs
@@ -68,8 +67,7 @@ returns c =
     let ys = tags-in (a .b .words) in
     let u = tail-union (l .i) xs ys in
     let x = getD (a .a .words) (1 + l .i) 0 in
-    let asc = ascending-tail-union (l .i) xs ys (c .before .before .before .before .before .before .before .before .pre) in
-    let f = adds u x (l .inv .2) asc (l .out) (l .inv .3) .full (ap (λ (d : Changed). d .answer) (sym (c .before .before .add .ensures)) ∙ c .enum-told .given .1) in
+    let f = adds u x (l .inv .2) (l .out) (l .inv .3) .full (ap (λ (d : Changed). d .answer) (sym (c .before .before .add .ensures)) ∙ c .enum-told .given .1) in
     let m : tail-union (l .i - 1) xs ys ≡ add-tag x u = next (a .a .words) ys (l .i) (omega arith) (l .inv .0) in
     let f′ : 64 < length (tail-union (l .i - 1) xs ys) = rw m f in
     is-full (a .a) (a .b) (omega (arith, length-tail-union (l .i - 1) xs ys))
@@ -88,8 +86,7 @@ loop-again c =
     let ys = tags-in (a .b .words) in
     let u = tail-union (l .i) xs ys in
     let x = getD (a .a .words) (1 + l .i) 0 in
-    let asc = ascending-tail-union (l .i) xs ys (c .before .before .before .before .before .before .before .before .pre) in
-    let f = adds u x (l .inv .2) asc (l .out) (l .inv .3) .more (λ e. not-full (c .before .before .add .result .answer) (c .before .match .keys2) (ap (λ (d : Changed). d .answer) (c .before .before .add .ensures) ∙ e)) in
+    let f = adds u x (l .inv .2) (l .out) (l .inv .3) .more (λ e. not-full (c .before .before .add .result .answer) (c .before .match .keys2) (ap (λ (d : Changed). d .answer) (c .before .before .add .ensures) ∙ e)) in
     let m : tail-union (l .i - 1) xs ys ≡ add-tag x u = next (a .a .words) ys (l .i) (omega arith) (l .inv .0) in
     (omega arith, omega arith, rw m (f .0), rw m (ap (λ (d : Changed). d .bucket .words) (c .before .before .add .ensures) ∙ f .1))
 

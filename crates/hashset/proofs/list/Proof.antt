@@ -1,3 +1,5 @@
+-- `hashset::list` meets its contract: in a sound machine the bucket gathered holds `listed`, whose words go to the front.
+-- Assumes nothing.
 use mathlib.Core.Path.{_≡_, sym, ap, _∙_}
 use mathlib.Core.List.{List, _++_}
 use Prim.Native.Nat.{ℕ, _-_, _+_}
@@ -13,6 +15,10 @@ use Rattle.spec.specs.declared.Listing.the-variants.{Count}
 use Rattle.bucket.specs.Bucket.{tags-in}
 use Rattle.bucket.proofs.Pad.{tags-of-bucket, tags-words}
 use Rattle.hashset.proofs.Laws.{list-spoilt, list-over, list-short, list-goes}
+use borrow.Author.Tests.{le-leb}
+use Rattle.pool.specs.Pool.{write-front}
+use Rattle.listing.proofs.Sets.{Holds}
+use Rattle.listing.proofs.Sound.{gathered}
 use native.Mathlib.Omega.{arith}
 use borrow.Author.Needs.{needs}
 use Rattle.hashset.proofs.list.Statement.{statement}
@@ -26,26 +32,31 @@ sound-requires c κs = search needs
 
 returns : tie.Need-returns
 returns c =
-    let y : Machine = machine-of (c .before .before .before .before .before .args .s) (now (c .before .before .before .before .before .args .ns)) (now (c .before .before .before .before .before .args .bs)) in
-    let p = list-spoilt y (now (c .before .before .before .before .before .args .out)) (sym (c .before .sound .ensures) ∙ not-true _ (c .if1 .taken)) in
+    let a = c .before .before .before .before .before .args in
+    let y : Machine = machine-of (a .s) (now (a .ns)) (now (a .bs)) in
+    let p = list-spoilt y (now (a .out)) (sym (c .before .sound .ensures) ∙ not-true _ (c .if1 .taken)) in
     (sym (ap (λ (z : Written). z .says) p), sym (ap (λ (z : Written). z .words) p))
 
 gather-requires : tie.Need-gather-requires
-gather-requires c κs = sym (c .before .sound .ensures) ∙ not-false _ (c .if1 .left)
+gather-requires c κs = search needs
 
 returns-2 : tie.Need-returns-2
 returns-2 c =
-    let y : Machine = machine-of (c .before .before .before .before .before .before .before .args .s) (now (c .before .before .before .before .before .before .before .args .ns)) (now (c .before .before .before .before .before .before .before .args .bs)) in
+    let a = c .before .before .before .before .before .before .before .args in
+    let y : Machine = machine-of (a .s) (now (a .ns)) (now (a .bs)) in
     let s = sym (c .before .before .before .sound .ensures) ∙ not-false _ (c .before .before .if1 .left) in
-    let p = list-over y (now (c .before .before .before .before .before .before .before .args .out)) s (c .before .gather .ensures .over (c .if2 .taken)) in
+    let g : Holds (c .before .gather .result) (listed y) = rw (c .before .gather .ensures) (gathered y s) in
+    let p = list-over y (now (a .out)) s (g .over (c .if2 .taken)) in
     (sym (ap (λ (z : Written). z .says) p), sym (ap (λ (z : Written). z .words) p))
 
 returns-3 : tie.Need-returns-3
 returns-3 c =
-    let y : Machine = machine-of (c .before .before .before .before .before .before .before .before .args .s) (now (c .before .before .before .before .before .before .before .before .args .ns)) (now (c .before .before .before .before .before .before .before .before .args .bs)) in
+    let a = c .before .before .before .before .before .before .before .before .args in
+    let y : Machine = machine-of (a .s) (now (a .ns)) (now (a .bs)) in
     let s = sym (c .before .before .before .before .sound .ensures) ∙ not-false _ (c .before .before .before .if1 .left) in
-    let f = c .before .before .gather .ensures .fine (c .before .if2 .left) in
-    let p = list-short y (now (c .before .before .before .before .before .before .before .before .args .out)) s (f .0) (c .if3 .taken) in
+    let g : Holds (c .before .before .gather .result) (listed y) = rw (c .before .before .gather .ensures) (gathered y s) in
+    let f = g .fine (c .before .if2 .left) in
+    let p = list-short y (now (a .out)) s (f .0) (c .if3 .taken) in
     (sym (ap (λ (z : Written). z .says) p), sym (ap (λ (z : Written). z .words) p))
 
 count-requires : tie.Need-count-requires
@@ -73,12 +84,14 @@ same-length : tie.Need-same-length
 same-length c = search needs
 
 returns-4 : tie.Need-returns-4
-unfolding overwrite
+unfolding overwrite write-front
 returns-4 c =
-    let y : Machine = machine-of (c .before .before .before .before .before .before .before .before .before .before .before .before .before .before .before .before .before .args .s) (now (c .before .before .before .before .before .before .before .before .before .before .before .before .before .before .before .before .before .args .ns)) (now (c .before .before .before .before .before .before .before .before .before .before .before .before .before .before .before .before .before .args .bs)) in
+    let a = c .before .before .before .before .before .before .before .before .before .before .before .before .before .before .before .before .before .args in
+    let y : Machine = machine-of (a .s) (now (a .ns)) (now (a .bs)) in
     let s = sym (c .before .before .before .before .before .before .before .before .before .before .before .before .before .sound .ensures) ∙ not-false _ (c .before .before .before .before .before .before .before .before .before .before .before .before .if1 .left) in
-    let f = c .before .before .before .before .before .before .before .before .before .before .before .gather .ensures .fine (c .before .before .before .before .before .before .before .before .before .before .if2 .left) in
-    let w = now (c .before .before .before .before .before .before .before .before .before .before .before .before .before .before .before .before .before .args .out) in
+    let g : Holds (c .before .before .before .before .before .before .before .before .before .before .before .gather .result) (listed y) = rw (c .before .before .before .before .before .before .before .before .before .before .before .gather .ensures) (gathered y s) in
+    let f = g .fine (c .before .before .before .before .before .before .before .before .before .before .if2 .left) in
+    let w = now (a .out) in
     let ws = c .before .before .before .before .before .before .before .before .before .before .before .gather .result .bucket .words in
     let t : tags-in ws ≡ listed y = ap tags-in (f .1) ∙ tags-of-bucket 1 (listed y) in
     let n : c .before .before .before .before .before .before .before .count .result ≡ length (listed y) = c .before .before .before .before .before .before .before .count .ensures .0 ∙ ap length t in
@@ -87,7 +100,8 @@ returns-4 c =
     let z : 0 + length (listed y) ≡ length (listed y) = omega arith in
     let o : overwrite w 0 (listed y) ≡ listed y ++ drop (length (listed y)) w = rw z in
     let p = list-goes y w s (f .0) (c .before .before .before .before .before .before .before .before .before .if3 .left) in
-    (ap Count n ∙ sym (ap (λ (z : Written). z .says) p), c .before .before .write-over .ensures ∙ ap (λ (l : List ℕ). overwrite w 0 l) v ∙ o ∙ sym (ap (λ (z : Written). z .words) p))
+    let f2 : write-front w (listed y) ≡ overwrite w 0 (listed y) = rw (le-leb (length (listed y)) (length w) (omega (arith, f .0, c .before .before .before .before .before .before .before .before .before .if3 .left))) in
+    (ap Count n ∙ sym (ap (λ (z : Written). z .says) p), c .before .before .write-over .ensures ∙ ap (λ (l : List ℕ). write-front w l) v ∙ f2 ∙ o ∙ sym (ap (λ (z : Written). z .words) p))
 
 pub list-spec : {M : Type 1} → statement M
 list-spec =

@@ -8,7 +8,7 @@ use Rattle.spec.specs.Words.{tags, count}
 use Rattle.spec.specs.Sound.{sound}
 use Rattle.spec.specs.Entries.{show}
 use Rattle.pool.proofs.Facts.{numbers-of, bucket-fact}
-use Rattle.bucket.proofs.At.{few}
+use Rattle.pool.proofs.At.{few}
 use native.Mathlib.Omega.{arith}
 use borrow.Author.Needs.{needs}
 use Rattle.hashset.proofs.show.Statement.{statement}

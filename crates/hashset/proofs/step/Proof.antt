@@ -6,7 +6,7 @@ use Rattle.spec.specs.Machine.{Machine, idle, task-of, machine-of}
 use Rattle.spec.specs.Sound.{sound}
 use Rattle.pool.proofs.Laws.{length-mapped}
 use Rattle.pool.proofs.Facts.{numbers-of, task-fact}
-use Rattle.listing.proofs.Laws.{link-of}
+use Rattle.pool.proofs.Facts.{link-of}
 use Rattle.hashset.proofs.Laws.{step-spoilt, step-none, step-idle, step-goes, no-line}
 use native.Mathlib.Omega.{arith}
 use borrow.Author.Needs.{needs}
@@ -205,7 +205,7 @@ line49-requires c κs =
     let s = (sym (c .before .before .before .before .before .before .before .before .sound .ensures) ∙ not-false _ (c .before .before .before .before .before .before .before .if1 .left)) in
     let n = numbers-of y s in
     let R = task-fact y s (c .before .before .before .before .before .before .before .before .before .before .before .before .before .args .k) idle (rw (len (c .before .before .before .before .before .before .before .before .before .before .before .before .before)) (omega arith)) (not-false _ (c .before .before .before .if4 .left)) in
-    (omega arith, c .before .before .match .keys21, s, R .m-in, R .n-in, R .t-sized)
+    (omega arith, c .before .before .match .keys21, s, R .m-in, R .n-in)
 
 line50-requires : tie.Need-line50-requires
 line50-requires c κs = search needs

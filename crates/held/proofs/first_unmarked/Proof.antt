@@ -1,14 +1,18 @@
+-- `held::first_unmarked` meets its contract: every link passed is marked, so the first free one is the first free of the rest.
+-- Assumes nothing.
 use mathlib.Core.Path.{_≡_, sym, ap, _∙_}
-use mathlib.Core.List.{List, map}
+use mathlib.Core.List.{List}
 use mathlib.Core.Bool.{Bool, true, false}
-use Prim.Native.Nat.{ℕ, _≤_, _<_, _-_, _+_, _%_}
+use Prim.Native.Nat.{ℕ, _+_, _-_, _%_, _<_, _≤_}
+use denote.Ref.{now}
+use lib.ListN.{getD}
+use Rattle.held.specs.Held.{marked, Exactly}
+use mathlib.Core.List.{map}
 use native.Mathlib.Nat.{mod-lt}
-use lib.ListN.{length, getD}
 use borrow.Author.Tests.{not-true, not-false}
 use Rattle.spec.specs.Lists.{member, range}
 use Rattle.spec.specs.Held.{first-free, cyclic-order}
-use Rattle.held.specs.Held.{marked, Exactly}
-use Rattle.held.proofs.Laws.{turn, free-start, free-end, free-on, free-here}
+use Rattle.held.proofs.Taking.{turn, free-start, free-end, free-on, free-here}
 use native.Mathlib.Omega.{arith}
 use borrow.Author.Needs.{needs}
 use Rattle.held.proofs.first_unmarked.Statement.{statement}
@@ -18,14 +22,11 @@ minus : (m : List Bool) (k : ℕ) → marked m (k + 1) ≡ getD m k false
 minus m k = let e : k + 1 - 1 ≡ k = omega arith in rw e
 
 abbrev Inv-loop : tie.InvT-loop
-Inv-loop n last m j₀ j =
+Inv-loop m n last j₀ j =
     (1 ≤ j) × (j ≤ n + 1) × ((ls : List ℕ) → Exactly m ls → first-free ls (cyclic-order n last) ≡ first-free ls (map (turn ls n last) (range j (n + 1 - j))))
 
 abbrev μ-loop : tie.MeasureT-loop
-μ-loop n last m j₀ j = n + 1 - j
-
-len : (c : tie.Start Inv-loop μ-loop) → length (c .args .t1) ≡ 1024
-len c = search needs
+μ-loop m n last j₀ j = n + 1 - j
 
 loop-holds : tie.Need-loop-holds Inv-loop μ-loop
 loop-holds c = (omega arith, omega arith, λ ls x. ap (first-free ls) (free-start ls _ _))
@@ -38,28 +39,37 @@ rem-k c = search needs
 
 cast-if1 : tie.Need-cast-if1 Inv-loop μ-loop
 cast-if1 c =
-    let b : (c .before .before .args .last + c .before .loop .j) % c .before .before .args .n < c .before .before .args .n = mod-lt (c .before .before .args .last + c .before .loop .j) {m = c .before .before .args .n} (omega arith) in
+    let n = c .before .before .args .n in
+    let l = c .before .before .args .last in
+    let j = c .before .loop .j in
+    let b : (l + j) % n < n = mod-lt (l + j) {m = n} (omega arith) in
     omega arith
 
-array-read-if1 : tie.Need-array-read-if1 Inv-loop μ-loop
-array-read-if1 c =
-    let b : (c .before .before .args .last + c .before .loop .j) % c .before .before .args .n < c .before .before .args .n = mod-lt (c .before .before .args .last + c .before .loop .j) {m = c .before .before .args .n} (omega arith) in
+shared-slice-read-if1 : tie.Need-shared-slice-read-if1 Inv-loop μ-loop
+shared-slice-read-if1 c =
+    let n = c .before .before .before .args .n in
+    let l = c .before .before .before .args .last in
+    let j = c .before .before .loop .j in
+    let b : (l + j) % n < n = mod-lt (l + j) {m = n} (omega arith) in
     omega arith
 
 add-result : tie.Need-add-result Inv-loop μ-loop
 add-result c =
-    let b : (c .before .before .before .args .last + c .before .before .loop .j) % c .before .before .before .args .n < c .before .before .before .args .n = mod-lt (c .before .before .before .args .last + c .before .before .loop .j) {m = c .before .before .before .args .n} (omega arith) in
+    let n = c .before .before .before .before .args .n in
+    let l = c .before .before .before .before .args .last in
+    let j = c .before .before .before .loop .j in
+    let b : (l + j) % n < n = mod-lt (l + j) {m = n} (omega arith) in
     omega arith
 
 returns : tie.Need-returns Inv-loop μ-loop
 returns c =
     λ ls x.
-    let n = c .before .before .before .args .n in
-    let l = c .before .before .before .args .last in
-    let j = c .before .before .loop .j in
+    let n = c .before .before .before .before .args .n in
+    let l = c .before .before .before .before .args .last in
+    let j = c .before .before .before .loop .j in
     let b : (l + j) % n < n = mod-lt (l + j) {m = n} (omega arith) in
-    let q : member (turn ls n l j) ls ≡ false = sym (x .each (turn ls n l j) (omega arith) (omega arith)) ∙ minus (c .before .before .before .args .t1) ((l + j) % n) ∙ not-true _ (c .if1 .taken) in
-    sym (c .before .before .loop .inv .2 ls x ∙ free-here ls n l j (c .before .loop-test .taken) q)
+    let q : member (turn ls n l j) ls ≡ false = sym (x .each (turn ls n l j) (omega arith) (omega arith)) ∙ minus (now (c .before .before .before .before .args .m)) ((l + j) % n) ∙ not-true _ (c .if1 .taken) in
+    sym (c .before .before .before .loop .inv .2 ls x ∙ free-here ls n l j (c .before .before .loop-test .taken) q)
 
 add-j : tie.Need-add-j Inv-loop μ-loop
 add-j c = search needs
@@ -72,12 +82,12 @@ loop-again c = (
   omega arith,
   omega arith,
   λ ls x.
-      let n = c .before .before .before .args .n in
-      let l = c .before .before .before .args .last in
-      let j = c .before .before .loop .j in
+      let n = c .before .before .before .before .args .n in
+      let l = c .before .before .before .before .args .last in
+      let j = c .before .before .before .loop .j in
       let b : (l + j) % n < n = mod-lt (l + j) {m = n} (omega arith) in
-      let q : member (turn ls n l j) ls ≡ true = sym (x .each (turn ls n l j) (omega arith) (omega arith)) ∙ minus (c .before .before .before .args .t1) ((l + j) % n) ∙ not-false _ (c .if1 .left) in
-      c .before .before .loop .inv .2 ls x ∙ free-on ls n l j (c .before .loop-test .taken) q,
+      let q : member (turn ls n l j) ls ≡ true = sym (x .each (turn ls n l j) (omega arith) (omega arith)) ∙ minus (now (c .before .before .before .before .args .m)) ((l + j) % n) ∙ not-false _ (c .if1 .left) in
+      c .before .before .before .loop .inv .2 ls x ∙ free-on ls n l j (c .before .before .loop-test .taken) q,
 )
 
 returns-2 : tie.Need-returns-2 Inv-loop μ-loop
@@ -94,7 +104,7 @@ first-unmarked-spec =
     add-k
     rem-k
     cast-if1
-    array-read-if1
+    shared-slice-read-if1
     add-result
     returns
     add-j

@@ -1,22 +1,90 @@
+-- `held::free_bucket_of` meets its contract: the marks are the buckets that held nodes place and those of the running tasks, of which
+-- the search finds the first that is none. Assumes nothing.
+use mathlib.Core.Path.{sym, _∙_}
+use mathlib.Core.List.{_++_}
+use Prim.Native.Nat.{_+_}
 use denote.Ref.{now}
-use Rattle.spec.specs.Held.{held-buckets, free-bucket}
+use Rattle.held.specs.Held.{marked-numbers, placed-low}
 use Rattle.spec.specs.Machine.{machine-of}
+use Rattle.spec.specs.Lists.{concat-map}
+use Rattle.spec.specs.Words.{places}
+use Rattle.spec.specs.Held.{task-buckets}
+use Rattle.held.proofs.Laws.{none, onto}
+use Rattle.held.proofs.Taking.{exactly-alike, append-alike, same-places, bucket-in, bucket-head-past, buckets-past, bucket-last-past}
+use native.Mathlib.Omega.{arith}
 use borrow.Author.Needs.{needs}
 use Rattle.held.proofs.free_bucket_of.Statement.{statement}
 use Rattle.held.proofs.free_bucket_of.Tie as tie
 
-mark-buckets-requires : tie.Need-mark-buckets-requires
-mark-buckets-requires c κs = search needs
-
-first-unmarked-requires : tie.Need-first-unmarked-requires
-first-unmarked-requires c κs = search needs
-
 returns : tie.Need-returns
-unfolding free-bucket
 returns c =
     λ bs.
     let y = machine-of (c .before .before .before .args .s) (now (c .before .before .before .args .ns)) bs in
-    c .first-unmarked .ensures (held-buckets y) (c .before .mark-buckets .ensures bs)
+    sym (bucket-head-past y (c .if1 .taken))
+
+returns-2 : tie.Need-returns-2
+returns-2 c =
+    λ bs.
+    let y = machine-of (c .before .before .before .before .args .s) (now (c .before .before .before .before .args .ns)) bs in
+    sym (buckets-past y (c .if2 .taken))
+
+returns-3 : tie.Need-returns-3
+returns-3 c =
+    λ bs.
+    let y = machine-of (c .before .before .before .before .before .args .s) (now (c .before .before .before .before .before .args .ns)) bs in
+    sym (bucket-last-past y (c .if3 .taken))
+
+slice-aggregate-mark-nodes : tie.Need-slice-aggregate-mark-nodes
+slice-aggregate-mark-nodes c = search needs
+
+mark-nodes-requires : tie.Need-mark-nodes-requires
+mark-nodes-requires c κs = search needs
+
+slice-aggregate-mark-placed : tie.Need-slice-aggregate-mark-placed
+slice-aggregate-mark-placed c = search needs
+
+mark-placed-requires : tie.Need-mark-placed-requires
+mark-placed-requires c κs = search needs
+
+slice-aggregate-mark-own : tie.Need-slice-aggregate-mark-own
+slice-aggregate-mark-own c = search needs
+
+mark-own-requires : tie.Need-mark-own-requires
+mark-own-requires c κs = search needs
+
+slice-aggregate-first-unmarked : tie.Need-slice-aggregate-first-unmarked
+slice-aggregate-first-unmarked c = search needs
+
+first-unmarked-requires : tie.Need-first-unmarked-requires
+first-unmarked-requires c κs =
+    let l = c .before .before .before .before .before .mark-placed .ensures .long in
+    let k = c .before .before .mark-own .ensures .long in
+    omega arith
+
+returns-4 : tie.Need-returns-4
+returns-4 c =
+    λ bs.
+    let y = machine-of (c .before .before .before .before .before .before .before .before .before .before .before .before .before .before .before .before .args .s) (now (c .before .before .before .before .before .before .before .before .before .before .before .before .before .before .before .before .args .ns)) bs in
+    let ts = concat-map task-buckets (y .state .task) in
+    let nodes = onto (none 64) (c .before .before .before .before .before .before .before .before .before .mark-nodes .ensures bs) in
+    let placed = onto (none 1024) (c .before .before .before .before .before .before .mark-placed .ensures) in
+    let xs = concat-map (places (y .nodes)) (marked-numbers _) in
+    let all = exactly-alike (xs ++ ts) (placed-low y ++ ts) (append-alike xs (placed-low y) ts (same-places y _ (c .before .before .before .before .before .before .before .before .before .mark-nodes .ensures bs .long) nodes)) (onto placed (c .before .before .before .mark-own .ensures)) in
+    c .first-unmarked .ensures (placed-low y ++ ts) all ∙ sym (bucket-in y (c .before .before .before .before .before .before .before .before .before .before .before .before .before .if1 .left, c .before .before .before .before .before .before .before .before .before .before .before .before .if2 .left, c .before .before .before .before .before .before .before .before .before .before .before .if3 .left))
 
 pub free-bucket-of-spec : {M : Type 1} → statement M
-free-bucket-of-spec = tie.close (tie.spec mark-buckets-requires first-unmarked-requires returns)
+free-bucket-of-spec =
+    tie.close
+    (tie.spec
+    returns
+    returns-2
+    returns-3
+    slice-aggregate-mark-nodes
+    mark-nodes-requires
+    slice-aggregate-mark-placed
+    mark-placed-requires
+    slice-aggregate-mark-own
+    mark-own-requires
+    slice-aggregate-first-unmarked
+    first-unmarked-requires
+    returns-4)

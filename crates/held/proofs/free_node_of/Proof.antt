@@ -1,24 +1,65 @@
+-- `held::free_node_of` meets its contract: the marks are the held nodes, of which the search finds the first that is none.
+-- Assumes nothing.
+use mathlib.Core.Path.{sym, _∙_}
+use mathlib.Core.List.{[]}
 use denote.Ref.{now}
-use Rattle.spec.specs.Held.{held-nodes, free-node}
-use Rattle.held.proofs.Laws.{shallow}
 use Rattle.spec.specs.Machine.{machine-of}
+use Rattle.spec.specs.Held.{held-nodes, free-node}
+use Rattle.held.proofs.Laws.{none, onto}
+use Rattle.held.proofs.Taking.{node-in, node-head-past, nodes-past, node-last-past}
+use native.Mathlib.Omega.{arith}
 use borrow.Author.Needs.{needs}
 use Rattle.held.proofs.free_node_of.Statement.{statement}
 use Rattle.held.proofs.free_node_of.Tie as tie
 
-mark-held-requires : tie.Need-mark-held-requires
-mark-held-requires c κs = search needs
-
-first-unmarked-requires : tie.Need-first-unmarked-requires
-first-unmarked-requires c κs = search needs
-
 returns : tie.Need-returns
-unfolding free-node
 returns c =
     λ bs.
-    let w = now (c .before .before .before .args .ns) in
-    let y = machine-of (c .before .before .before .args .s) w bs in
-    c .first-unmarked .ensures (held-nodes y) (rw (shallow w (held-nodes y)) at (c .before .mark-held .ensures bs))
+    let y = machine-of (c .before .before .before .args .s) (now (c .before .before .before .args .ns)) bs in
+    sym (node-head-past y (c .if1 .taken))
+
+returns-2 : tie.Need-returns-2
+returns-2 c =
+    λ bs.
+    let y = machine-of (c .before .before .before .before .args .s) (now (c .before .before .before .before .args .ns)) bs in
+    sym (nodes-past y (c .if2 .taken))
+
+returns-3 : tie.Need-returns-3
+returns-3 c =
+    λ bs.
+    let y = machine-of (c .before .before .before .before .before .args .s) (now (c .before .before .before .before .before .args .ns)) bs in
+    sym (node-last-past y (c .if3 .taken))
+
+slice-aggregate-mark-nodes : tie.Need-slice-aggregate-mark-nodes
+slice-aggregate-mark-nodes c = search needs
+
+mark-nodes-requires : tie.Need-mark-nodes-requires
+mark-nodes-requires c κs = search needs
+
+slice-aggregate-first-unmarked : tie.Need-slice-aggregate-first-unmarked
+slice-aggregate-first-unmarked c = search needs
+
+first-unmarked-requires : tie.Need-first-unmarked-requires
+first-unmarked-requires c κs =
+    let l = c .before .before .mark-nodes .ensures [] .long in
+    omega arith
+
+returns-4 : tie.Need-returns-4
+unfolding free-node
+returns-4 c =
+    λ bs.
+    let y = machine-of (c .before .before .before .before .before .before .before .before .before .before .args .s) (now (c .before .before .before .before .before .before .before .before .before .before .args .ns)) bs in
+    c .first-unmarked .ensures (held-nodes y) (onto (none 64) (c .before .before .before .mark-nodes .ensures bs)) ∙ sym (node-in y (c .before .before .before .before .before .before .before .if1 .left, c .before .before .before .before .before .before .if2 .left, c .before .before .before .before .before .if3 .left))
 
 pub free-node-of-spec : {M : Type 1} → statement M
-free-node-of-spec = tie.close (tie.spec mark-held-requires first-unmarked-requires returns)
+free-node-of-spec =
+    tie.close
+    (tie.spec
+    returns
+    returns-2
+    returns-3
+    slice-aggregate-mark-nodes
+    mark-nodes-requires
+    slice-aggregate-first-unmarked
+    first-unmarked-requires
+    returns-4)

@@ -1,11 +1,13 @@
-use mathlib.Core.Path.{ap}
+-- `held::mark_chain` meets its contract: what is marked so far, with the chain from where it stands, is the whole chain.
+-- Assumes nothing.
+use mathlib.Core.Path.{_≡_, refl, _∙_}
 use mathlib.Core.List.{List}
 use mathlib.Core.Bool.{Bool}
 use Prim.Native.Nat.{_≤_}
 use denote.Ref.{now}
-use Rattle.spec.specs.Lists.{range, concat-map}
+use lib.ListN.{length}
+use Rattle.held.specs.Held.{Marks}
 use Rattle.spec.specs.Held.{chain}
-use Rattle.held.specs.Held.{Marks, seen}
 use Rattle.held.proofs.Laws.{chain-none, chain-end, chain-turn, finish}
 use native.Mathlib.Omega.{arith}
 use borrow.Author.Needs.{needs}
@@ -13,23 +15,25 @@ use Rattle.held.proofs.mark_chain.Statement.{statement}
 use Rattle.held.proofs.mark_chain.Tie as tie
 
 abbrev Inv-loop : tie.InvT-loop
-Inv-loop ns h range deep out₀ at₀ left₀ out at left =
-    (left ≤ h) × ((q : List Bool) → Marks out q (concat-map (seen deep ns) (chain ns left at)) → Marks out₀ q (concat-map (seen deep ns) (chain ns h range)))
+Inv-loop ns m₀ h from at₀ left₀ m at left =
+    (left ≤ h) × (length m ≡ length m₀) × ((q : List Bool) → Marks m q (chain ns left at) → Marks m₀ q (chain ns h from))
 
 abbrev μ-loop : tie.MeasureT-loop
-μ-loop ns h range deep out₀ at₀ left₀ out at left = left
+μ-loop ns m₀ h from at₀ left₀ m at left = left
 
 loop-holds : tie.Need-loop-holds Inv-loop μ-loop
-loop-holds c = (omega arith, λ q r. r)
+loop-holds c = (omega arith, refl, λ q r. r)
+
+same-length : tie.Need-same-length Inv-loop μ-loop
+same-length c = c .before .before .loop .inv .1
 
 returns : tie.Need-returns Inv-loop μ-loop
-unfolding concat-map
 returns c =
-    let w = now (c .before .before .before .before .args .ns) in
-    finish (concat-map (seen (c .before .before .before .before .args .deep) w) (chain w (c .before .before .loop .left) (c .before .before .loop .at))) _ (ap (concat-map (seen (c .before .before .before .before .args .deep) w)) (chain-none w (c .before .before .loop .left) (c .before .before .loop .at) (c .if1 .taken))) (c .before .before .loop .inv .1)
+    let w = now (c .before .before .before .before .before .args .ns) in
+    finish (chain w (c .before .before .loop .left) (c .before .before .loop .at)) _ (chain-none w (c .before .before .loop .left) (c .before .before .loop .at) (c .if1 .taken)) (c .before .before .loop .inv .2)
 
-visit-requires : tie.Need-visit-requires Inv-loop μ-loop
-visit-requires c κs = search needs
+mark-requires : tie.Need-mark-requires Inv-loop μ-loop
+mark-requires c κs = search needs
 
 pred-of-requires : tie.Need-pred-of-requires Inv-loop μ-loop
 pred-of-requires c κs = search needs
@@ -42,14 +46,16 @@ loop-less c = search needs
 
 loop-again : tie.Need-loop-again Inv-loop μ-loop
 loop-again c =
-    let w = now (c .before .before .before .before .before .before .args .ns) in
-    (omega arith, rw (c .pred-of .ensures) (chain-turn (c .before .before .before .before .before .before .args .deep) w (c .before .before .before .before .loop .left) (c .before .before .before .before .loop .at) (concat-map (seen (c .before .before .before .before .before .before .args .deep) w) (chain w (c .before .before .before .before .before .before .args .h) (c .before .before .before .before .before .before .args .from))) (c .before .before .before .loop-test .taken) (c .before .before .if1 .left) (c .before .before .before .before .loop .inv .1) (c .before .visit .ensures)))
+    let w = now (c .before .before .before .before .before .before .before .before .before .before .args .ns) in
+    (omega arith, c .before .before .before .mark .ensures .long ∙ c .before .before .before .before .before .before .before .loop .inv .1, rw (c .pred-of .ensures) (chain-turn w (c .before .before .before .before .before .before .before .loop .left) (c .before .before .before .before .before .before .before .loop .at) (chain w (c .before .before .before .before .before .before .before .before .before .before .args .h) (c .before .before .before .before .before .before .before .before .before .before .args .from)) (c .before .before .before .before .before .before .loop-test .taken) (c .before .before .before .before .before .if1 .left) (c .before .before .before .before .before .before .before .loop .inv .2) (c .before .before .before .mark .ensures)))
+
+same-length-2 : tie.Need-same-length-2 Inv-loop μ-loop
+same-length-2 c = c .before .loop .inv .1
 
 returns-2 : tie.Need-returns-2 Inv-loop μ-loop
-unfolding concat-map
 returns-2 c =
-    let w = now (c .before .before .before .args .ns) in
-    finish (concat-map (seen (c .before .before .before .args .deep) w) (chain w (c .before .loop .left) (c .before .loop .at))) _ (ap (concat-map (seen (c .before .before .before .args .deep) w)) (chain-end w (c .before .loop .left) (c .before .loop .at) (omega arith))) (c .before .loop .inv .1)
+    let w = now (c .before .before .before .before .args .ns) in
+    finish (chain w (c .before .loop .left) (c .before .loop .at)) _ (chain-end w (c .before .loop .left) (c .before .loop .at) (omega arith)) (c .before .loop .inv .2)
 
 pub mark-chain-spec : {M : Type 1} → statement M
 mark-chain-spec =
@@ -58,10 +64,12 @@ mark-chain-spec =
     Inv-loop
     μ-loop
     loop-holds
+    same-length
     returns
-    visit-requires
+    mark-requires
     pred-of-requires
     sub-left
     loop-less
     loop-again
+    same-length-2
     returns-2)

@@ -1,28 +1,72 @@
-use Rattle.held.proofs.Laws.{same, both, buckets-of-running, buckets-of-idle}
+-- `held::mark_own` meets its contract: each task's links in turn. Assumes nothing.
+use mathlib.Core.Path.{_≡_, refl, _∙_}
+use mathlib.Core.List.{List}
+use mathlib.Core.Bool.{Bool}
+use Prim.Native.Nat.{_-_, _≤_}
+use lib.ListN.{length, drop}
+use Rattle.held.specs.Held.{Marks}
+use Rattle.pool.proofs.Laws.{length-mapped}
+use Rattle.spec.specs.Lists.{concat-map}
+use Rattle.spec.specs.Held.{task-buckets}
+use Rattle.held.proofs.Laws.{tasks-turn, tasks-last, finish}
+use native.Mathlib.Omega.{arith}
 use borrow.Author.Needs.{needs}
 use Rattle.held.proofs.mark_own.Statement.{statement}
 use Rattle.held.proofs.mark_own.Tie as tie
 
-mark-requires : tie.Need-mark-requires
-mark-requires c κs = search needs
+abbrev Inv-loop : tie.InvT-loop
+Inv-loop m₀ ts k₀ m k =
+    (k ≤ 8) × (length m ≡ length m₀) × ((q : List Bool) → Marks m q (concat-map task-buckets (drop k ts)) → Marks m₀ q (concat-map task-buckets ts))
 
-mark-requires-2 : tie.Need-mark-requires-2
-mark-requires-2 c κs = search needs
+abbrev μ-loop : tie.MeasureT-loop
+μ-loop m₀ ts k₀ m k = 8 - k
 
-mark-requires-3 : tie.Need-mark-requires-3
-mark-requires-3 c κs = search needs
+len : (c : tie.Start Inv-loop μ-loop) → length (c .args .s .task) ≡ 8
+len c = search (needs, length-mapped)
 
-mark-requires-4 : tie.Need-mark-requires-4
-mark-requires-4 c κs = search needs
+loop-holds : tie.Need-loop-holds Inv-loop μ-loop
+loop-holds c = (omega arith, refl, λ q r. r)
 
-returns : tie.Need-returns
+mul-c : tie.Need-mul-c Inv-loop μ-loop
+mul-c c = search needs
+
+array-copy-out-c : tie.Need-array-copy-out-c Inv-loop μ-loop
+array-copy-out-c c = search needs
+
+mark-task-buckets-requires : tie.Need-mark-task-buckets-requires Inv-loop μ-loop
+mark-task-buckets-requires c κs = search needs
+
+add-k : tie.Need-add-k Inv-loop μ-loop
+add-k c = search needs
+
+loop-less : tie.Need-loop-less Inv-loop μ-loop
+loop-less c = search needs
+
+loop-again : tie.Need-loop-again Inv-loop μ-loop
+loop-again c =
+    let ts = c .before .before .before .before .before .before .before .before .before .args .s .task in
+    (omega arith, c .before .before .mark-task-buckets .ensures .long ∙ c .before .before .before .before .before .before .loop .inv .1, tasks-turn task-buckets ts (c .before .before .before .before .before .before .loop .k) _ (concat-map task-buckets ts) (omega (arith, len (c .before .before .before .before .before .before .before .before .before))) (c .before .before .before .before .before .before .loop .inv .2) (c .before .before .mark-task-buckets .ensures))
+
+same-length : tie.Need-same-length Inv-loop μ-loop
+same-length c = c .before .loop .inv .1
+
+returns : tie.Need-returns Inv-loop μ-loop
 returns c =
-    rw (buckets-of-running (c .before .before .before .before .before .args .c) (c .before .before .before .before .if1 .taken)) (both (c .before .before .before .mark .ensures) (both (c .before .before .mark2 .ensures) (both (c .before .mark3 .ensures) (c .mark4 .ensures))))
-
-returns-2 : tie.Need-returns-2
-returns-2 c = rw (buckets-of-idle (c .before .args .c) (c .if1 .left)) (same _)
+    let ts = c .before .before .before .before .args .s .task in
+    finish (concat-map task-buckets (drop (c .before .loop .k) ts)) (concat-map task-buckets ts) (tasks-last ts (c .before .loop .k) task-buckets (omega (arith, len (c .before .before .before .before)))) (c .before .loop .inv .2)
 
 pub mark-own-spec : {M : Type 1} → statement M
 mark-own-spec =
     tie.close
-    (tie.spec mark-requires mark-requires-2 mark-requires-3 mark-requires-4 returns returns-2)
+    (tie.spec
+    Inv-loop
+    μ-loop
+    loop-holds
+    mul-c
+    array-copy-out-c
+    mark-task-buckets-requires
+    add-k
+    loop-less
+    loop-again
+    same-length
+    returns)

@@ -1,44 +1,31 @@
-use mathlib.Core.Path.{_≡_}
+-- `held::mark_places` meets its contract: what is marked so far, with the places from i on, is all 32. Assumes nothing.
+use mathlib.Core.Path.{_≡_, refl, _∙_}
 use mathlib.Core.List.{List}
 use mathlib.Core.Bool.{Bool}
-use Prim.Native.Nat.{_≤_, _<_, _-_, _+_, _*_}
+use Prim.Native.Nat.{_-_, _≤_}
 use denote.Ref.{now}
-use lib.ListN.{take, drop}
-use Rattle.spec.specs.Words.{number, places}
+use lib.ListN.{length}
 use Rattle.held.specs.Held.{Marks}
-use Rattle.held.proofs.Laws.{places-on, places-end}
-use Prim.Native.Nat.{_^_}
+use Rattle.spec.specs.Words.{places}
+use Rattle.held.proofs.Laws.{places-from, places-all, places-on, places-none, finish}
 use native.Mathlib.Omega.{arith}
 use borrow.Author.Needs.{needs}
 use Rattle.held.proofs.mark_places.Statement.{statement}
 use Rattle.held.proofs.mark_places.Tie as tie
 
 abbrev Inv-loop : tie.InvT-loop
-Inv-loop ns l k a out₀ i₀ out i =
-    (i ≤ 32) × (a < 2 ^ 40) × ((q : List Bool) → Marks out q (take (32 - i) (drop (a + i) ns)) → Marks out₀ q (take 32 (drop a ns)))
+Inv-loop ns m₀ k i₀ m i =
+    (i ≤ 32) × (length m ≡ length m₀) × ((q : List Bool) → Marks m q (places-from ns k i) → Marks m₀ q (places ns k))
 
 abbrev μ-loop : tie.MeasureT-loop
-μ-loop ns l k a out₀ i₀ out i = 32 - i
-
-number-of-requires : tie.Need-number-of-requires Inv-loop μ-loop
-number-of-requires c κs = search needs
-
-mul-a : tie.Need-mul-a Inv-loop μ-loop
-mul-a c = search needs
-
-add-a : tie.Need-add-a Inv-loop μ-loop
-add-a c = search needs
+μ-loop ns m₀ k i₀ m i = 32 - i
 
 loop-holds : tie.Need-loop-holds Inv-loop μ-loop
 loop-holds c =
-    let e : 34 * c .number-of .result + 2 + 0 ≡ 34 * c .number-of .result + 2 = omega arith in
-    (omega arith, omega arith, λ q. rw e (λ r. r))
+    (omega arith, refl, λ q. rw (places-all (now (c .before .before .args .ns)) (c .before .before .args .k)) (λ r. r))
 
-add-word : tie.Need-add-word Inv-loop μ-loop
-add-word c = search needs
-
-word-requires : tie.Need-word-requires Inv-loop μ-loop
-word-requires c κs = search needs
+place-at-requires : tie.Need-place-at-requires Inv-loop μ-loop
+place-at-requires c κs = search needs
 
 mark-requires : tie.Need-mark-requires Inv-loop μ-loop
 mark-requires c κs = search needs
@@ -51,17 +38,16 @@ loop-less c = search needs
 
 loop-again : tie.Need-loop-again Inv-loop μ-loop
 loop-again c =
-    let w = now (c .before .before .before .before .before .before .args .ns) in
-    let a = 34 * c .before .before .before .before .number-of .result + 2 in
-    (omega arith, omega arith, places-on w a (c .before .before .before .loop .i) (take 32 (drop a w)) (c .before .before .loop-test .taken) (c .before .before .before .loop .inv .2) (rw (c .before .word .ensures) at (c .mark .ensures)))
+    let w = now (c .before .before .before .before .before .before .before .before .before .args .ns) in
+    (omega arith, c .before .before .mark .ensures .long ∙ c .before .before .before .before .before .before .loop .inv .1, places-on w (c .before .before .before .before .before .before .before .before .before .args .k) (c .before .before .before .before .before .before .loop .i) (places w (c .before .before .before .before .before .before .before .before .before .args .k)) (c .before .before .before .before .before .loop-test .taken) (c .before .before .before .before .before .before .loop .inv .2) (rw (c .before .before .before .before .place-at .ensures) at (c .before .before .mark .ensures)))
+
+same-length : tie.Need-same-length Inv-loop μ-loop
+same-length c = c .before .loop .inv .1
 
 returns : tie.Need-returns Inv-loop μ-loop
-unfolding places
 returns c =
     let w = now (c .before .before .before .before .args .ns) in
-    let a = 34 * c .before .before .number-of .result + 2 in
-    let e : c .before .before .number-of .result ≡ number (c .before .before .before .before .args .l) = c .before .before .number-of .ensures .0 in
-    rw (← e) (places-end w a (c .before .loop .i) (take 32 (drop a w)) (c .loop-test .left) (c .before .loop .inv .2))
+    finish (places-from w (c .before .before .before .before .args .k) (c .before .loop .i)) (places w (c .before .before .before .before .args .k)) (places-none w (c .before .before .before .before .args .k) (c .before .loop .i) (omega arith)) (c .before .loop .inv .2)
 
 pub mark-places-spec : {M : Type 1} → statement M
 mark-places-spec =
@@ -69,14 +55,11 @@ mark-places-spec =
     (tie.spec
     Inv-loop
     μ-loop
-    number-of-requires
-    mul-a
-    add-a
     loop-holds
-    add-word
-    word-requires
+    place-at-requires
     mark-requires
     add-i
     loop-less
     loop-again
+    same-length
     returns)

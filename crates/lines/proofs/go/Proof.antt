@@ -5,8 +5,8 @@ use borrow.Author.Needs.{needs}
 use Rattle.lines.proofs.go.Statement.{statement}
 use Rattle.lines.proofs.go.Tie as tie
 
-more-requires : tie.Need-more-requires
-more-requires c κs = search needs
+one-more-own-step-requires : tie.Need-one-more-own-step-requires
+one-more-own-step-requires c κs = search needs
 
 mul-x : tie.Need-mul-x
 mul-x c = search needs
@@ -16,7 +16,7 @@ element-set-from-x c = search needs
 
 returns : tie.Need-returns
 unfolding accept finish set-task with-task with-state state-task with-line with-own apply
-returns c = λ ns bs. rw (c .more .ensures)
+returns c = λ ns bs. rw (c .one-more-own-step .ensures)
 
 pub go-spec : {M : Type 1} → statement M
-go-spec = tie.close (tie.spec more-requires mul-x element-set-from-x returns)
+go-spec = tie.close (tie.spec one-more-own-step-requires mul-x element-set-from-x returns)

@@ -1,66 +1,55 @@
-use mathlib.Core.Path.{refl}
-use mathlib.Core.List.{[]}
+-- `listing::gather` meets its contract: the head's tags, then those of its predecessor if it has one. Assumes nothing.
+use mathlib.Core.Path.{_≡_, sym, ap, _∙_}
 use mathlib.Core.Bool.{true, false}
+use Prim.Native.Nat.{ℕ}
 use denote.Ref.{now}
-use Rattle.spec.specs.Lists.{ascending}
-use Rattle.spec.specs.Machine.{Machine, machine-of}
-use Rattle.spec.specs.Words.{bucket-of}
-use Rattle.spec.specs.Listed.{pred-of, head-of, in-set}
-use Rattle.pool.proofs.Facts.{numbers-of}
-use Rattle.listing.specs.Gathered.{Holds}
-use Rattle.listing.proofs.Laws.{made, listed-is, back-in}
-use lib.ListN.{set, replicate}
-use mathlib.Core.Bool.{false≢true}
-use native.Mathlib.Omega.{arith}
+use Rattle.listing.specs.declared.Gathered.{Gathered}
+use Rattle.listing.specs.Listing.{places-tags, adds, nothing}
+use Rattle.spec.specs.Words.{number, pred}
+use Rattle.listing.proofs.Laws.{set-alone, set-both, adds-append}
 use borrow.Author.Needs.{needs}
 use Rattle.listing.proofs.gather.Statement.{statement}
 use Rattle.listing.proofs.gather.Tie as tie
 
-blank : Holds (made false (record { words = set (replicate 66 0) 0 1 })) []
-unfolding ascending bucket-of
-blank = record { up = refl; over = λ e. absurd (false≢true e); fine = λ e. (omega arith, refl) }
-
 array-write-w : tie.Need-array-write-w
 array-write-w c = search needs
 
-add-h : tie.Need-add-h
-add-h c =
-    let Y : Machine = machine-of (c .before .before .before .args .s) (now (c .before .before .before .args .ns)) (now (c .before .before .before .args .bs)) in
-    let f = in-set Y in
-    let n = numbers-of Y (c .before .before .before .pre) in
-    omega arith
+gather-node-requires : tie.Need-gather-node-requires
+gather-node-requires c κs = search needs
 
-pred-of-requires : tie.Need-pred-of-requires
-pred-of-requires c κs = search needs
-
-offer-node-requires : tie.Need-offer-node-requires
-offer-node-requires c κs =
-    let Y : Machine = machine-of (c .before .before .before .before .args .s) (now (c .before .before .before .before .args .ns)) (now (c .before .before .before .before .args .bs)) in
-    let f = in-set Y in
-    (c .before .before .before .before .pre, rw (c .pred-of .ensures) (back-in Y (c .before .before .before .before .pre)), record { ts = []; holds = blank })
-
-offer-node-requires-2 : tie.Need-offer-node-requires-2
-offer-node-requires-2 c κs =
-    let Y : Machine = machine-of (c .before .before .before .before .before .args .s) (now (c .before .before .before .before .before .args .ns)) (now (c .before .before .before .before .before .args .bs)) in
-    let f = in-set Y in
-    let n = numbers-of Y (c .before .before .before .before .before .pre) in
-    (c .before .before .before .before .before .pre, omega arith, record { ts = _; holds = c .offer-node .ensures [] blank })
+pred-at-requires : tie.Need-pred-at-requires
+pred-at-requires c κs = search needs
 
 returns : tie.Need-returns
-unfolding head-of pred-of
 returns c =
-    let Y : Machine = machine-of (c .before .before .before .before .before .before .args .s) (now (c .before .before .before .before .before .before .args .ns)) (now (c .before .before .before .before .before .before .args .bs)) in
-    let f = in-set Y in
-    let q = c .before .before .pred-of .ensures in
-    rw (listed-is Y) (rw q at (c .offer-node2 .ensures _ (c .before .offer-node .ensures [] blank)))
+    let a = c .before .before .before .before .before .args in
+    c .before .before .gather-node .ensures ∙ ap (adds nothing) (sym (set-alone (now (a .ns)) (now (a .bs)) (a .s .head) (sym (c .before .pred-at .ensures) ∙ c .if1 .taken)))
+
+number-of-requires : tie.Need-number-of-requires
+number-of-requires c κs = search needs
+
+gather-node-requires-2 : tie.Need-gather-node-requires-2
+gather-node-requires-2 c κs = search needs
+
+returns-2 : tie.Need-returns-2
+returns-2 c =
+    let a = c .before .before .before .before .before .before .before .args in
+    let ns = now (a .ns) in
+    let bs = now (a .bs) in
+    let d = a .s .head in
+    let k : c .before .number-of .result ≡ number (pred ns d) = c .before .number-of .ensures ∙ ap number (c .before .before .before .pred-at .ensures) in
+    let ys = places-tags ns bs d (number (pred ns d)) true 0 32 in
+    c .gather-node2 .ensures ∙ ap (λ (k : ℕ). adds (c .before .before .before .before .gather-node .result) (places-tags ns bs d k true 0 32)) k ∙ ap (λ (g : Gathered). adds g ys) (c .before .before .before .before .gather-node .ensures)
+    ∙ sym (adds-append nothing (places-tags ns bs d d false 0 32) ys) ∙ ap (adds nothing) (sym (set-both ns bs d (λ z. c .before .before .if1 .left (c .before .before .before .pred-at .ensures ∙ z))))
 
 pub gather-spec : {M : Type 1} → statement M
 gather-spec =
     tie.close
     (tie.spec
     array-write-w
-    add-h
-    pred-of-requires
-    offer-node-requires
-    offer-node-requires-2
-    returns)
+    gather-node-requires
+    pred-at-requires
+    returns
+    number-of-requires
+    gather-node-requires-2
+    returns-2)

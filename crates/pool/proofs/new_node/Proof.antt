@@ -1,12 +1,23 @@
-use mathlib.Core.Path.{ap, _∙_}
-use mathlib.Core.List.{List}
-use Prim.Native.Nat.{ℕ, _*_}
+-- `pool::new_node` meets its contract: 34 words over the part that begins at the node's first. Assumes nothing.
+use mathlib.Core.Path.{_≡_, sym, ap, _∙_}
+use Prim.Native.Nat.{ℕ, _*_, _≤_}
 use denote.Ref.{now}
-use Rattle.spec.specs.Words.{size, pred, overwrite, node-of}
-use Rattle.bucket.proofs.Part.{rest, back}
+use lib.ListN.{length, drop}
+use mathlib.Core.List.{List}
+use borrow.Author.Tests.{le-ltb, le-leb}
+use lib.ListN.{length-drop}
+use Rattle.spec.specs.Words.{overwrite, node-of}
+use Rattle.pool.specs.Pool.{write-front, store-node}
+use Rattle.pool.proofs.Part.{rest, back}
+use Rattle.pool.proofs.At.{node-here}
+use native.Mathlib.Omega.{arith}
 use borrow.Author.Needs.{needs}
 use Rattle.pool.proofs.new_node.Statement.{statement}
 use Rattle.pool.proofs.new_node.Tie as tie
+
+returns : tie.Need-returns
+unfolding store-node
+returns c = rw (le-ltb _ _ (c .if1 .taken))
 
 array-write-w : tie.Need-array-write-w
 array-write-w c = search needs
@@ -38,18 +49,23 @@ write-over-requires c κs = search needs
 same-length : tie.Need-same-length
 same-length c = search needs
 
-returns : tie.Need-returns
-unfolding node-of
-returns c =
-    let a = c .before .before .before .before .before .before .args in
+returns-2 : tie.Need-returns-2
+unfolding node-of write-front
+returns-2 c =
+    let a = c .before .before .before .before .before .before .before .args in
     let p = now (a .ns) in
+    let i = c .before .before .before .before .before .if1 .left in
+    let d = drop (34 * a .k) p in
     let v = node-of (a .size) (a .pred) in
-    back p (34 * a .k) v (c .before .before .write-over .last .0) (c .before .before .write-over .ensures ∙ ap (λ (l : List ℕ). overwrite l 0 v) (rest p (34 * a .k)))
+    let l : 34 ≤ length d = rw (length-drop (34 * a .k) p) (omega arith) in
+    let f : write-front d v ≡ overwrite d 0 v = rw (le-leb _ _ l) in
+    back p (34 * a .k) v (c .before .before .write-over .last .0) (c .before .before .write-over .ensures ∙ ap (λ (w : List ℕ). write-front w v) (rest p (34 * a .k)) ∙ f) ∙ sym (node-here p (a .k) (a .size) (a .pred) (omega arith))
 
 pub new-node-spec : {M : Type 1} → statement M
 new-node-spec =
     tie.close
     (tie.spec
+    returns
     array-write-w
     array-write-w-2
     mul-at
@@ -60,4 +76,4 @@ new-node-spec =
     slice-aggregate-write-over
     write-over-requires
     same-length
-    returns)
+    returns-2)

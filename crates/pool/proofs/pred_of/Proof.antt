@@ -1,7 +1,7 @@
+-- `pool::pred_of` meets its contract: the link's number goes in. Assumes nothing.
 use mathlib.Core.Path.{ap, _∙_}
-use Prim.Native.Nat.{ℕ, _+_, _*_}
+use Prim.Native.Nat.{ℕ}
 use denote.Ref.{now}
-use lib.ListN.{getD}
 use Rattle.spec.specs.Words.{pred}
 use borrow.Author.Needs.{needs}
 use Rattle.pool.proofs.pred_of.Statement.{statement}
@@ -10,19 +10,12 @@ use Rattle.pool.proofs.pred_of.Tie as tie
 number-of-requires : tie.Need-number-of-requires
 number-of-requires c κs = search needs
 
-mul-word : tie.Need-mul-word
-mul-word c = search needs
-
-add-word : tie.Need-add-word
-add-word c = search needs
-
-word-requires : tie.Need-word-requires
-word-requires c κs = search needs
+pred-at-requires : tie.Need-pred-at-requires
+pred-at-requires c κs = search needs
 
 returns : tie.Need-returns
-unfolding pred
 returns c =
-    c .word .ensures ∙ ap (λ (k : ℕ). getD (now (c .before .before .before .args .ns)) (34 * k + 1) 0) (c .before .number-of .ensures .0)
+    c .pred-at .ensures ∙ ap (λ (k : ℕ). pred (now (c .before .before .before .args .ns)) k) (c .before .number-of .ensures)
 
 pub pred-of-spec : {M : Type 1} → statement M
-pred-of-spec = tie.close (tie.spec number-of-requires mul-word add-word word-requires returns)
+pred-of-spec = tie.close (tie.spec number-of-requires pred-at-requires returns)

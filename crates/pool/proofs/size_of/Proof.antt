@@ -1,7 +1,7 @@
+-- `pool::size_of` meets its contract: the link's number goes in. Assumes nothing.
 use mathlib.Core.Path.{ap, _∙_}
-use Prim.Native.Nat.{ℕ, _*_}
+use Prim.Native.Nat.{ℕ}
 use denote.Ref.{now}
-use lib.ListN.{getD}
 use Rattle.spec.specs.Words.{size}
 use borrow.Author.Needs.{needs}
 use Rattle.pool.proofs.size_of.Statement.{statement}
@@ -10,16 +10,12 @@ use Rattle.pool.proofs.size_of.Tie as tie
 number-of-requires : tie.Need-number-of-requires
 number-of-requires c κs = search needs
 
-mul-word : tie.Need-mul-word
-mul-word c = search needs
-
-word-requires : tie.Need-word-requires
-word-requires c κs = search needs
+size-at-requires : tie.Need-size-at-requires
+size-at-requires c κs = search needs
 
 returns : tie.Need-returns
-unfolding size
 returns c =
-    c .word .ensures ∙ ap (λ (k : ℕ). getD (now (c .before .before .before .args .ns)) (34 * k) 0) (c .before .number-of .ensures .0)
+    c .size-at .ensures ∙ ap (λ (k : ℕ). size (now (c .before .before .before .args .ns)) k) (c .before .number-of .ensures)
 
 pub size-of-spec : {M : Type 1} → statement M
-size-of-spec = tie.close (tie.spec number-of-requires mul-word word-requires returns)
+size-of-spec = tie.close (tie.spec number-of-requires size-at-requires returns)

@@ -1,13 +1,17 @@
 -- `write_output` writes them from word `at` on: what is written over the part that begins there, put back into the whole.
 -- Assumes nothing.
-use mathlib.Core.Path.{ap, _∙_}
+use mathlib.Core.Path.{_≡_, ap, _∙_}
 use mathlib.Core.List.{List}
-use Prim.Native.Nat.{ℕ}
+use Prim.Native.Nat.{ℕ, _≤_}
+use native.Mathlib.Omega.{arith}
+use borrow.Author.Tests.{le-leb}
 use denote.Ref.{now}
-use lib.ListN.{drop}
+use lib.ListN.{length, drop, length-drop}
 use Rattle.spec.specs.Numbers.{output-words}
 use Rattle.spec.specs.Words.{overwrite}
-use Rattle.bucket.proofs.Part.{rest, back}
+use Rattle.pool.specs.Pool.{write-front}
+use Rattle.schedule.proofs.Laws.{three}
+use Rattle.pool.proofs.Part.{rest, back}
 use borrow.Author.Needs.{needs}
 use Rattle.schedule.proofs.write_output.Statement.{statement}
 use Rattle.schedule.proofs.write_output.Tie as tie
@@ -37,15 +41,21 @@ same-length : tie.Need-same-length
 same-length c = search needs
 
 returns : tie.Need-returns
+unfolding write-front
 returns c =
     let at-write = c .before .before in
     let at-words = at-write .before .before .before in
-    let a = at-words .before .before .args in
+    let entry = at-words .before .before in
+    let a = entry .args in
     let p = now (a .outs) in
     let i = a .at in
     let v = output-words (a .out) in
     let w = at-words .output-words in
-    let e = at-write .write-over .ensures ∙ ap (λ (l : List ℕ). overwrite l 0 (w .result)) (rest p i) ∙ ap (λ (u : List ℕ). overwrite (drop i p) 0 u) (w .ensures) in
+    let n = three (a .out) in
+    let l : length v ≤ length (drop i p) = rw (length-drop i p) (omega (arith, entry .pre)) in
+    let f : write-front (drop i p) v ≡ overwrite (drop i p) 0 v = rw (le-leb (length v) (length (drop i p)) l) in
+    let e = at-write .write-over .ensures ∙ ap (λ (u : List ℕ). write-front u (w .result)) (rest p i)
+    ∙ ap (λ (u : List ℕ). write-front (drop i p) u) (w .ensures) ∙ f in
     back p i v (at-write .write-over .last .0) e
 
 pub write-output-spec : {M : Type 1} → statement M

@@ -1,3 +1,4 @@
+-- `session_lines::end_unclosed` meets its contract. The five phases, each as `phase-unclosed` says. Assumes nothing.
 use Rattle.session_lines.proofs.Laws.{ends-unclosed, nothing-appended}
 use Rattle.session_lines.specs.declared.Phase.the-variants.{Tasks, Nodes, Buckets, Events, Stopped}
 use Rattle.session_lines.specs.Handling.{phase-unclosed}

@@ -1,3 +1,4 @@
+-- `session_lines::handle_line` meets its contract. The five phases, each by the function of that phase. Assumes nothing.
 use Rattle.session_lines.proofs.Laws.{keeps, handles, does-nothing}
 use Rattle.session_lines.specs.declared.Phase.the-variants.{Tasks, Nodes, Buckets, Events, Stopped}
 use Rattle.session_lines.specs.Handling.{phase-effect}

@@ -1,3 +1,4 @@
+-- `session_lines::new_session` meets its contract. The first phase, no numbers, and the state of zeros. Assumes nothing.
 use mathlib.Core.Path.{ap}
 use Rattle.session_lines.specs.declared.Phase.the-variants.{Tasks}
 use Rattle.session_lines.specs.Handling.{session, new-session}

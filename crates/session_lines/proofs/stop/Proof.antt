@@ -1,3 +1,5 @@
+-- `session_lines::stop` meets its contract. The session as it was but for its phase, and the refusal's line appended. Assumes
+-- nothing.
 use mathlib.Core.Path.{refl}
 use Rattle.session_lines.specs.Handling.{stopped}
 use borrow.Author.Needs.{needs}

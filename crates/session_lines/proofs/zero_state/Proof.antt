@@ -1,3 +1,4 @@
+-- `session_lines::zero_state` meets its contract. Every field as in `state-of`. Assumes nothing.
 use mathlib.Core.Path.{refl}
 use Rattle.spec.specs.Machine.{idle, state-of}
 use Rattle.session_lines.proofs.zero_state.Statement.{statement}

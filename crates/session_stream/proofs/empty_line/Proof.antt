@@ -1,3 +1,4 @@
+-- `session_stream::empty_line` meets its contract. 41 zeros, none of them the line's. Assumes nothing.
 use mathlib.Core.Path.{refl}
 use Rattle.session_stream.specs.Stream.{empty-line}
 use Rattle.session_stream.proofs.empty_line.Statement.{statement}

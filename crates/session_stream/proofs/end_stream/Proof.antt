@@ -1,3 +1,4 @@
+-- `session_stream::end_stream` meets its contract. The last line is empty, and so closed, or it is not closed. Assumes nothing.
 use mathlib.Core.Path.{_≡_}
 use lib.ListN.{length}
 use denote.Ref.{now}

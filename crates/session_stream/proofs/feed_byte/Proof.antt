@@ -1,3 +1,4 @@
+-- `session_stream::feed_byte` meets its contract. Byte 10 has the line handled; any other is kept. Assumes nothing.
 use mathlib.Core.Path.{_≡_, sym}
 use lib.ListN.{length}
 use lib.Seq.{length-take-le}

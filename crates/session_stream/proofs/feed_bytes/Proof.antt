@@ -1,10 +1,12 @@
+-- `session_stream::feed_bytes` meets its contract. The loop's invariant is the contract for the bytes passed, with the pools
+-- and the buffer as long as they were. Assumes nothing.
 use Rattle.session.specs.BufferLaws.{append-within}
 use mathlib.Core.Path.{_≡_, refl, _∙_}
 use Prim.Native.Nat.{_-_, _≤_}
 use lib.ListN.{length, take}
 use denote.Ref.{now}
 use Rattle.session_stream.proofs.Laws.{fed, rest-length, back-length, feeds-next, feeds-all, feeds-none}
-use Rattle.session_stream.specs.Stream.{begin, feeds, Fed-as}
+use Rattle.session_stream.specs.Stream.{begin, feeds, FedAs}
 use native.Mathlib.Omega.{arith}
 use borrow.Author.Needs.{needs}
 use Rattle.session_stream.proofs.feed_bytes.Statement.{statement}
@@ -12,7 +14,7 @@ use Rattle.session_stream.proofs.feed_bytes.Tie as tie
 
 abbrev Inv-loop : tie.InvT-loop
 Inv-loop input ns₀ bs₀ out₀ session₀ line₀ at₀ i₀ ns bs out session line at i =
-    Fed-as (feeds (begin session₀ line₀ ns₀ bs₀) (take i input)) (fed session line at) ns bs out₀ out
+    FedAs (feeds (begin session₀ line₀ ns₀ bs₀) (take i input)) (fed session line at) ns bs out₀ out
     × (length ns ≡ length ns₀) × (length bs ≡ length bs₀) × (length out ≡ length out₀)
 
 abbrev μ-loop : tie.MeasureT-loop

@@ -1,3 +1,4 @@
+-- `session_stream::line_length` meets its contract. The length, or all 41 bytes. Assumes nothing.
 use mathlib.Core.Path.{_≡_}
 use lib.ListN.{length}
 use Rattle.session_stream.proofs.Laws.{all-kept}

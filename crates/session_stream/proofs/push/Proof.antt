@@ -1,3 +1,5 @@
+-- `session_stream::push` meets its contract. Room for the byte, or a line that is too long already: the two cases of `pushed`.
+-- Assumes nothing.
 use Rattle.session_stream.proofs.Laws.{push-in, push-full}
 use borrow.Author.Needs.{needs}
 use Rattle.session_stream.proofs.push.Statement.{statement}

@@ -1,3 +1,5 @@
+-- `session_stream::transcript` meets its contract. The input's bytes, then its end in what is left of the buffer; that this is
+-- the transcript is `stream-prints-transcript`. Assumes nothing.
 use Rattle.session.specs.BufferLaws.{append-within}
 use Prim.Native.Nat.{_+_}
 use denote.Ref.{now}

@@ -1,3 +1,4 @@
+-- `yardrun::read_some` meets its contract. No more is printed than the buffer has room for. Assumes nothing.
 use mathlib.Core.Path.{sym}
 use lib.Seq.{length-take-le}
 use Rattle.session.specs.BufferLaws.{append-within}

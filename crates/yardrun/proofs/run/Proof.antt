@@ -1,3 +1,4 @@
+-- `yardrun::run` meets its contract. The pools stay as long as they were; the count of reads falls. Assumes nothing.
 use mathlib.Core.Path.{_≡_, refl, _∙_}
 use lib.ListN.{length}
 use native.Mathlib.Omega.{arith}

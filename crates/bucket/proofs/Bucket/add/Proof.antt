@@ -1,11 +1,13 @@
-use mathlib.Core.Path.{sym, ap, _∙_}
-use Prim.Native.Nat.{ℕ}
+-- `bucket::Bucket::add` meets its contract: each return is the case of `added` that its tests lead to. Assumes nothing.
+use mathlib.Core.Path.{_≡_, ap, _∙_}
+use mathlib.Core.Bool.{true, false}
 use mathlib.Core.List.{List}
+use Prim.Native.Nat.{ℕ}
 use borrow.Author.Tests.{eq-eqb, ne-eqb, le-leb, lt-leb}
-use Rattle.bucket.specs.Bucket.{tags-in, added, changed}
-use Rattle.bucket.proofs.Laws.{rank-le}
+use Rattle.bucket.specs.Bucket.{tags-in, found, added, changed}
 use Rattle.bucket.specs.declared.Changed.{Changed}
 use Rattle.bucket.specs.declared.Response.the-variants.{Yes}
+use Rattle.bucket.proofs.Laws.{rank-le, found-at}
 use native.Mathlib.Omega.{arith}
 use borrow.Author.Needs.{needs}
 use Rattle.bucket.proofs.Bucket.add.Statement.{statement}
@@ -21,12 +23,17 @@ returns : tie.Need-returns
 unfolding added
 returns c = rw (eq-eqb _ _ (c .if1 .taken))
 
-has-requires : tie.Need-has-requires
-has-requires c κs = search needs
+position-requires : tie.Need-position-requires
+position-requires c κs = search needs
+
+stands-at-requires : tie.Need-stands-at-requires
+stands-at-requires c κs = search needs
 
 returns-2 : tie.Need-returns-2
 unfolding added
-returns-2 c = rw (ne-eqb _ _ (c .before .before .if1 .left), sym (c .before .has .ensures) ∙ c .if2 .taken)
+returns-2 c =
+    let f : found (c .before .before .before .before .before .args .tag) (tags-in (c .before .before .before .before .before .args .t1 .words)) ≡ true = found-at _ _ _ _ (c .before .before .position .ensures) (c .before .stands-at .ensures) ∙ c .if2 .taken in
+    rw (ne-eqb _ _ (c .before .before .before .if1 .left), f)
 
 count-requires : tie.Need-count-requires
 count-requires c κs = search needs
@@ -34,21 +41,20 @@ count-requires c κs = search needs
 returns-3 : tie.Need-returns-3
 unfolding added
 returns-3 c =
-    rw (ne-eqb _ _ (c .before .before .before .before .if1 .left), sym (c .before .before .before .has .ensures) ∙ c .before .before .if2 .left, le-leb 64 _ (rw (c .before .count .ensures .0) at (c .if3 .taken)))
-
-place-requires : tie.Need-place-requires
-place-requires c κs = search needs
+    let f : found (c .before .before .before .before .before .before .before .args .tag) (tags-in (c .before .before .before .before .before .before .before .args .t1 .words)) ≡ false = found-at _ _ _ _ (c .before .before .before .before .position .ensures) (c .before .before .before .stands-at .ensures) ∙ c .before .before .if2 .left in
+    rw (ne-eqb _ _ (c .before .before .before .before .before .if1 .left), f, le-leb 64 _ (rw (c .before .count .ensures .0) at (c .if3 .taken)))
 
 put-requires : tie.Need-put-requires
 put-requires c κs =
+    let f : found (c .before .before .before .before .before .before .before .args .tag) (tags-in (c .before .before .before .before .before .before .before .args .t1 .words)) ≡ false = found-at _ _ _ _ (c .before .before .before .before .position .ensures) (c .before .before .before .stands-at .ensures) ∙ c .before .before .if2 .left in
     let r = rank-le (c .before .before .before .before .before .before .before .args .tag) (tags-in (c .before .before .before .before .before .before .before .args .t1 .words)) in
-    (omega arith, omega arith, omega arith, c .place .ensures, sym (c .before .before .before .before .has .ensures) ∙ c .before .before .before .if2 .left)
+    (omega arith, omega arith, omega arith, c .before .before .before .before .position .ensures, f)
 
 returns-4 : tie.Need-returns-4
 unfolding added
 returns-4 c =
-    rw (ne-eqb _ _ (c .before .before .before .before .before .before .if1 .left), sym (c .before .before .before .before .before .has .ensures) ∙ c .before .before .before .before .if2 .left, lt-leb 64 _ (rw (c .before .before .before .count .ensures .0) at (c .before .before .if3 .left)))
-    (ap yes (c .put .ensures))
+    let f : found (c .before .before .before .before .before .before .before .before .args .tag) (tags-in (c .before .before .before .before .before .before .before .before .args .t1 .words)) ≡ false = found-at _ _ _ _ (c .before .before .before .before .before .position .ensures) (c .before .before .before .before .stands-at .ensures) ∙ c .before .before .before .if2 .left in
+    rw (ne-eqb _ _ (c .before .before .before .before .before .before .if1 .left), f, lt-leb 64 _ (rw (c .before .before .count .ensures .0) at (c .before .if3 .left))) (ap yes (c .put .ensures))
 
 pub add-spec : {M : Type 1} → statement M
 add-spec =
@@ -56,10 +62,10 @@ add-spec =
     (tie.spec
     element-copy-out-flag
     returns
-    has-requires
+    position-requires
+    stands-at-requires
     returns-2
     count-requires
     returns-3
-    place-requires
     put-requires
     returns-4)

@@ -1,13 +1,13 @@
-use mathlib.Core.Path.{_≡_, sym, ap, _∙_}
-use Prim.Native.Nat.{ℕ}
-use mathlib.Core.Bool.{true}
+-- `bucket::Bucket::remove` meets its contract: each return is the case of `removed` that its tests lead to. Assumes nothing.
+use mathlib.Core.Path.{_≡_, ap, _∙_}
+use mathlib.Core.Bool.{true, false}
 use mathlib.Core.List.{List}
+use Prim.Native.Nat.{ℕ}
 use borrow.Author.Tests.{eq-eqb, ne-eqb}
-use Rattle.bucket.specs.Bucket.{tags-in, removed, changed}
-use Rattle.bucket.proofs.Laws.{rank-below}
-use Rattle.spec.specs.Lists.{member}
+use Rattle.bucket.specs.Bucket.{tags-in, found, removed, changed}
 use Rattle.bucket.specs.declared.Changed.{Changed}
 use Rattle.bucket.specs.declared.Response.the-variants.{Yes}
+use Rattle.bucket.proofs.Laws.{rank-below, found-at}
 use native.Mathlib.Omega.{arith}
 use borrow.Author.Needs.{needs}
 use Rattle.bucket.proofs.Bucket.remove.Statement.{statement}
@@ -23,30 +23,32 @@ returns : tie.Need-returns
 unfolding removed
 returns c = rw (eq-eqb _ _ (c .if1 .taken))
 
-has-requires : tie.Need-has-requires
-has-requires c κs = search needs
+position-requires : tie.Need-position-requires
+position-requires c κs = search needs
+
+stands-at-requires : tie.Need-stands-at-requires
+stands-at-requires c κs = search needs
 
 count-requires : tie.Need-count-requires
 count-requires c κs = search needs
 
-place-requires : tie.Need-place-requires
-place-requires c κs = search needs
-
 cut-requires : tie.Need-cut-requires
 cut-requires c κs =
-    let ts = tags-in (c .before .before .before .before .before .before .args .t1 .words) in
-    let m : member (c .before .before .before .before .before .before .args .tag) ts ≡ true = sym (c .before .before .before .has .ensures) ∙ c .before .before .if2 .taken in
-    let r = rank-below (c .before .before .before .before .before .before .args .tag) ts (c .before .before .before .before .before .before .pre) m in
-    (omega arith, omega arith, omega arith, c .place .ensures, m, c .before .before .before .before .before .before .pre)
+    let f : found (c .before .before .before .before .before .before .args .tag) (tags-in (c .before .before .before .before .before .before .args .t1 .words)) ≡ true = found-at _ _ _ _ (c .before .before .before .position .ensures) (c .before .before .stands-at .ensures) ∙ c .before .if2 .taken in
+    let r = rank-below (c .before .before .before .before .before .before .args .tag) (tags-in (c .before .before .before .before .before .before .args .t1 .words)) f in
+    (omega arith, omega arith, omega arith, c .before .before .before .position .ensures, f)
 
 returns-2 : tie.Need-returns-2
 unfolding removed
 returns-2 c =
-    rw (ne-eqb _ _ (c .before .before .before .before .before .if1 .left), sym (c .before .before .before .before .has .ensures) ∙ c .before .before .before .if2 .taken) (ap yes (c .cut .ensures))
+    let f : found (c .before .before .before .before .before .before .before .args .tag) (tags-in (c .before .before .before .before .before .before .before .args .t1 .words)) ≡ true = found-at _ _ _ _ (c .before .before .before .before .position .ensures) (c .before .before .before .stands-at .ensures) ∙ c .before .before .if2 .taken in
+    rw (ne-eqb _ _ (c .before .before .before .before .before .if1 .left), f) (ap yes (c .cut .ensures))
 
 returns-3 : tie.Need-returns-3
 unfolding removed
-returns-3 c = rw (ne-eqb _ _ (c .before .before .if1 .left), sym (c .before .has .ensures) ∙ c .if2 .left)
+returns-3 c =
+    let f : found (c .before .before .before .before .before .args .tag) (tags-in (c .before .before .before .before .before .args .t1 .words)) ≡ false = found-at _ _ _ _ (c .before .before .position .ensures) (c .before .stands-at .ensures) ∙ c .if2 .left in
+    rw (ne-eqb _ _ (c .before .before .before .if1 .left), f)
 
 pub remove-spec : {M : Type 1} → statement M
 remove-spec =
@@ -54,9 +56,9 @@ remove-spec =
     (tie.spec
     element-copy-out-flag
     returns
-    has-requires
+    position-requires
+    stands-at-requires
     count-requires
-    place-requires
     cut-requires
     returns-2
     returns-3)

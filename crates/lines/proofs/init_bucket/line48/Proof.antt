@@ -1,3 +1,5 @@
+-- `lines::init_bucket::line48` meets its contract: each return is the case of `step-running` that its tests lead to.
+-- Assumes nothing.
 use mathlib.Core.Path.{sym, ap, _∙_}
 use mathlib.Core.List.{List}
 use Prim.Native.Nat.{ℕ}
@@ -7,6 +9,9 @@ use Rattle.spec.specs.Words.{apply}
 use Rattle.spec.specs.Lines.{moves, line-48}
 use Rattle.spec.specs.Entries.{accept}
 use Rattle.lines.proofs.Laws.{empty-48, pass-48}
+use Prim.Native.Nat.{_-_}
+use Rattle.pool.proofs.At.{freeze-here}
+use native.Mathlib.Omega.{arith}
 use borrow.Author.Needs.{needs}
 use Rattle.lines.proofs.init_bucket.line48.Statement.{statement}
 use Rattle.lines.proofs.init_bucket.line48.Tie as tie
@@ -16,11 +21,12 @@ refused-requires c κs = search needs
 
 returns : tie.Need-returns
 returns c =
+    let a = c .before .before .before .args in
     λ ns.
-    let y = machine-of (c .before .before .before .args .s) ns (now (c .before .before .before .args .bs)) in
-    let c′ = c .before .before .before .args .c in
+    let y = machine-of (a .s) ns (now (a .bs)) in
+    let c′ = a .c in
     let h = c .before .before .before .pre .1 in
-    c .refused .ensures ns _ ∙ sym (empty-48 y (c .before .before .before .args .k) c′ h (c .before .if1 .taken))
+    c .refused .ensures ns _ ∙ sym (empty-48 y (a .k) c′ h (c .before .if1 .taken))
 
 cast-freeze-at : tie.Need-cast-freeze-at
 cast-freeze-at c = search needs
@@ -40,11 +46,12 @@ same-length c = search needs
 returns-2 : tie.Need-returns-2
 unfolding line-48 accept apply with-buckets
 returns-2 c =
+    let a = c .before .before .before .before .before .before .before .args in
     λ ns.
-    let y = machine-of (c .before .before .before .before .before .before .before .args .s) ns (now (c .before .before .before .before .before .before .before .args .bs)) in
-    let c′ = c .before .before .before .before .before .before .before .args .c in
+    let y = machine-of (a .s) ns (now (a .bs)) in
+    let c′ = a .c in
     let h = c .before .before .before .before .before .before .before .pre .1 in
-    c .go .ensures ns (c .before .before .before .freeze-at .last .0) ∙ ap (λ (v : List ℕ). accept (machine-of (c .before .before .before .before .before .before .before .args .s) ns v) (c .before .before .before .before .before .before .before .args .k) (c′ .own) (moves (with-line 52 c′))) (c .before .before .before .freeze-at .ensures) ∙ sym (pass-48 y (c .before .before .before .before .before .before .before .args .k) c′ h (c .before .before .before .before .before .if1 .left))
+    c .go .ensures ns (c .before .before .before .freeze-at .last .0) ∙ ap (λ (v : List ℕ). accept (machine-of (a .s) ns v) (a .k) (c′ .own) (moves (with-line 52 c′))) (c .before .before .before .freeze-at .ensures ∙ freeze-here (now (a .bs)) (c′ .m - 1) (omega (arith, c .before .before .before .before .before .if1 .left))) ∙ sym (pass-48 y (a .k) c′ h (c .before .before .before .before .before .if1 .left))
 
 pub line48-spec : {M : Type 1} → statement M
 line48-spec =

@@ -1,3 +1,5 @@
+-- `lines::init_bucket::line49` meets its contract: each return is the case of `step-running` that its tests lead to.
+-- Assumes nothing.
 use mathlib.Core.Path.{_≡_, sym, ap, _∙_}
 use mathlib.Core.List.{List}
 use Prim.Native.Nat.{ℕ, _≤_, _-_, _*_}
@@ -11,8 +13,11 @@ use Rattle.spec.specs.Entries.{accept}
 use Rattle.lines.proofs.Taking.{free-bucket-in}
 use borrow.Author.Tests.{le-ltb, lt-ltb}
 use Rattle.pool.proofs.Facts.{numbers-of}
-use Rattle.listing.proofs.Laws.{link-of}
 use Rattle.lines.proofs.Laws.{empty-49, empty-49-2, past-49, all-held-49, pass-49}
+use Rattle.pool.proofs.Facts.{link-of}
+use Rattle.pool.proofs.At.{store-here}
+use Rattle.bucket.proofs.Fill.{not-full}
+use Rattle.held.proofs.Taking.{bucket-sound}
 use native.Mathlib.Omega.{arith}
 use borrow.Author.Needs.{needs}
 use Rattle.lines.proofs.init_bucket.line49.Statement.{statement}
@@ -23,29 +28,35 @@ refused-requires c κs = search needs
 
 returns : tie.Need-returns
 returns c =
-    let y : Machine = machine-of (c .before .before .before .before .args .s) (now (c .before .before .before .before .args .ns)) (now (c .before .before .before .before .args .bs)) in
-    let c′ = c .before .before .before .before .args .c in
+    let a = c .before .before .before .before .args in
+    let y : Machine = machine-of (a .s) (now (a .ns)) (now (a .bs)) in
+    let c′ = a .c in
     let h = c .before .before .before .before .pre .1 in
-    c .refused .ensures _ _ ∙ sym (empty-49 y (c .before .before .before .before .args .k) c′ h (c .before .if1 .taken))
+    c .refused .ensures _ _ ∙ sym (empty-49 y (a .k) c′ h (c .before .if1 .taken))
 
 refused-requires-2 : tie.Need-refused-requires-2
 refused-requires-2 c κs = search needs
 
 returns-2 : tie.Need-returns-2
 returns-2 c =
-    let y : Machine = machine-of (c .before .before .before .before .before .args .s) (now (c .before .before .before .before .before .args .ns)) (now (c .before .before .before .before .before .args .bs)) in
-    let c′ = c .before .before .before .before .before .args .c in
+    let a = c .before .before .before .before .before .args in
+    let y : Machine = machine-of (a .s) (now (a .ns)) (now (a .bs)) in
+    let c′ = a .c in
     let h = c .before .before .before .before .before .pre .1 in
-    c .refused2 .ensures _ _ ∙ sym (empty-49-2 y (c .before .before .before .before .before .args .k) c′ h (c .before .before .if1 .left) (c .before .if2 .taken))
+    c .refused2 .ensures _ _ ∙ sym (empty-49-2 y (a .k) c′ h (c .before .before .if1 .left) (c .before .if2 .taken))
 
-make-requires : tie.Need-make-requires
-make-requires c κs =
-    let y : Machine = machine-of (c .before .before .before .before .before .args .s) (now (c .before .before .before .before .before .args .ns)) (now (c .before .before .before .before .before .args .bs)) in
-    let c′ = c .before .before .before .before .before .args .c in
-    let h = c .before .before .before .before .before .pre .1 in
+new-bucket-of-requires : tie.Need-new-bucket-of-requires
+new-bucket-of-requires c κs =
+    let a = c .before .before .before .before .before .args in
+    let y : Machine = machine-of (a .s) (now (a .ns)) (now (a .bs)) in
+    let c′ = a .c in
+    let z = c .before .if2 .left in
     let m = link-of y (c .before .before .before .before .before .pre .2) (c′ .m) (c .before .before .before .before .before .pre .3) in
     let n = link-of y (c .before .before .before .before .before .pre .2) (c′ .n) (c .before .before .before .before .before .pre .4) in
-    (omega (arith, c .before .if2 .left), m .most, n .most, m .fits, n .fits, m .good (omega (arith, c .before .if2 .left)), n .good, c .before .before .before .before .before .pre .5 (c .before .before .if1 .left))
+    (omega (arith, z), m .most, n .most, m .fits, n .fits, m .good (omega (arith, z)), n .good)
+
+enum-told : tie.Need-enum-told
+enum-told c = search needs
 
 refused-requires-3 : tie.Need-refused-requires-3
 refused-requires-3 c κs = search needs
@@ -56,18 +67,14 @@ same-length c = search needs
 returns-3 : tie.Need-returns-3
 unfolding overfull-49
 returns-3 c =
-    let y : Machine = machine-of (c .before .before .before .before .before .before .before .before .args .s) (now (c .before .before .before .before .before .before .before .before .args .ns)) (now (c .before .before .before .before .before .before .before .before .args .bs)) in
-    let c′ = c .before .before .before .before .before .before .before .before .args .c in
-    let h = c .before .before .before .before .before .before .before .before .pre .1 in
-    c .refused3 .ensures _ _ ∙ sym (past-49 y (c .before .before .before .before .before .before .before .before .args .k) c′ h (c .before .before .before .before .before .if1 .left) (c .before .before .before .before .if2 .left) (lt-ltb _ _ (c .before .before .make .ensures (c .before .before .before .before .before .before .before .before .args .s) .over (c .before .if3 .taken))))
+    let a = c .before .before .before .before .before .before .before .before .before .args in
+    let y : Machine = machine-of (a .s) (now (a .ns)) (now (a .bs)) in
+    let c′ = a .c in
+    let h = c .before .before .before .before .before .before .before .before .before .pre .1 in
+    c .refused3 .ensures _ _ ∙ sym (past-49 y (a .k) c′ h (c .before .before .before .before .before .before .if1 .left) (c .before .before .before .before .before .if2 .left) (lt-ltb _ _ (c .before .before .before .new-bucket-of .ensures (a .s) .over (c .before .enum-told .given .1))))
 
 free-bucket-of-requires : tie.Need-free-bucket-of-requires
-free-bucket-of-requires c κs =
-    let y : Machine = machine-of (c .before .before .before .before .before .before .before .args .s) (now (c .before .before .before .before .before .before .before .args .ns)) (now (c .before .before .before .before .before .before .before .args .bs)) in
-    let c′ = c .before .before .before .before .before .before .before .args .c in
-    let h = c .before .before .before .before .before .before .before .pre .1 in
-    let n = numbers-of y (c .before .before .before .before .before .before .before .pre .2) in
-    omega arith
+free-bucket-of-requires c κs = search needs
 
 refused-requires-4 : tie.Need-refused-requires-4
 refused-requires-4 c κs = search needs
@@ -78,10 +85,11 @@ same-length-2 c = search needs
 returns-4 : tie.Need-returns-4
 unfolding overfull-49
 returns-4 c =
-    let y : Machine = machine-of (c .before .before .before .before .before .before .before .before .before .before .args .s) (now (c .before .before .before .before .before .before .before .before .before .before .args .ns)) (now (c .before .before .before .before .before .before .before .before .before .before .args .bs)) in
-    let c′ = c .before .before .before .before .before .before .before .before .before .before .args .c in
+    let a = c .before .before .before .before .before .before .before .before .before .before .args in
+    let y : Machine = machine-of (a .s) (now (a .ns)) (now (a .bs)) in
+    let c′ = a .c in
     let h = c .before .before .before .before .before .before .before .before .before .before .pre .1 in
-    c .refused4 .ensures _ _ ∙ sym (all-held-49 y (c .before .before .before .before .before .before .before .before .before .before .args .k) c′ h (c .before .before .before .before .before .before .before .if1 .left) (c .before .before .before .before .before .before .if2 .left) (le-ltb _ _ (c .before .before .before .before .make .ensures (c .before .before .before .before .before .before .before .before .before .before .args .s) .fine (c .before .before .before .if3 .left) .0)) (sym (c .before .before .free-bucket-of .ensures (now (c .before .before .before .before .before .before .before .before .before .before .args .bs))) ∙ c .before .if4 .taken))
+    c .refused4 .ensures _ _ ∙ sym (all-held-49 y (a .k) c′ h (c .before .before .before .before .before .before .before .if1 .left) (c .before .before .before .before .before .before .if2 .left) (le-ltb _ _ ((c .before .before .before .before .new-bucket-of .ensures (a .s) .fine (not-full (c .before .before .before .before .new-bucket-of .result .answer) (c .before .before .before .match .keys2))) .0)) (sym (c .before .before .free-bucket-of .ensures (now (a .bs)) ∙ bucket-sound y (c .before .before .before .before .before .before .before .before .before .before .pre .2)) ∙ c .before .if3 .taken))
 
 cast-store-at : tie.Need-cast-store-at
 cast-store-at c = search needs
@@ -90,13 +98,7 @@ sub-store-at : tie.Need-sub-store-at
 sub-store-at c = search needs
 
 store-at-requires : tie.Need-store-at-requires
-store-at-requires c κs =
-    let y : Machine = machine-of (c .before .before .before .before .before .before .before .before .before .before .before .args .s) (now (c .before .before .before .before .before .before .before .before .before .before .before .args .ns)) (now (c .before .before .before .before .before .before .before .before .before .before .before .args .bs)) in
-    let c′ = c .before .before .before .before .before .before .before .before .before .before .before .args .c in
-    let h = c .before .before .before .before .before .before .before .before .before .before .before .pre .1 in
-    let n = numbers-of y (c .before .before .before .before .before .before .before .before .before .before .before .pre .2) in
-    let l : c .before .before .before .free-bucket-of .result ≤ c .before .before .before .before .before .before .before .before .before .before .before .args .s .buckets = rw (c .before .before .before .free-bucket-of .ensures (now (c .before .before .before .before .before .before .before .before .before .before .before .args .bs))) (free-bucket-in y (omega arith)) in
-    omega (arith, c .before .before .if4 .left, l)
+store-at-requires c κs = search needs
 
 sub-u : tie.Need-sub-u
 sub-u c = search needs
@@ -110,14 +112,18 @@ same-length-3 c = search needs
 returns-5 : tie.Need-returns-5
 unfolding overfull-49 line-49 accept apply with-last-bucket with-buckets with-state state-last-bucket with-new-bucket
 returns-5 c =
-    let y : Machine = machine-of (c .before .before .before .before .before .before .before .before .before .before .before .before .before .before .before .args .s) (now (c .before .before .before .before .before .before .before .before .before .before .before .before .before .before .before .args .ns)) (now (c .before .before .before .before .before .before .before .before .before .before .before .before .before .before .before .args .bs)) in
-    let c′ = c .before .before .before .before .before .before .before .before .before .before .before .before .before .before .before .args .c in
+    let a = c .before .before .before .before .before .before .before .before .before .before .before .before .before .before .before .args in
+    let y : Machine = machine-of (a .s) (now (a .ns)) (now (a .bs)) in
+    let c′ = a .c in
     let h = c .before .before .before .before .before .before .before .before .before .before .before .before .before .before .before .pre .1 in
-    let ef : c .before .before .before .before .before .before .before .free-bucket-of .result ≡ free-bucket y = c .before .before .before .before .before .before .before .free-bucket-of .ensures (now (c .before .before .before .before .before .before .before .before .before .before .before .before .before .before .before .args .bs)) in
-    let g = c .before .before .before .before .before .before .before .before .before .make .ensures (c .before .before .before .before .before .before .before .before .before .before .before .before .before .before .before .args .s) .fine (c .before .before .before .before .before .before .before .before .if3 .left) in
-    c .go .ensures _ (c .before .before .before .store-at .last .0) ∙ ap (λ (v : List ℕ). accept (machine-of (state-last-bucket (c .before .before .before .before .before .before .before .free-bucket-of .result - 1) (c .before .before .before .before .before .before .before .before .before .before .before .before .before .before .before .args .s)) (now (c .before .before .before .before .before .before .before .before .before .before .before .before .before .before .before .args .ns)) v) (c .before .before .before .before .before .before .before .before .before .before .before .before .before .before .before .args .k) (c′ .own) (moves (with-line 50 (with-new-bucket (c .before .before .before .before .before .before .before .free-bucket-of .result) c′))))
-    (c .before .before .before .store-at .ensures ∙ ap (λ (v : List ℕ). overwrite (now (c .before .before .before .before .before .before .before .before .before .before .before .before .before .before .before .args .bs)) (66 * (c .before .before .before .before .before .before .before .free-bucket-of .result - 1)) v) (g .1))
-    ∙ sym (pass-49 y (c .before .before .before .before .before .before .before .before .before .before .before .before .before .before .before .args .k) c′ h (c .before .before .before .before .before .before .before .before .before .before .before .before .if1 .left) (c .before .before .before .before .before .before .before .before .before .before .before .if2 .left) (le-ltb _ _ (g .0)) (λ q. c .before .before .before .before .before .before .if4 .left (ef ∙ q)) ∙ rw (← ef))
+    let ef : c .before .before .before .before .before .before .before .free-bucket-of .result ≡ free-bucket y = c .before .before .before .before .before .before .before .free-bucket-of .ensures (now (a .bs)) ∙ bucket-sound y (c .before .before .before .before .before .before .before .before .before .before .before .before .before .before .before .pre .2) in
+    let n = numbers-of y (c .before .before .before .before .before .before .before .before .before .before .before .before .before .before .before .pre .2) in
+    let z = c .before .before .before .before .before .before .if3 .left in
+    let l : c .before .before .before .before .before .before .before .free-bucket-of .result ≤ a .s .buckets = rw ef (free-bucket-in y (omega arith)) in
+    let g = c .before .before .before .before .before .before .before .before .before .new-bucket-of .ensures (a .s) .fine (not-full (c .before .before .before .before .before .before .before .before .before .new-bucket-of .result .answer) (c .before .before .before .before .before .before .before .before .match .keys2)) in
+    c .go .ensures _ (c .before .before .before .store-at .last .0) ∙ ap (λ (v : List ℕ). accept (machine-of (state-last-bucket (c .before .before .before .before .before .before .before .free-bucket-of .result - 1) (a .s)) (now (a .ns)) v) (a .k) (c′ .own) (moves (with-line 50 (with-new-bucket (c .before .before .before .before .before .before .before .free-bucket-of .result) c′))))
+    (c .before .before .before .store-at .ensures ∙ store-here (now (a .bs)) (c .before .before .before .before .before .before .before .free-bucket-of .result - 1) (omega (arith, z, l)) (c .before .before .before .before .before .before .before .before .before .new-bucket-of .result .bucket) ∙ ap (λ (v : List ℕ). overwrite (now (a .bs)) (66 * (c .before .before .before .before .before .before .before .free-bucket-of .result - 1)) v) (g .1))
+    ∙ sym (pass-49 y (a .k) c′ h (c .before .before .before .before .before .before .before .before .before .before .before .before .if1 .left) (c .before .before .before .before .before .before .before .before .before .before .before .if2 .left) (le-ltb _ _ (g .0)) (λ q. z (ef ∙ q)) ∙ rw (← ef))
 
 pub line49-spec : {M : Type 1} → statement M
 line49-spec =
@@ -127,7 +133,8 @@ line49-spec =
     returns
     refused-requires-2
     returns-2
-    make-requires
+    new-bucket-of-requires
+    enum-told
     refused-requires-3
     same-length
     returns-3

@@ -14,8 +14,8 @@ add-h c = search needs
 size-of-requires : tie.Need-size-of-requires
 size-of-requires c κs = search needs
 
-limit-requires : tie.Need-limit-requires
-limit-requires c κs = search needs
+at-limit-requires : tie.Need-at-limit-requires
+at-limit-requires c κs = search needs
 
 end-requires : tie.Need-end-requires
 end-requires c κs = search needs
@@ -27,7 +27,7 @@ returns c =
     let y = machine-of (c .before .before .before .before .before .before .args .s) (now (c .before .before .before .before .before .before .args .ns)) bs in
     let c′ = c .before .before .before .before .before .before .args .c in
     let h = c .before .before .before .before .before .before .pre .1 in
-    c .end .ensures _ bs ∙ sym (pass-20 y (c .before .before .before .before .before .before .args .k) c′ h ∙ rw (← c .before .before .before .size-of .ensures, sym (c .before .before .limit .ensures) ∙ c .before .if1 .taken))
+    c .end .ensures _ bs ∙ sym (pass-20 y (c .before .before .before .before .before .before .args .k) c′ h ∙ rw (← c .before .before .before .size-of .ensures, sym (c .before .before .at-limit .ensures) ∙ c .before .if1 .taken))
 
 go-requires : tie.Need-go-requires
 go-requires c κs = search needs
@@ -39,9 +39,9 @@ returns-2 c =
     let y = machine-of (c .before .before .before .before .before .before .args .s) (now (c .before .before .before .before .before .before .args .ns)) bs in
     let c′ = c .before .before .before .before .before .before .args .c in
     let h = c .before .before .before .before .before .before .pre .1 in
-    c .go .ensures _ bs ∙ sym (pass-20 y (c .before .before .before .before .before .before .args .k) c′ h ∙ rw (← c .before .before .before .size-of .ensures, sym (c .before .before .limit .ensures) ∙ c .before .if1 .left))
+    c .go .ensures _ bs ∙ sym (pass-20 y (c .before .before .before .before .before .before .args .k) c′ h ∙ rw (← c .before .before .before .size-of .ensures, sym (c .before .before .at-limit .ensures) ∙ c .before .if1 .left))
 
 pub line20-spec : {M : Type 1} → statement M
 line20-spec =
     tie.close
-    (tie.spec add-h size-of-requires limit-requires end-requires returns go-requires returns-2)
+    (tie.spec add-h size-of-requires at-limit-requires end-requires returns go-requires returns-2)

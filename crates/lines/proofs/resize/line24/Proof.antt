@@ -1,3 +1,5 @@
+-- `lines::resize::line24` meets its contract: each return is the case of `step-running` that its tests lead to.
+-- Assumes nothing.
 use mathlib.Core.Path.{_≡_, sym, ap, _∙_}
 use mathlib.Core.List.{List}
 use Prim.Native.Nat.{ℕ, _+_, _*_}
@@ -17,14 +19,18 @@ refused-requires c κs = search needs
 
 returns : tie.Need-returns
 returns c =
+    let a = c .before .before .before .args in
     λ bs.
-    let y = machine-of (c .before .before .before .args .s) (now (c .before .before .before .args .ns)) bs in
-    let c′ = c .before .before .before .args .c in
+    let y = machine-of (a .s) (now (a .ns)) bs in
+    let c′ = a .c in
     let h = c .before .before .before .pre .1 in
-    c .refused .ensures _ bs ∙ sym (empty-24 y (c .before .before .before .args .k) c′ h (c .before .if1 .taken))
+    c .refused .ensures _ bs ∙ sym (empty-24 y (a .k) c′ h (c .before .if1 .taken))
 
 number-of-requires : tie.Need-number-of-requires
 number-of-requires c κs = search needs
+
+cast-put : tie.Need-cast-put
+cast-put c = search needs
 
 mul-put : tie.Need-mul-put
 mul-put c = search needs
@@ -44,13 +50,14 @@ same-length c = search needs
 returns-2 : tie.Need-returns-2
 unfolding line-24 accept apply with-nodes
 returns-2 c =
+    let a = c .before .before .before .before .before .before .before .before .args in
     λ bs.
-    let y = machine-of (c .before .before .before .before .before .before .before .before .args .s) (now (c .before .before .before .before .before .before .before .before .args .ns)) bs in
-    let c′ = c .before .before .before .before .before .before .before .before .args .c in
+    let y = machine-of (a .s) (now (a .ns)) bs in
+    let c′ = a .c in
     let h = c .before .before .before .before .before .before .before .before .pre .1 in
-    let w = now (c .before .before .before .before .before .before .before .before .args .ns) in
-    let e : c .before .before .before .put .last .0 ≡ set w (34 * number (c′ .t) + 1) 0 = c .before .before .before .put .ensures ∙ ap (λ (j : ℕ). set w (34 * j + 1) 0) (c .before .before .before .before .before .number-of .ensures .0) in
-    c .go .ensures (c .before .before .before .put .last .0) bs ∙ ap (λ (v : List ℕ). accept (machine-of (c .before .before .before .before .before .before .before .before .args .s) v bs) (c .before .before .before .before .before .before .before .before .args .k) (c′ .own) (moves (with-line 27 c′))) e ∙ sym (pass-24 y (c .before .before .before .before .before .before .before .before .args .k) c′ h (c .before .before .before .before .before .before .if1 .left))
+    let w = now (a .ns) in
+    let e : c .before .before .before .put .last .0 ≡ set w (34 * number (c′ .t) + 1) 0 = c .before .before .before .put .ensures ∙ ap (λ (j : ℕ). set w (34 * j + 1) 0) (c .before .before .before .before .before .number-of .ensures) in
+    c .go .ensures (c .before .before .before .put .last .0) bs ∙ ap (λ (v : List ℕ). accept (machine-of (a .s) v bs) (a .k) (c′ .own) (moves (with-line 27 c′))) e ∙ sym (pass-24 y (a .k) c′ h (c .before .before .before .before .before .before .if1 .left))
 
 pub line24-spec : {M : Type 1} → statement M
 line24-spec =
@@ -59,6 +66,7 @@ line24-spec =
     refused-requires
     returns
     number-of-requires
+    cast-put
     mul-put
     add-put
     put-requires

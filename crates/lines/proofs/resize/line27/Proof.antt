@@ -1,5 +1,7 @@
+-- `lines::resize::line27` meets its contract: each return is the case of `step-running` that its tests lead to.
+-- Assumes nothing.
 use mathlib.Core.Path.{_≡_, sym, ap, _∙_}
-use mathlib.Core.List.{List, []}
+use mathlib.Core.List.{List}
 use Prim.Native.Nat.{ℕ, _≤_, _-_}
 use denote.Ref.{now}
 use Rattle.spec.specs.Machine.{with-line, with-new-node, with-state, with-nodes, with-last-node, state-last-node, machine-of}
@@ -10,6 +12,9 @@ use Rattle.spec.specs.Lines.{moves, resized, line-27}
 use Rattle.spec.specs.Entries.{accept}
 use Rattle.lines.proofs.Taking.{free-node-in}
 use Rattle.lines.proofs.Laws.{empty-27, unlisted-27, all-held-27, pass-27}
+use Prim.Native.Nat.{_≤_}
+use Rattle.pool.proofs.At.{node-here}
+use Rattle.held.proofs.Taking.{node-in}
 use native.Mathlib.Omega.{arith}
 use borrow.Author.Needs.{needs}
 use Rattle.lines.proofs.resize.line27.Statement.{statement}
@@ -20,11 +25,12 @@ refused-requires c κs = search needs
 
 returns : tie.Need-returns
 returns c =
+    let a = c .before .before .before .args in
     λ bs.
-    let y = machine-of (c .before .before .before .args .s) (now (c .before .before .before .args .ns)) bs in
-    let c′ = c .before .before .before .args .c in
+    let y = machine-of (a .s) (now (a .ns)) bs in
+    let c′ = a .c in
     let h = c .before .before .before .pre .1 in
-    c .refused .ensures _ bs ∙ sym (empty-27 y (c .before .before .before .args .k) c′ h (c .before .if1 .taken))
+    c .refused .ensures _ bs ∙ sym (empty-27 y (a .k) c′ h (c .before .if1 .taken))
 
 size-of-requires : tie.Need-size-of-requires
 size-of-requires c κs = search needs
@@ -41,12 +47,13 @@ same-length c = search needs
 returns-2 : tie.Need-returns-2
 unfolding size-of
 returns-2 c =
+    let a = c .before .before .before .before .before .before .before .args in
     λ bs.
-    let y = machine-of (c .before .before .before .before .before .before .before .args .s) (now (c .before .before .before .before .before .before .before .args .ns)) bs in
-    let c′ = c .before .before .before .before .before .before .before .args .c in
+    let y = machine-of (a .s) (now (a .ns)) bs in
+    let c′ = a .c in
     let h = c .before .before .before .before .before .before .before .pre .1 in
-    let ez : c .before .before .before .size-of .result ≡ size (now (c .before .before .before .before .before .before .before .args .ns)) (number (c′ .t)) = c .before .before .before .size-of .ensures in
-    c .refused2 .ensures _ bs ∙ sym (unlisted-27 y (c .before .before .before .before .before .before .before .args .k) c′ h (c .before .before .before .before .before .if1 .left) (rw (← ez) (c .before .before .new-size .ensures .none (c .before .if2 .taken))))
+    let ez : c .before .before .before .size-of .result ≡ size (now (a .ns)) (number (c′ .t)) = c .before .before .before .size-of .ensures in
+    c .refused2 .ensures _ bs ∙ sym (unlisted-27 y (a .k) c′ h (c .before .before .before .before .before .if1 .left) (rw (← ez) (c .before .before .new-size .ensures .none (c .before .if2 .taken))))
 
 free-node-of-requires : tie.Need-free-node-of-requires
 free-node-of-requires c κs = search needs
@@ -60,12 +67,13 @@ same-length-2 c = search needs
 returns-3 : tie.Need-returns-3
 unfolding size-of
 returns-3 c =
+    let a = c .before .before .before .before .before .before .before .before .before .before .args in
     λ bs.
-    let y = machine-of (c .before .before .before .before .before .before .before .before .before .before .args .s) (now (c .before .before .before .before .before .before .before .before .before .before .args .ns)) bs in
-    let c′ = c .before .before .before .before .before .before .before .before .before .before .args .c in
+    let y = machine-of (a .s) (now (a .ns)) bs in
+    let c′ = a .c in
     let h = c .before .before .before .before .before .before .before .before .before .before .pre .1 in
-    let ez : c .before .before .before .before .before .before .size-of .result ≡ size (now (c .before .before .before .before .before .before .before .before .before .before .args .ns)) (number (c′ .t)) = c .before .before .before .before .before .before .size-of .ensures in
-    c .refused3 .ensures _ bs ∙ sym (all-held-27 y (c .before .before .before .before .before .before .before .before .before .before .args .k) c′ h (c .before .before .before .before .before .before .before .before .if1 .left) (rw (← ez) (c .before .before .before .before .before .new-size .ensures .some (c .before .before .before .before .if2 .left) .0)) (sym (c .before .before .free-node-of .ensures bs) ∙ c .before .if3 .taken))
+    let ez : c .before .before .before .before .before .before .size-of .result ≡ size (now (a .ns)) (number (c′ .t)) = c .before .before .before .before .before .before .size-of .ensures in
+    c .refused3 .ensures _ bs ∙ sym (all-held-27 y (a .k) c′ h (c .before .before .before .before .before .before .before .before .if1 .left) (rw (← ez) (c .before .before .before .before .before .new-size .ensures .some (c .before .before .before .before .if2 .left) .0)) (sym (c .before .before .free-node-of .ensures bs ∙ node-in y (c .before .before .before .before .before .before .before .before .before .before .pre .2, c .before .before .before .before .before .before .before .before .before .before .pre .3, c .before .before .before .before .before .before .before .before .before .before .pre .4)) ∙ c .before .if3 .taken))
 
 cast-new-node : tie.Need-cast-new-node
 cast-new-node c = search needs
@@ -74,10 +82,7 @@ sub-new-node : tie.Need-sub-new-node
 sub-new-node c = search needs
 
 new-node-requires : tie.Need-new-node-requires
-new-node-requires c κs =
-    let y = machine-of (c .before .before .before .before .before .before .before .before .before .before .args .s) (now (c .before .before .before .before .before .before .before .before .before .before .args .ns)) [] in
-    let l : c .before .before .free-node-of .result ≤ c .before .before .before .before .before .before .before .before .before .before .args .s .nodes = rw (c .before .before .free-node-of .ensures []) (free-node-in y (omega arith)) in
-    omega (arith, c .before .if3 .left, l)
+new-node-requires c κs = search needs
 
 sub-u : tie.Need-sub-u
 sub-u c = search needs
@@ -91,15 +96,18 @@ same-length-3 c = search needs
 returns-4 : tie.Need-returns-4
 unfolding line-27 accept apply with-last-node with-nodes with-state state-last-node with-new-node size-of
 returns-4 c =
+    let a = c .before .before .before .before .before .before .before .before .before .before .before .before .before .before .args in
     λ bs.
-    let y = machine-of (c .before .before .before .before .before .before .before .before .before .before .before .before .before .before .args .s) (now (c .before .before .before .before .before .before .before .before .before .before .before .before .before .before .args .ns)) bs in
-    let c′ = c .before .before .before .before .before .before .before .before .before .before .before .before .before .before .args .c in
+    let y = machine-of (a .s) (now (a .ns)) bs in
+    let c′ = a .c in
     let h = c .before .before .before .before .before .before .before .before .before .before .before .before .before .before .pre .1 in
-    let ez : c .before .before .before .before .before .before .before .before .before .before .size-of .result ≡ size (now (c .before .before .before .before .before .before .before .before .before .before .before .before .before .before .args .ns)) (number (c′ .t)) = c .before .before .before .before .before .before .before .before .before .before .size-of .ensures in
-    let ef : c .before .before .before .before .before .before .free-node-of .result ≡ free-node y = c .before .before .before .before .before .before .free-node-of .ensures bs in
+    let ez : c .before .before .before .before .before .before .before .before .before .before .size-of .result ≡ size (now (a .ns)) (number (c′ .t)) = c .before .before .before .before .before .before .before .before .before .before .size-of .ensures in
+    let ef : c .before .before .before .before .before .before .free-node-of .result ≡ free-node y = c .before .before .before .before .before .before .free-node-of .ensures bs ∙ node-in y (c .before .before .before .before .before .before .before .before .before .before .before .before .before .before .pre .2, c .before .before .before .before .before .before .before .before .before .before .before .before .before .before .pre .3, c .before .before .before .before .before .before .before .before .before .before .before .before .before .before .pre .4) in
+    let l : c .before .before .before .before .before .before .free-node-of .result ≤ a .s .nodes = rw ef (free-node-in y (omega arith)) in
+    let z = c .before .before .before .before .before .if3 .left in
     let ew : c .before .before .before .before .before .before .before .before .before .new-size .result ≡ resized (c′ .call) (c .before .before .before .before .before .before .before .before .before .before .size-of .result) = c .before .before .before .before .before .before .before .before .before .new-size .ensures .some (c .before .before .before .before .before .before .before .before .if2 .left) .1 in
-    c .go .ensures (c .before .before .before .new-node .last .0) bs ∙ ap (λ (v : List ℕ). accept (machine-of (state-last-node (c .before .before .before .before .before .before .free-node-of .result - 1) (c .before .before .before .before .before .before .before .before .before .before .before .before .before .before .args .s)) v bs) (c .before .before .before .before .before .before .before .before .before .before .before .before .before .before .args .k) (c′ .own) (moves (with-line 28 (with-new-node (c .before .before .before .before .before .before .free-node-of .result) c′)))) (c .before .before .before .new-node .ensures)
-    ∙ sym (pass-27 y (c .before .before .before .before .before .before .before .before .before .before .before .before .before .before .args .k) c′ h (c .before .before .before .before .before .before .before .before .before .before .before .before .if1 .left) (rw (← ez) (c .before .before .before .before .before .before .before .before .before .new-size .ensures .some (c .before .before .before .before .before .before .before .before .if2 .left) .0)) (λ q. c .before .before .before .before .before .if3 .left (ef ∙ q)) ∙ rw (← ef, ← ez, ← ew))
+    c .go .ensures (c .before .before .before .new-node .last .0) bs ∙ ap (λ (v : List ℕ). accept (machine-of (state-last-node (c .before .before .before .before .before .before .free-node-of .result - 1) (a .s)) v bs) (a .k) (c′ .own) (moves (with-line 28 (with-new-node (c .before .before .before .before .before .before .free-node-of .result) c′)))) (c .before .before .before .new-node .ensures ∙ node-here (now (a .ns)) (c .before .before .before .before .before .before .free-node-of .result - 1) (c .before .before .before .before .before .before .before .before .before .new-size .result) (c′ .t) (omega (arith, z, l)))
+    ∙ sym (pass-27 y (a .k) c′ h (c .before .before .before .before .before .before .before .before .before .before .before .before .if1 .left) (rw (← ez) (c .before .before .before .before .before .before .before .before .before .new-size .ensures .some (c .before .before .before .before .before .before .before .before .if2 .left) .0)) (λ q. c .before .before .before .before .before .if3 .left (ef ∙ q)) ∙ rw (← ef, ← ez, ← ew))
 
 pub line27-spec : {M : Type 1} → statement M
 line27-spec =

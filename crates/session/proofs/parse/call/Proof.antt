@@ -1,3 +1,5 @@
+-- `session::parse::call` meets its contract. The five tests in the definition's order; each answer rewrites with those before
+-- it. Assumes nothing.
 use mathlib.Core.Path.{_≡_, sym, ap, _∙_}
 use mathlib.Core.Bool.{true, false}
 use denote.Ref.{now}

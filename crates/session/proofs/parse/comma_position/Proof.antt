@@ -1,3 +1,5 @@
+-- `session::parse::comma_position` meets its contract. The loop's invariant: the bytes passed and those before the first comma
+-- of the rest make the position. Assumes nothing.
 use mathlib.Core.Path.{_≡_}
 use Prim.Native.Nat.{_+_, _-_, _≤_}
 use lib.ListN.{length, drop}

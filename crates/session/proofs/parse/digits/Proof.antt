@@ -1,3 +1,5 @@
+-- `session::parse::digits` meets its contract. The loop's invariant: the number so far with the digits left gives what all
+-- digits give, and fits 32 bits. Assumes nothing.
 use mathlib.Core.Path.{_≡_, refl, sym, _∙_}
 use Prim.Native.Nat.{_-_, _≤_}
 use lib.ListN.{length, drop}

@@ -1,3 +1,4 @@
+-- `session::parse::equals` meets its contract. Two tests, the length and the start, as in the definition. Assumes nothing.
 use Rattle.session.specs.Grammar.{equals}
 use borrow.Author.Tests.{eq-eqb, ne-eqb}
 use borrow.Author.Needs.{needs}

@@ -1,3 +1,4 @@
+-- `session::parse::event` meets its contract. The two keys in the definition's order. Assumes nothing.
 use mathlib.Core.Path.{_≡_, sym, ap, _∙_}
 use mathlib.Core.Bool.{true, false}
 use denote.Ref.{now}

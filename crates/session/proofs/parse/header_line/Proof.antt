@@ -1,3 +1,5 @@
+-- `session::parse::header_line` meets its contract. A closed line is admissible exactly if it has at most 40 bytes. Assumes
+-- nothing.
 use Rattle.session.specs.Grammar.{parse-header-line, admissible}
 use borrow.Author.Tests.{le-leb, lt-leb}
 use borrow.Author.Needs.{needs}

@@ -1,3 +1,5 @@
+-- `session::parse::keyed_number` meets its contract. What starts with the key is as long as the key, so the number's part is a
+-- part of the line. Assumes nothing.
 use mathlib.Core.Path.{_≡_, sym, ap, _∙_}
 use mathlib.Core.Bool.{true, false}
 use lib.ListN.{length}

@@ -1,3 +1,5 @@
+-- `session::parse::number` meets its contract. The definition's cases by the first byte: none, the number 0, a leading zero,
+-- other digits. Assumes nothing.
 use mathlib.Core.Path.{sym, _∙_}
 use denote.Ref.{now}
 use Rattle.session.proofs.Laws.{number-none, number-zero, number-led, number-run}

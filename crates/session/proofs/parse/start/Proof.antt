@@ -1,3 +1,5 @@
+-- `session::parse::start` meets its contract. The task's number stands before the first comma and the call after it; without a
+-- comma no call is left. Assumes nothing.
 use mathlib.Core.Path.{_≡_, sym, ap, _∙_}
 use Prim.Native.Nat.{_+_, _≤_}
 use lib.ListN.{length, take, drop-of-length-le}

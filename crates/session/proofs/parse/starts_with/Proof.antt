@@ -1,3 +1,5 @@
+-- `session::parse::starts_with` meets its contract. The loop's invariant: what is left of s starts with what is left of the key
+-- exactly if all of s starts with all of the key. Assumes nothing.
 use mathlib.Core.Path.{_≡_, refl, sym, _∙_}
 use Prim.Native.Nat.{_-_}
 use lib.ListN.{length, drop}

@@ -1,3 +1,4 @@
+-- `session::parse::step` meets its contract. Both cases of the number, as in the definition. Assumes nothing.
 use Rattle.session.specs.Grammar.{step-event}
 use borrow.Author.Needs.{needs}
 use Rattle.session.proofs.parse.step.Statement.{statement}

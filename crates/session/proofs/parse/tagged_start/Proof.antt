@@ -1,3 +1,4 @@
+-- `session::parse::tagged_start` meets its contract. Both cases of the tag, as in the definition. Assumes nothing.
 use Rattle.session.specs.Grammar.{tagged-start}
 use borrow.Author.Needs.{needs}
 use Rattle.session.proofs.parse.tagged_start.Statement.{statement}

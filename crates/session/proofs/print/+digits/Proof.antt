@@ -1,8 +1,11 @@
+-- `session::print::digits` meets its contract. By the number of digits that are still allowed, which falls with each call.
+-- Assumes nothing.
 use mathlib.Core.Path.{_≡_, sym, ap, _∙_}
 use mathlib.Core.List.{List, [], _∷_, _++_}
 use Prim.Native.Nat.{ℕ, suc, _+_, _-_, _/_, _%_, _<_}
 use denote.Ref.{now}
-use Rattle.session.proofs.Laws.{decimal-one, decimal-more, append-append}
+use Rattle.session.proofs.Laws.{decimal-one, decimal-more}
+use Rattle.session.specs.BufferLaws.{append-both}
 use Rattle.session.specs.Print.{decimal-digits}
 use Rattle.session.specs.Buffer.{buffer, append-byte, append}
 use native.Mathlib.Omega.{arith}
@@ -148,7 +151,7 @@ digits-returns-3 t c =
     let g : decimal-digits (a .most) (a .n) ≡ front ++ ((48 + a .n % 10) ∷ []) = ap (λ (p : ℕ). decimal-digits p (a .n)) (sym e) ∙ decimal-more (a .most - 1) (a .n) (at-if2 .if2 .left) in
     c .before .before .one-byte2 .ensures
     ∙ ap (append-byte (48 + a .n % 10)) (at-digits .digits .ensures)
-    ∙ sym (append-append front ((48 + a .n % 10) ∷ []) (buffer (now (a .buf)) (a .at)))
+    ∙ sym (append-both front ((48 + a .n % 10) ∷ []) (buffer (now (a .buf)) (a .at)))
     ∙ ap (λ (l : List ℕ). append l (buffer (now (a .buf)) (a .at))) (sym g)
 
 pub +digits-spec : {M : Type 1} → statement M

@@ -1,3 +1,5 @@
+-- `session::print::all_bytes` meets its contract. The loop's invariant: appending what is left to the buffer so far gives what
+-- appending all to the first buffer gives. Assumes nothing.
 use mathlib.Core.Path.{_≡_, refl, sym, ap, _∙_}
 use Prim.Native.Nat.{_+_, _-_}
 use lib.ListN.{length, drop}

@@ -1,3 +1,4 @@
+-- `session::print::answer` meets its contract. The six cases of `answer-word`. Assumes nothing.
 use Rattle.session.specs.Print.{answer-word}
 use borrow.Author.Needs.{needs}
 use Rattle.session.proofs.print.answer.Statement.{statement}

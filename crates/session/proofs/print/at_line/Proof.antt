@@ -1,3 +1,4 @@
+-- `session::print::at_line` meets its contract. Five parts appended one after the other. Assumes nothing.
 use mathlib.Core.List.{[], _∷_}
 use Rattle.session.proofs.Laws.{append-5}
 use Rattle.session.specs.Print.{decimal, output-line}

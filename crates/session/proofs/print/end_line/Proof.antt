@@ -1,3 +1,4 @@
+-- `session::print::end_line` meets its contract. Seven parts appended one after the other. Assumes nothing.
 use mathlib.Core.List.{[], _∷_}
 use Rattle.session.proofs.Laws.{append-7}
 use Rattle.session.specs.Print.{decimal, output-line, answer-word}

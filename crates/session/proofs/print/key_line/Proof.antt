@@ -1,3 +1,4 @@
+-- `session::print::key_line` meets its contract. Three parts appended one after the other. Assumes nothing.
 use mathlib.Core.List.{[], _∷_}
 use denote.Ref.{now}
 use Rattle.session.proofs.Laws.{append-3}

@@ -1,3 +1,4 @@
+-- `session::print::listing` meets its contract. Three parts appended one after the other. Assumes nothing.
 use lib.ListN.{length}
 use denote.Ref.{now}
 use Rattle.session.proofs.Laws.{append-3}

@@ -1,3 +1,4 @@
+-- `session::print::number` meets its contract. It is `digits` with 20, as in the definition of `decimal`. Assumes nothing.
 use Rattle.session.specs.Print.{decimal}
 use borrow.Author.Needs.{needs}
 use Rattle.session.proofs.print.number.Statement.{statement}

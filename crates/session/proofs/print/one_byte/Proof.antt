@@ -1,3 +1,4 @@
+-- `session::print::one_byte` meets its contract. Room for the byte, or none: the two cases of `append-byte`. Assumes nothing.
 use mathlib.Core.Path.{sym}
 use denote.Ref.{now}
 use Rattle.session.proofs.Laws.{append-in, append-out}

@@ -1,3 +1,4 @@
+-- `session::print::output` meets its contract. The three cases of `output-line`. Assumes nothing.
 use Rattle.session.specs.Print.{output-line}
 use borrow.Author.Needs.{needs}
 use Rattle.session.proofs.print.output.Statement.{statement}

@@ -1,3 +1,4 @@
+-- `session::print::refusal` meets its contract. It is a key line with the key `refuse=`. Assumes nothing.
 use Rattle.session.specs.Print.{refusal-line}
 use borrow.Author.Needs.{needs}
 use Rattle.session.proofs.print.refusal.Statement.{statement}

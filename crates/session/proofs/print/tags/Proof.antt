@@ -1,3 +1,5 @@
+-- `session::print::tags` meets its contract. The loop's invariant: the lines of the tags left, appended to the buffer so far,
+-- give what all lines give. Assumes nothing.
 use mathlib.Core.Path.{_≡_, refl, sym, ap, _∙_}
 use Prim.Native.Nat.{_+_, _-_}
 use lib.ListN.{length, drop}

@@ -1,3 +1,4 @@
+-- `session_lines::events::event_line` meets its contract. The three cases of the line, as `event-effect` says. Assumes nothing.
 use mathlib.Core.Path.{sym, _∙_}
 use Rattle.session_lines.proofs.Laws.{keeps}
 use Rattle.session_lines.specs.Handling.{event-effect}

@@ -1,3 +1,5 @@
+-- `session_lines::events::listing` meets its contract. The contract of `hashset::list`: a count is at most 64, and so many of
+-- the words are the tags. Assumes nothing.
 use mathlib.Core.Path.{sym}
 use lib.ListN.{replicate}
 use denote.Ref.{now}

@@ -1,3 +1,5 @@
+-- `session_lines::events::start_task` meets its contract. The contract of `hashset::start` over the session's part of the
+-- pools, which it only reads. Assumes nothing.
 use mathlib.Core.Path.{sym}
 use denote.Ref.{now}
 use Rattle.spec.specs.Entries.{start}

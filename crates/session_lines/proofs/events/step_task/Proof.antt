@@ -1,3 +1,5 @@
+-- `session_lines::events::step_task` meets its contract. The contract of `hashset::step` over the session's part of the pools,
+-- put back into the whole of them. Assumes nothing.
 use mathlib.Core.Path.{sym}
 use denote.Ref.{now}
 use Rattle.spec.specs.Entries.{step}

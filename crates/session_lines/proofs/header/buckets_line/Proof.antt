@@ -1,3 +1,5 @@
+-- `session_lines::header::buckets_line` meets its contract. Both cases of the line's number, as `buckets-effect` says. Assumes
+-- nothing.
 use mathlib.Core.Path.{sym, _∙_}
 use Rattle.session_lines.proofs.Laws.{keeps}
 use Rattle.session_lines.specs.Handling.{buckets-effect}

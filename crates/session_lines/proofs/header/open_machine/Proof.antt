@@ -1,3 +1,5 @@
+-- `session_lines::header::open_machine` meets its contract. The contract of `hashset::open` over the session's part of the
+-- pools, put back into the whole of them. Assumes nothing.
 use mathlib.Core.Path.{sym}
 use denote.Ref.{now}
 use Rattle.session_lines.proofs.Laws.{opens, refuses}

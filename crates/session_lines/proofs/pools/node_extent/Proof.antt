@@ -1,3 +1,5 @@
+-- `session_lines::pools::node_extent` meets its contract. The three tests of `extent` for 34 words and at most 64 nodes.
+-- Assumes nothing.
 use mathlib.Core.Path.{sym}
 use Rattle.session_lines.proofs.Laws.{extent-low, extent-high, extent-fits, extent-short}
 use native.Mathlib.Omega.{arith}

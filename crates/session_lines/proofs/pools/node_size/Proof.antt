@@ -1,3 +1,5 @@
+-- `session_lines::pools::node_size` meets its contract. The word at 34 times the node's number, 0 past the pool's end. Assumes
+-- nothing.
 use denote.Ref.{now}
 use Rattle.session_lines.proofs.Laws.{size-in, size-past}
 use borrow.Author.Needs.{needs}

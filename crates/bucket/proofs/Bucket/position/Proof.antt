@@ -1,0 +1,79 @@
+-- `bucket::Bucket::position` meets its contract: the tags passed are below the tag, so the rank is their number and the rank in the rest.
+-- Assumes nothing.
+use native.Mathlib.Omega.{arith}
+use borrow.Author.Needs.{needs}
+use mathlib.Core.Path.{_≡_}
+use Prim.Native.Nat.{_≤_, _<_, _-_, _+_}
+use lib.ListN.{length, drop}
+use Rattle.bucket.specs.Bucket.{tags-in, rank}
+use Rattle.bucket.proofs.Laws.{tag-at, rank-here, rank-on, rank-end}
+use Rattle.bucket.proofs.Bucket.position.Statement.{statement}
+use Rattle.bucket.proofs.Bucket.position.Tie as tie
+
+abbrev Inv-loop : tie.InvT-loop
+Inv-loop tag self n i₀ i = (i ≤ n) × (i + rank tag (drop i (tags-in (self .words))) ≡ rank tag (tags-in (self .words)))
+
+abbrev μ-loop : tie.MeasureT-loop
+μ-loop tag self n i₀ i = n - i
+
+count-requires : tie.Need-count-requires Inv-loop μ-loop
+count-requires c κs = search needs
+
+within : (c : tie.In-loop Inv-loop μ-loop) → c .before .loop .i < length (tags-in (c .before .before .before .args .t1 .words))
+within c = omega arith
+
+loop-holds : tie.Need-loop-holds Inv-loop μ-loop
+loop-holds c = (omega arith, omega arith)
+
+add-if1 : tie.Need-add-if1 Inv-loop μ-loop
+add-if1 c = omega arith
+
+mul-if1 : tie.Need-mul-if1 Inv-loop μ-loop
+mul-if1 c = omega arith
+
+element-copy-out-if1 : tie.Need-element-copy-out-if1 Inv-loop μ-loop
+element-copy-out-if1 c = omega arith
+
+returns : tie.Need-returns Inv-loop μ-loop
+returns c =
+    let w = c .before .before in
+    let ws = w .before .before .before .args .t1 .words in
+    let e = tag-at ws _ (within w) in
+    let r = rank-here (w .before .before .before .args .tag) (tags-in ws) (w .before .loop .i) (within w) (omega arith) in
+    omega arith
+
+add-i : tie.Need-add-i Inv-loop μ-loop
+add-i c = omega arith
+
+loop-less : tie.Need-loop-less Inv-loop μ-loop
+loop-less c = omega arith
+
+loop-again : tie.Need-loop-again Inv-loop μ-loop
+loop-again c =
+    let w = c .before .before in
+    let ws = w .before .before .before .args .t1 .words in
+    let e = tag-at ws _ (within w) in
+    let r = rank-on (w .before .before .before .args .tag) (tags-in ws) (w .before .loop .i) (within w) (omega arith) in
+    (omega arith, omega arith)
+
+returns-2 : tie.Need-returns-2 Inv-loop μ-loop
+returns-2 c =
+    let r = rank-end (c .before .before .before .args .tag) (tags-in (c .before .before .before .args .t1 .words)) (c .before .loop .i) (omega arith) in
+    omega arith
+
+pub position-spec : {M : Type 1} → statement M
+position-spec =
+    tie.close
+    (tie.spec
+    Inv-loop
+    μ-loop
+    count-requires
+    loop-holds
+    add-if1
+    mul-if1
+    element-copy-out-if1
+    returns
+    add-i
+    loop-less
+    loop-again
+    returns-2)

@@ -1,0 +1,90 @@
+-- `held::mark_nodes` meets its contract: the head's chain, then each task's. Assumes nothing.
+use mathlib.Core.Path.{_≡_, refl, _∙_}
+use mathlib.Core.List.{List}
+use mathlib.Core.Bool.{Bool}
+use Prim.Native.Nat.{ℕ, _-_, _≤_}
+use denote.Ref.{now}
+use lib.ListN.{length, drop}
+use Rattle.held.specs.Held.{Marks}
+use Rattle.pool.proofs.Laws.{length-mapped}
+use Rattle.spec.specs.declared.Task.{Task}
+use Rattle.spec.specs.Lists.{concat-map}
+use Rattle.spec.specs.Held.{chain, task-nodes}
+use Rattle.held.proofs.Laws.{tasks-turn, tasks-last, finish, held-all}
+use native.Mathlib.Omega.{arith}
+use borrow.Author.Needs.{needs}
+use Rattle.held.proofs.mark_nodes.Statement.{statement}
+use Rattle.held.proofs.mark_nodes.Tie as tie
+
+abbrev of-task : List ℕ → ℕ → Task → List ℕ
+of-task w h c = concat-map (chain w h) (task-nodes c)
+
+abbrev Inv-loop : tie.InvT-loop
+Inv-loop ns m₀ h ts k₀ m k =
+    (k ≤ 8) × (length m ≡ length m₀) × ((q : List Bool) → Marks m q (concat-map (of-task ns h) (drop k ts)) → Marks m₀ q (concat-map (of-task ns h) ts))
+
+abbrev μ-loop : tie.MeasureT-loop
+μ-loop ns m₀ h ts k₀ m k = 8 - k
+
+len : (c : tie.Start Inv-loop μ-loop) → length (c .args .s .task) ≡ 8
+len c = search (needs, length-mapped)
+
+add-mark-chain : tie.Need-add-mark-chain Inv-loop μ-loop
+add-mark-chain c = search needs
+
+mark-chain-requires : tie.Need-mark-chain-requires Inv-loop μ-loop
+mark-chain-requires c κs = search needs
+
+loop-holds : tie.Need-loop-holds Inv-loop μ-loop
+loop-holds c = (omega arith, refl, λ q r. r)
+
+mul-c : tie.Need-mul-c Inv-loop μ-loop
+mul-c c = search needs
+
+array-copy-out-c : tie.Need-array-copy-out-c Inv-loop μ-loop
+array-copy-out-c c = search needs
+
+mark-task-nodes-requires : tie.Need-mark-task-nodes-requires Inv-loop μ-loop
+mark-task-nodes-requires c κs = search needs
+
+add-k : tie.Need-add-k Inv-loop μ-loop
+add-k c = search needs
+
+loop-less : tie.Need-loop-less Inv-loop μ-loop
+loop-less c = search needs
+
+loop-again : tie.Need-loop-again Inv-loop μ-loop
+loop-again c =
+    let w = now (c .before .before .before .before .before .before .before .before .before .before .before .before .before .before .before .args .ns) in
+    let ts = c .before .before .before .before .before .before .before .before .before .before .before .before .before .before .before .args .s .task in
+    let f = of-task w (c .before .before .before .before .before .before .before .before .before .before .before .before .before .before .before .args .s .nodes) in
+    (omega arith, c .before .before .mark-task-nodes .ensures .long ∙ c .before .before .before .before .before .before .loop .inv .1, tasks-turn f ts (c .before .before .before .before .before .before .loop .k) _ (concat-map f ts) (omega (arith, len (c .before .before .before .before .before .before .before .before .before .before .before .before .before .before .before))) (c .before .before .before .before .before .before .loop .inv .2) (c .before .before .mark-task-nodes .ensures))
+
+same-length : tie.Need-same-length Inv-loop μ-loop
+same-length c = c .before .loop .inv .1 ∙ c .before .before .before .before .mark-chain .ensures .long
+
+returns : tie.Need-returns Inv-loop μ-loop
+returns c =
+    λ bs.
+    let w = now (c .before .before .before .before .before .before .before .before .before .before .args .ns) in
+    let ts = c .before .before .before .before .before .before .before .before .before .before .args .s .task in
+    let f = of-task w (c .before .before .before .before .before .before .before .before .before .before .args .s .nodes) in
+    held-all w bs (c .before .before .before .before .before .before .before .before .before .before .args .s) (c .before .before .before .before .mark-chain .ensures) (finish (concat-map f (drop (c .before .loop .k) ts)) (concat-map f ts) (tasks-last ts (c .before .loop .k) f (omega (arith, len (c .before .before .before .before .before .before .before .before .before .before)))) (c .before .loop .inv .2))
+
+pub mark-nodes-spec : {M : Type 1} → statement M
+mark-nodes-spec =
+    tie.close
+    (tie.spec
+    Inv-loop
+    μ-loop
+    add-mark-chain
+    mark-chain-requires
+    loop-holds
+    mul-c
+    array-copy-out-c
+    mark-task-nodes-requires
+    add-k
+    loop-less
+    loop-again
+    same-length
+    returns)

@@ -1,0 +1,78 @@
+-- `held::mark_placed` meets its contract: the places of each marked node passed, with those of the marked nodes to come, are all.
+-- Assumes nothing.
+use mathlib.Core.Path.{_≡_, refl, ap, _∙_}
+use mathlib.Core.List.{List}
+use mathlib.Core.Bool.{Bool}
+use Prim.Native.Nat.{_-_, _≤_}
+use denote.Ref.{now}
+use lib.ListN.{length}
+use Rattle.held.specs.Held.{Marks, marked-numbers}
+use mathlib.Core.Logic.{⊎-elim}
+use Rattle.spec.specs.Lists.{concat-map}
+use Rattle.spec.specs.Words.{places}
+use Rattle.held.proofs.Laws.{numbers-from, numbers-all, numbers-none, placed-yes, placed-no, finish}
+use native.Mathlib.Omega.{arith}
+use borrow.Author.Needs.{needs}
+use Rattle.held.proofs.mark_placed.Statement.{statement}
+use Rattle.held.proofs.mark_placed.Tie as tie
+
+abbrev Inv-loop : tie.InvT-loop
+Inv-loop ns m₀ nodes k₀ m k =
+    (k ≤ 64) × (length m ≡ length m₀) × ((q : List Bool) → Marks m q (concat-map (places ns) (numbers-from nodes k)) → Marks m₀ q (concat-map (places ns) (marked-numbers nodes)))
+
+abbrev μ-loop : tie.MeasureT-loop
+μ-loop ns m₀ nodes k₀ m k = 64 - k
+
+loop-holds : tie.Need-loop-holds Inv-loop μ-loop
+loop-holds c = (omega arith, refl, λ q. rw (numbers-all (c .before .before .args .t2)) (λ r. r))
+
+cast-if1 : tie.Need-cast-if1 Inv-loop μ-loop
+cast-if1 c = search needs
+
+array-read-if1 : tie.Need-array-read-if1 Inv-loop μ-loop
+array-read-if1 c = search needs
+
+mark-places-requires : tie.Need-mark-places-requires Inv-loop μ-loop
+mark-places-requires c κs = search needs
+
+add-k : tie.Need-add-k Inv-loop μ-loop
+add-k c = search needs
+
+loop-less : tie.Need-loop-less Inv-loop μ-loop
+loop-less c = search needs
+
+loop-again : tie.Need-loop-again Inv-loop μ-loop
+loop-again c =
+    let w = now (c .before .before .before .before .before .args .ns) in
+    let d = c .before .before .before .before .before .args .t2 in
+    let ls = concat-map (places w) (marked-numbers d) in
+    ⊎-elim
+    (λ t. (omega arith, ap length (t .5) ∙ t .2 .ensures .long ∙ c .before .before .loop .inv .1, placed-yes d w (c .before .before .loop .k) ls (c .before .loop-test .taken) (t .0 .taken) (c .before .before .loop .inv .2) (t .2 .ensures) (t .5)))
+    (λ t. (omega arith, ap length (t .1) ∙ c .before .before .loop .inv .1, placed-no d w (c .before .before .loop .k) ls (c .before .loop-test .taken) (t .0 .left) (c .before .before .loop .inv .2) (t .1)))
+    (c .if1 .came)
+
+same-length : tie.Need-same-length Inv-loop μ-loop
+same-length c = c .before .loop .inv .1
+
+returns : tie.Need-returns Inv-loop μ-loop
+unfolding concat-map
+returns c =
+    let w = now (c .before .before .before .before .args .ns) in
+    let d = c .before .before .before .before .args .t2 in
+    finish (concat-map (places w) (numbers-from d (c .before .loop .k))) _ (ap (concat-map (places w)) (numbers-none d (c .before .loop .k) (omega arith))) (c .before .loop .inv .2)
+
+pub mark-placed-spec : {M : Type 1} → statement M
+mark-placed-spec =
+    tie.close
+    (tie.spec
+    Inv-loop
+    μ-loop
+    loop-holds
+    cast-if1
+    array-read-if1
+    mark-places-requires
+    add-k
+    loop-less
+    loop-again
+    same-length
+    returns)

@@ -1,0 +1,58 @@
+-- `listing::count` meets its contract: the head's tags, and those of its predecessor if it has one. Assumes nothing.
+use mathlib.Core.Path.{_≡_, sym, ap, _∙_}
+use mathlib.Core.Bool.{true, false}
+use Prim.Native.Nat.{ℕ}
+use denote.Ref.{now}
+use lib.ListN.{length, length-append}
+use Rattle.listing.specs.Listing.{places-tags}
+use Rattle.spec.specs.Words.{number, pred}
+use Rattle.listing.proofs.Laws.{set-alone, set-both}
+use native.Mathlib.Omega.{arith}
+use borrow.Author.Needs.{needs}
+use Rattle.listing.proofs.count.Statement.{statement}
+use Rattle.listing.proofs.count.Tie as tie
+
+count-node-requires : tie.Need-count-node-requires
+count-node-requires c κs = search needs
+
+pred-at-requires : tie.Need-pred-at-requires
+pred-at-requires c κs = search needs
+
+returns : tie.Need-returns
+returns c =
+    let a = c .before .before .before .before .before .args in
+    let e = ap length (set-alone (now (a .ns)) (now (a .bs)) (a .s .head) (sym (c .before .pred-at .ensures) ∙ c .if1 .taken)) in
+    c .before .before .count-node .ensures .0 ∙ sym e
+
+number-of-requires : tie.Need-number-of-requires
+number-of-requires c κs = search needs
+
+count-node-requires-2 : tie.Need-count-node-requires-2
+count-node-requires-2 c κs = search needs
+
+add-result : tie.Need-add-result
+add-result c = search needs
+
+returns-2 : tie.Need-returns-2
+returns-2 c =
+    let a = c .before .before .before .before .before .before .before .args in
+    let ns = now (a .ns) in
+    let bs = now (a .bs) in
+    let d = a .s .head in
+    let k : c .before .number-of .result ≡ number (pred ns d) = c .before .number-of .ensures ∙ ap number (c .before .before .before .pred-at .ensures) in
+    let e = ap length (set-both ns bs d (λ z. c .before .before .if1 .left (c .before .before .before .pred-at .ensures ∙ z))) ∙ length-append (places-tags ns bs d d false 0 32) (places-tags ns bs d (number (pred ns d)) true 0 32) in
+    let x = c .before .before .before .before .count-node .ensures .0 in
+    let y = c .count-node2 .ensures .0 ∙ ap (λ (k : ℕ). length (places-tags ns bs d k true 0 32)) k in
+    omega arith
+
+pub count-spec : {M : Type 1} → statement M
+count-spec =
+    tie.close
+    (tie.spec
+    count-node-requires
+    pred-at-requires
+    returns
+    number-of-requires
+    count-node-requires-2
+    add-result
+    returns-2)

@@ -1,0 +1,173 @@
+-- A bucket of the pool by its number: what reading it, storing it, freezing it, adding to it and removing from it come to for a number
+-- in the pool, and where its words are sound. Assumes nothing.
+use mathlib.Core.Path.{_≡_, refl, sym, ap, _∙_}
+use mathlib.Core.List.{List, [], _∷_, _++_, append-assoc}
+use mathlib.Core.Bool.{Bool, true, false, _&&_}
+use Prim.Native.Nat.{ℕ, suc, _+_, _-_, _*_, _/_, _<_, _≤_}
+use native.Mathlib.Omega.{arith}
+use borrow.Author.Tests.{leb-true, lt-ltb, le-ltb}
+use lib.Dec.{leb, ltb, eqb}
+use lib.ListN.{length, getD, take, drop, set, replicate, length-drop, take-append-drop}
+use lib.Seq.{take-take, drop-drop, getD-take, getD-drop, length-take-le}
+use Rattle.laws.specs.Tests.{and-left, and-right}
+use Rattle.spec.specs.Lists.{member, ascending}
+use Rattle.spec.specs.Words.{changeable, count, tags, overwrite, node-of}
+use Rattle.spec.specs.Sound.{sound-bucket, zeros}
+use Rattle.bucket.specs.declared.Bucket.{Bucket}
+use Rattle.bucket.specs.declared.Response.the-variants.{Frozen}
+use Rattle.bucket.specs.Bucket.{tags-in, found, added, removed, frozen-of}
+use Rattle.bucket.proofs.Laws.{found-member}
+use Rattle.bucket.proofs.Pad.{drop-take}
+use Rattle.pool.specs.Pool.{store-node, front-of, bucket-at, store-bucket, add-answer, add-words, remove-answer, remove-words}
+use Rattle.pool.proofs.Part.{back, back-set}
+
+-- words written over themselves
+pub over-same : (w : List ℕ) (i n : ℕ) → i + n ≤ length w → overwrite w i (take n (drop i w)) ≡ w
+unfolding overwrite
+over-same w i n h =
+    let l : length (take n (drop i w)) ≡ n = length-take-le n (drop i w) (rw (length-drop i w) (omega arith)) in
+    rw (l, ← drop-drop n i w) (append-assoc (take i w) (take n (drop i w)) (drop n (drop i w))
+    ∙ ap (λ (v : List ℕ). take i w ++ v) (take-append-drop n (drop i w)) ∙ take-append-drop i w)
+
+-- the first word of a part set
+pub over-first : (p : List ℕ) (v : ℕ) → 66 ≤ length p → overwrite p 0 (set (take 66 p) 0 v) ≡ set p 0 v
+unfolding overwrite
+over-first [] v h = absurd (omega arith)
+over-first (x ∷ p) v h =
+    let l : length (take 65 p) ≡ 65 = length-take-le 65 p (omega arith) in
+    let z : 0 + suc (length (take 65 p)) ≡ suc 65 = omega arith in
+    rw (z) (ap (λ (q : List ℕ). v ∷ q) (take-append-drop 65 p))
+
+-- what a sound bucket's words are
+pub record Fine (v : List ℕ) : Type 0 where
+  pub flag : leb (getD v 0 0) 1 ≡ true
+  pub few : leb (getD v 1 0) 64 ≡ true
+  pub up : ascending (take (getD v 1 0) (drop 2 v)) ≡ true
+  pub blank : zeros (64 - getD v 1 0) (drop (2 + getD v 1 0) v) ≡ true
+
+pub fine : (v : List ℕ) → sound-bucket v ≡ true → Fine v
+unfolding sound-bucket
+fine v s =
+    let a : Bool = leb (getD v 0 0) 1 in
+    let b : Bool = leb (getD v 1 0) 64 in
+    let u : Bool = ascending (take (getD v 1 0) (drop 2 v)) in
+    let z : Bool = zeros (64 - getD v 1 0) (drop (2 + getD v 1 0) v) in
+    let r : (a && b && u) ≡ true = and-left (a && b && u) z s in
+    let q : (a && b) ≡ true = and-left (a && b) u r in
+    record { flag = and-left a b q; few = and-right a b q; up = and-right (a && b) u r; blank = and-right (a && b && u) z s }
+
+-- a node number in the pool
+pub node-here : (w : List ℕ) (k sz l : ℕ) → 34 * k + 34 ≤ length w → store-node w k sz l ≡ overwrite w (34 * k) (node-of sz l)
+unfolding store-node
+node-here w k sz l h = let i : k < length w / 34 = omega arith in rw (lt-ltb _ _ i)
+
+-- a bucket number in the pool
+module _ (w : List ℕ) (k : ℕ) (h : 66 * k + 66 ≤ length w) where
+  here : ltb k (length w / 66) ≡ true
+  here = let i : k < length w / 66 = omega arith in lt-ltb _ _ i
+
+  pub bucket-here : bucket-at w k ≡ front-of (drop (66 * k) w)
+  unfolding bucket-at
+  bucket-here = rw here
+
+  pub store-here : (b : Bucket) → store-bucket w k b ≡ overwrite w (66 * k) (b .words)
+  unfolding store-bucket
+  store-here b = rw here
+
+  pub freeze-here : store-bucket w k (frozen-of (bucket-at w k)) ≡ set w (66 * k) 0
+  freeze-here =
+      let d : List ℕ = drop (66 * k) w in
+      let l : 66 ≤ length d = rw (length-drop (66 * k) w) (omega arith) in
+      let v : List ℕ = set (take 66 d) 0 0 in
+      store-here (frozen-of (bucket-at w k)) ∙ ap (λ (b : Bucket). overwrite w (66 * k) (frozen-of b .words)) bucket-here
+      ∙ sym (back w (66 * k) v (overwrite d 0 v) refl) ∙ back-set w (66 * k) 0 (overwrite d 0 v) (omega arith) (over-first d 0 l)
+
+-- a bucket number past the pool
+module _ (w : List ℕ) (k : ℕ) (h : length w / 66 ≤ k) where
+  pub bucket-past : bucket-at w k ≡ record { words = replicate 66 0 }
+  unfolding bucket-at
+  bucket-past = rw (le-ltb _ _ h)
+
+  pub store-past : (b : Bucket) → store-bucket w k b ≡ w
+  unfolding store-bucket
+  store-past b = rw (le-ltb _ _ h)
+
+  pub add-past : (x : ℕ) → added (bucket-at w k) x .answer ≡ Frozen
+  unfolding added
+  add-past x = rw bucket-past
+
+  pub remove-past : (x : ℕ) → removed (bucket-at w k) x .answer ≡ Frozen
+  unfolding removed
+  remove-past x = rw bucket-past
+
+-- a bucket that is sound, by its own words
+module _ (w : List ℕ) (k : ℕ) (s : sound-bucket (drop (66 * k) w) ≡ true) where
+  part : List ℕ
+  part = drop (66 * k) w
+
+  first : getD part 1 0 ≡ count w k
+  unfolding part count
+  first = getD-drop (66 * k) w 1 0
+
+  pub few : count w k ≤ 64
+  unfolding part
+  few = rw (← first) (leb-true _ _ (fine part s .few))
+
+  tags-front : tags-in (take 66 (drop (66 * k) w)) ≡ tags w k
+  unfolding tags part
+  tags-front =
+      let f = few in
+      let e : getD (take 66 part) 1 0 ≡ count w k = getD-take 66 part 1 0 (omega arith) ∙ first in
+      let d : drop 2 (take 66 part) ≡ take 64 (drop 2 part) = drop-take 2 66 part in
+      rw (e, d, take-take (count w k) 64 (drop 2 part) f, drop-drop 2 (66 * k) w)
+
+  flag-front : getD (take 66 (drop (66 * k) w)) 0 0 ≡ changeable w k
+  unfolding changeable
+  flag-front =
+      let z : 66 * k + 0 ≡ 66 * k = omega arith in
+      getD-take 66 (drop (66 * k) w) 0 0 (omega arith) ∙ getD-drop (66 * k) w 0 0 ∙ ap (λ (n : ℕ). getD w n 0) z
+
+  pub ascends : ascending (tags w k) ≡ true
+  unfolding part tags
+  ascends =
+      let e : take (getD part 1 0) (drop 2 part) ≡ tags w k = rw (first, drop-drop 2 (66 * k) w) in
+      rw (← e) (fine part s .up)
+
+  module _ (h : 66 * k + 66 ≤ length w) where
+    pub tags-here : tags-in (bucket-at w k .words) ≡ tags w k
+    tags-here = ap (λ (b : Bucket). tags-in (b .words)) (bucket-here w k h) ∙ tags-front
+
+    flag-here : getD (bucket-at w k .words) 0 0 ≡ changeable w k
+    flag-here = ap (λ (b : Bucket). getD (b .words) 0 0) (bucket-here w k h) ∙ flag-front
+
+    module _ (x : ℕ) where
+      pub found-here : found x (tags-in (bucket-at w k .words)) ≡ member x (tags w k)
+      found-here = ap (found x) tags-here ∙ found-member x (tags w k) ascends
+
+      same : store-bucket w k (bucket-at w k) ≡ w
+      same = store-here w k h (bucket-at w k) ∙ ap (λ (b : Bucket). overwrite w (66 * k) (b .words)) (bucket-here w k h) ∙ over-same w (66 * k) 66 h
+
+      abbrev Added : Type 0
+      Added = (added (bucket-at w k) x .answer ≡ add-answer w k x) × (store-bucket w k (added (bucket-at w k) x .bucket) ≡ add-words w k x)
+
+      pub add-here : Added
+      unfolding added add-answer add-words
+      add-here = go (eqb (changeable w k) 0) (member x (tags w k)) (leb 64 (length (tags w k))) refl refl refl
+        where
+          go : (a b d : Bool) → eqb (changeable w k) 0 ≡ a → member x (tags w k) ≡ b → leb 64 (length (tags w k)) ≡ d → Added
+          go true b d p q r = rw (flag-here, p) (refl, same)
+          go false true d p q r = rw (flag-here, p, found-here, q) (refl, same)
+          go false false true p q r = rw (flag-here, p, found-here, q, tags-here, r) (refl, same)
+          go false false false p q r = rw (flag-here, p, found-here, q, tags-here, r) (refl, store-here w k h _)
+
+      abbrev Removed : Type 0
+      Removed = (removed (bucket-at w k) x .answer ≡ remove-answer w k x) × (store-bucket w k (removed (bucket-at w k) x .bucket) ≡ remove-words w k x)
+
+      pub remove-here : Removed
+      unfolding removed remove-answer remove-words
+      remove-here = go (eqb (changeable w k) 0) (member x (tags w k)) refl refl
+        where
+          go : (a b : Bool) → eqb (changeable w k) 0 ≡ a → member x (tags w k) ≡ b → Removed
+          go true b p q = rw (flag-here, p) (refl, same)
+          go false true p q = rw (flag-here, p, found-here, q, tags-here) (refl, store-here w k h _)
+          go false false p q = rw (flag-here, p, found-here, q) (refl, same)
