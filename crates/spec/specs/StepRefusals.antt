@@ -38,7 +38,7 @@ past-size y c =
     || (member (c .line) (46 ∷ []) && leb (size-of y (c .s)) (c .i))
     || (member (c .line) (47 ∷ []) && leb (size-of y (c .s)) (c .i + size-of y (c .t)))
 
--- an insert that would be answered yes, into a changeable bucket of 64 tags
+-- the answer with which an insert gains its tag
 abbrev pub gains : Answer → Bool
 gains Yes = true
 gains No = false
@@ -47,6 +47,7 @@ gains Done = false
 gains Lost = false
 gains Limit = false
 
+-- an insert that would be answered yes, into a changeable bucket of 64 tags
 unfoldable pub overfull-36 : Machine → Task → Bool
 overfull-36 y c =
     not (frozen y (c .b)) && eqb (c .call) 1 && leb 64 (length (tags-of y (c .b))) && gains (answer-36 y c)
