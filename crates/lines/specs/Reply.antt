@@ -1,11 +1,34 @@
--- What a line function gives back, as yard's answer.
+-- What an entry or a line gives back, as the definitions' reply: the answer, and the state with what is left in both pools.
 -- Assumes nothing.
 use Prim.Native.Nat.{ℕ}
 use mathlib.Core.List.{List}
+use mathlib.Core.Bool.{Bool, false}
+use lib.Dec.{ltb}
+use lib.ListN.{set}
+use Rattle.spec.specs.Lists.{if_then_else_}
 use Rattle.spec.specs.Entries.{Reply}
-use Rattle.spec.specs.Machine.{machine-of}
+use Rattle.spec.specs.Machine.{machine-of, state-head, state-last-node, state-last-bucket, state-task}
+use Rattle.spec.specs.declared.State.{State}
+use Rattle.spec.specs.declared.Output.{Output}
+use Rattle.spec.specs.declared.Output.the-variants.{At, End, Refuse}
 use Rattle.lines.specs.declared.Stepped.{Stepped}
+use Rattle.lines.specs.declared.Moved.{Moved}
 
--- the answer and the state with what is left in both pools
+-- an entry gives the whole state
 abbrev pub reply-of : Stepped → List ℕ → List ℕ → Reply
 reply-of r ns bs = record { out = r .out; machine = machine-of (r .state) ns bs }
+
+-- a line gives what it may change of the state, which stays as it was after a refusal
+unfoldable pub changes : Output → ℕ → Bool
+changes (At l) k = ltb k 8
+changes (End a n) k = ltb k 8
+changes (Refuse w) k = false
+
+unfoldable pub settled : State → ℕ → Moved → State
+settled s k m =
+    if changes (m .out) k
+    then state-task (set (s .task) k (m .task)) (state-last-bucket (m .«last_bucket») (state-last-node (m .«last_node») (state-head (m .head) s)))
+    else s
+
+abbrev pub moved-reply : State → ℕ → Moved → List ℕ → List ℕ → Reply
+moved-reply s k m ns bs = record { out = m .out; machine = machine-of (settled s k m) ns bs }

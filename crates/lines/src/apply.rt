@@ -1,5 +1,5 @@
 // APPLY, lines 32 to 36 of Figure 2, for insert and remove. Line 35's call of INITBUCKET is lines 39 to 51.
-use crate::Stepped;
+use crate::Moved;
 use bucket::Response;
 use spec::Answer;
 use spec::State;
@@ -11,12 +11,12 @@ ghost use Prim.Native.Nat.{ℕ, _≤_, _<_};
 ghost use Rattle.spec.specs.Sound.{sound};
 ghost use Rattle.spec.specs.Machine.{machine-of};
 ghost use Rattle.spec.specs.Entries.{step-running};
-ghost use Rattle.lines.specs.Reply.{reply-of};
+ghost use Rattle.lines.specs.Reply.{moved-reply};
 
 // t <- head
-pub fn line32(s: State, k: usize, c: Task) -> Stepped
+pub fn line32(s: State, k: usize, c: Task) -> Moved
     requires { ⌜ (k < 8) × (c .line ≡ 32) × (s .head < 64) ⌝ }
-    ensures { λ r. ⌜ ((ns bs : List ℕ) → reply-of r ns bs ≡ step-running (machine-of s ns bs) k c) ⌝ }
+    ensures { λ r. ⌜ ((ns bs : List ℕ) → moved-reply s k r ns bs ≡ step-running (machine-of s ns bs) k c) ⌝ }
 {
     let mut x = c;
     x.t = s.head + 1;
@@ -24,9 +24,9 @@ pub fn line32(s: State, k: usize, c: Task) -> Stepped
 }
 
 // b <- t.buckets[k mod t.size]; if b = nil (line 34) INITBUCKET
-pub fn line33(s: State, k: usize, c: Task, ns: &[u32]) -> Stepped
+pub fn line33(s: State, k: usize, c: Task, ns: &[u32]) -> Moved
     requires { ⌜ (k < 8) × (c .line ≡ 33) ⌝ }
-    ensures { λ r. ⌜ ((bs : List ℕ) → reply-of r (now (ns .entry)) bs ≡ step-running (machine-of s (now (ns .entry)) bs) k c) ⌝ }
+    ensures { λ r. ⌜ ((bs : List ℕ) → moved-reply s k r (now (ns .entry)) bs ≡ step-running (machine-of s (now (ns .entry)) bs) k c) ⌝ }
 {
     let t = c.t;
     if t == 0 {
@@ -45,9 +45,9 @@ pub fn line33(s: State, k: usize, c: Task, ns: &[u32]) -> Stepped
 }
 
 // INVOKE(b, op): a frozen bucket sends the task back to line 32
-pub fn line36(s: State, k: usize, c: Task, ns: &[u32], bs: &mut [u32]) -> Stepped
+pub fn line36(s: State, k: usize, c: Task, ns: &[u32], bs: &mut [u32]) -> Moved
     requires { ⌜ (k < 8) × (c .line ≡ 36) × (sound (machine-of s (now ns) (now bs)) ≡ true) × (c .b ≤ s .buckets) ⌝ }
-    ensures { λ r. ⌜ reply-of r (now (ns .entry)) (now (bs .exit)) ≡ step-running (machine-of s (now (ns .entry)) (now (bs .entry))) k c ⌝ }
+    ensures { λ r. ⌜ moved-reply s k r (now (ns .entry)) (now (bs .exit)) ≡ step-running (machine-of s (now (ns .entry)) (now (bs .entry))) k c ⌝ }
 {
     let b = c.b;
     if b == 0 {

@@ -1,5 +1,5 @@
 // CONTAINS, lines 12 to 18 of Figure 2.
-use crate::Stepped;
+use crate::Moved;
 use spec::Answer;
 use spec::State;
 use spec::Task;
@@ -11,12 +11,12 @@ ghost use lib.ListN.{length, drop};
 ghost use Rattle.spec.specs.Sound.{sound-bucket};
 ghost use Rattle.spec.specs.Machine.{machine-of};
 ghost use Rattle.spec.specs.Entries.{step-running};
-ghost use Rattle.lines.specs.Reply.{reply-of};
+ghost use Rattle.lines.specs.Reply.{moved-reply};
 
 // t <- head
-pub fn line12(s: State, k: usize, c: Task) -> Stepped
+pub fn line12(s: State, k: usize, c: Task) -> Moved
     requires { ⌜ (k < 8) × (c .line ≡ 12) × (s .head < 64) ⌝ }
-    ensures { λ r. ⌜ ((ns bs : List ℕ) → reply-of r ns bs ≡ step-running (machine-of s ns bs) k c) ⌝ }
+    ensures { λ r. ⌜ ((ns bs : List ℕ) → moved-reply s k r ns bs ≡ step-running (machine-of s ns bs) k c) ⌝ }
 {
     let mut x = c;
     x.t = s.head + 1;
@@ -24,9 +24,9 @@ pub fn line12(s: State, k: usize, c: Task) -> Stepped
 }
 
 // b <- t.buckets[k mod t.size]; if b = nil (line 14) go on at 15
-pub fn line13(s: State, k: usize, c: Task, ns: &[u32]) -> Stepped
+pub fn line13(s: State, k: usize, c: Task, ns: &[u32]) -> Moved
     requires { ⌜ (k < 8) × (c .line ≡ 13) ⌝ }
-    ensures { λ r. ⌜ ((bs : List ℕ) → reply-of r (now (ns .entry)) bs ≡ step-running (machine-of s (now (ns .entry)) bs) k c) ⌝ }
+    ensures { λ r. ⌜ ((bs : List ℕ) → moved-reply s k r (now (ns .entry)) bs ≡ step-running (machine-of s (now (ns .entry)) bs) k c) ⌝ }
 {
     let t = c.t;
     if t == 0 {
@@ -42,9 +42,9 @@ pub fn line13(s: State, k: usize, c: Task, ns: &[u32]) -> Stepped
 }
 
 // s <- t.pred
-pub fn line15(s: State, k: usize, c: Task, ns: &[u32]) -> Stepped
+pub fn line15(s: State, k: usize, c: Task, ns: &[u32]) -> Moved
     requires { ⌜ (k < 8) × (c .line ≡ 15) ⌝ }
-    ensures { λ r. ⌜ ((bs : List ℕ) → reply-of r (now (ns .entry)) bs ≡ step-running (machine-of s (now (ns .entry)) bs) k c) ⌝ }
+    ensures { λ r. ⌜ ((bs : List ℕ) → moved-reply s k r (now (ns .entry)) bs ≡ step-running (machine-of s (now (ns .entry)) bs) k c) ⌝ }
 {
     let t = c.t;
     if t == 0 {
@@ -60,9 +60,9 @@ pub fn line15(s: State, k: usize, c: Task, ns: &[u32]) -> Stepped
 }
 
 // if s is there: b <- s.buckets[k mod s.size]
-pub fn line16(s: State, k: usize, c: Task, ns: &[u32]) -> Stepped
+pub fn line16(s: State, k: usize, c: Task, ns: &[u32]) -> Moved
     requires { ⌜ (k < 8) × (c .line ≡ 16) ⌝ }
-    ensures { λ r. ⌜ ((bs : List ℕ) → reply-of r (now (ns .entry)) bs ≡ step-running (machine-of s (now (ns .entry)) bs) k c) ⌝ }
+    ensures { λ r. ⌜ ((bs : List ℕ) → moved-reply s k r (now (ns .entry)) bs ≡ step-running (machine-of s (now (ns .entry)) bs) k c) ⌝ }
 {
     let p = c.s;
     if p == 0 {
@@ -75,9 +75,9 @@ pub fn line16(s: State, k: usize, c: Task, ns: &[u32]) -> Stepped
 }
 
 // else b <- t.buckets[k mod t.size], read again
-pub fn line17(s: State, k: usize, c: Task, ns: &[u32]) -> Stepped
+pub fn line17(s: State, k: usize, c: Task, ns: &[u32]) -> Moved
     requires { ⌜ (k < 8) × (c .line ≡ 17) ⌝ }
-    ensures { λ r. ⌜ ((bs : List ℕ) → reply-of r (now (ns .entry)) bs ≡ step-running (machine-of s (now (ns .entry)) bs) k c) ⌝ }
+    ensures { λ r. ⌜ ((bs : List ℕ) → moved-reply s k r (now (ns .entry)) bs ≡ step-running (machine-of s (now (ns .entry)) bs) k c) ⌝ }
 {
     let t = c.t;
     if t == 0 {
@@ -90,9 +90,9 @@ pub fn line17(s: State, k: usize, c: Task, ns: &[u32]) -> Stepped
 }
 
 // return HASMEMBER(b, k)
-pub fn line18(s: State, k: usize, c: Task, bs: &[u32]) -> Stepped
+pub fn line18(s: State, k: usize, c: Task, bs: &[u32]) -> Moved
     requires { ⌜ (k < 8) × (c .line ≡ 18) × (c .b ≤ 1024) × (66 * c .b ≤ length (now bs)) × ((0 < c .b) → sound-bucket (drop (66 * (c .b - 1)) (now bs)) ≡ true) ⌝ }
-    ensures { λ r. ⌜ ((ns : List ℕ) → reply-of r ns (now (bs .entry)) ≡ step-running (machine-of s ns (now (bs .entry))) k c) ⌝ }
+    ensures { λ r. ⌜ ((ns : List ℕ) → moved-reply s k r ns (now (bs .entry)) ≡ step-running (machine-of s ns (now (bs .entry))) k c) ⌝ }
 {
     let b = c.b;
     if b == 0 {

@@ -1,5 +1,5 @@
 // INITBUCKET, lines 39 to 51 of Figure 2: filling place i of t. Line 52 is the second freeze of line 48.
-use crate::Stepped;
+use crate::Moved;
 use bucket::Changed;
 use bucket::Response;
 use spec::State;
@@ -13,14 +13,14 @@ ghost use Rattle.spec.specs.Sound.{sound-bucket, resizes, sound};
 ghost use Rattle.spec.specs.Machine.{machine-of};
 ghost use Rattle.spec.specs.Lines.{gathered};
 ghost use Rattle.spec.specs.Entries.{step-running};
-ghost use Rattle.lines.specs.Reply.{reply-of};
+ghost use Rattle.lines.specs.Reply.{moved-reply};
 ghost use Rattle.spec.specs.declared.State.{State};
 ghost use Rattle.lines.specs.Made.{Makes};
 
 // b <- t.buckets[i]
-pub fn line39(s: State, k: usize, c: Task, ns: &[u32]) -> Stepped
+pub fn line39(s: State, k: usize, c: Task, ns: &[u32]) -> Moved
     requires { ⌜ (k < 8) × (c .line ≡ 39) ⌝ }
-    ensures { λ r. ⌜ ((bs : List ℕ) → reply-of r (now (ns .entry)) bs ≡ step-running (machine-of s (now (ns .entry)) bs) k c) ⌝ }
+    ensures { λ r. ⌜ ((bs : List ℕ) → moved-reply s k r (now (ns .entry)) bs ≡ step-running (machine-of s (now (ns .entry)) bs) k c) ⌝ }
 {
     let t = c.t;
     if t == 0 {
@@ -38,9 +38,9 @@ pub fn line39(s: State, k: usize, c: Task, ns: &[u32]) -> Stepped
 }
 
 // s <- t.pred, and the tests of lines 41 and 42
-pub fn line40(s: State, k: usize, c: Task, ns: &[u32]) -> Stepped
+pub fn line40(s: State, k: usize, c: Task, ns: &[u32]) -> Moved
     requires { ⌜ (k < 8) × (c .line ≡ 40) ⌝ }
-    ensures { λ r. ⌜ ((bs : List ℕ) → reply-of r (now (ns .entry)) bs ≡ step-running (machine-of s (now (ns .entry)) bs) k c) ⌝ }
+    ensures { λ r. ⌜ ((bs : List ℕ) → moved-reply s k r (now (ns .entry)) bs ≡ step-running (machine-of s (now (ns .entry)) bs) k c) ⌝ }
 {
     let t = c.t;
     if t == 0 {
@@ -65,9 +65,9 @@ pub fn line40(s: State, k: usize, c: Task, ns: &[u32]) -> Stepped
 }
 
 // m <- s.buckets[i mod s.size]
-pub fn line43(s: State, k: usize, c: Task, ns: &[u32]) -> Stepped
+pub fn line43(s: State, k: usize, c: Task, ns: &[u32]) -> Moved
     requires { ⌜ (k < 8) × (c .line ≡ 43) ⌝ }
-    ensures { λ r. ⌜ ((bs : List ℕ) → reply-of r (now (ns .entry)) bs ≡ step-running (machine-of s (now (ns .entry)) bs) k c) ⌝ }
+    ensures { λ r. ⌜ ((bs : List ℕ) → moved-reply s k r (now (ns .entry)) bs ≡ step-running (machine-of s (now (ns .entry)) bs) k c) ⌝ }
 {
     let p = c.s;
     if p == 0 {
@@ -82,9 +82,9 @@ pub fn line43(s: State, k: usize, c: Task, ns: &[u32]) -> Stepped
 }
 
 // FREEZE(m)
-pub fn line44(s: State, k: usize, c: Task, bs: &mut [u32]) -> Stepped
+pub fn line44(s: State, k: usize, c: Task, bs: &mut [u32]) -> Moved
     requires { ⌜ (k < 8) × (c .line ≡ 44) × (c .m ≤ 1024) × (66 * c .m ≤ length (now bs)) ⌝ }
-    ensures { λ r. ⌜ ((ns : List ℕ) → reply-of r ns (now (bs .exit)) ≡ step-running (machine-of s ns (now (bs .entry))) k c) ⌝ }
+    ensures { λ r. ⌜ ((ns : List ℕ) → moved-reply s k r ns (now (bs .exit)) ≡ step-running (machine-of s ns (now (bs .entry))) k c) ⌝ }
 {
     let m = c.m;
     if m == 0 {
@@ -95,9 +95,9 @@ pub fn line44(s: State, k: usize, c: Task, bs: &mut [u32]) -> Stepped
 }
 
 // m <- s.buckets[i]
-pub fn line46(s: State, k: usize, c: Task, ns: &[u32]) -> Stepped
+pub fn line46(s: State, k: usize, c: Task, ns: &[u32]) -> Moved
     requires { ⌜ (k < 8) × (c .line ≡ 46) ⌝ }
-    ensures { λ r. ⌜ ((bs : List ℕ) → reply-of r (now (ns .entry)) bs ≡ step-running (machine-of s (now (ns .entry)) bs) k c) ⌝ }
+    ensures { λ r. ⌜ ((bs : List ℕ) → moved-reply s k r (now (ns .entry)) bs ≡ step-running (machine-of s (now (ns .entry)) bs) k c) ⌝ }
 {
     let p = c.s;
     if p == 0 {
@@ -115,9 +115,9 @@ pub fn line46(s: State, k: usize, c: Task, ns: &[u32]) -> Stepped
 }
 
 // n <- s.buckets[i + t.size]
-pub fn line47(s: State, k: usize, c: Task, ns: &[u32]) -> Stepped
+pub fn line47(s: State, k: usize, c: Task, ns: &[u32]) -> Moved
     requires { ⌜ (k < 8) × (c .line ≡ 47) ⌝ }
-    ensures { λ r. ⌜ ((bs : List ℕ) → reply-of r (now (ns .entry)) bs ≡ step-running (machine-of s (now (ns .entry)) bs) k c) ⌝ }
+    ensures { λ r. ⌜ ((bs : List ℕ) → moved-reply s k r (now (ns .entry)) bs ≡ step-running (machine-of s (now (ns .entry)) bs) k c) ⌝ }
 {
     let t = c.t;
     if t == 0 {
@@ -141,9 +141,9 @@ pub fn line47(s: State, k: usize, c: Task, ns: &[u32]) -> Stepped
 }
 
 // FREEZE(m), the first half of line 48
-pub fn line48(s: State, k: usize, c: Task, bs: &mut [u32]) -> Stepped
+pub fn line48(s: State, k: usize, c: Task, bs: &mut [u32]) -> Moved
     requires { ⌜ (k < 8) × (c .line ≡ 48) × (c .m ≤ 1024) × (66 * c .m ≤ length (now bs)) ⌝ }
-    ensures { λ r. ⌜ ((ns : List ℕ) → reply-of r ns (now (bs .exit)) ≡ step-running (machine-of s ns (now (bs .entry))) k c) ⌝ }
+    ensures { λ r. ⌜ ((ns : List ℕ) → moved-reply s k r ns (now (bs .exit)) ≡ step-running (machine-of s ns (now (bs .entry))) k c) ⌝ }
 {
     let m = c.m;
     if m == 0 {
@@ -154,9 +154,9 @@ pub fn line48(s: State, k: usize, c: Task, bs: &mut [u32]) -> Stepped
 }
 
 // FREEZE(n), the second half of line 48
-pub fn line52(s: State, k: usize, c: Task, bs: &mut [u32]) -> Stepped
+pub fn line52(s: State, k: usize, c: Task, bs: &mut [u32]) -> Moved
     requires { ⌜ (k < 8) × (c .line ≡ 52) × (c .n ≤ 1024) × (66 * c .n ≤ length (now bs)) ⌝ }
-    ensures { λ r. ⌜ ((ns : List ℕ) → reply-of r ns (now (bs .exit)) ≡ step-running (machine-of s ns (now (bs .entry))) k c) ⌝ }
+    ensures { λ r. ⌜ ((ns : List ℕ) → moved-reply s k r ns (now (bs .exit)) ≡ step-running (machine-of s ns (now (bs .entry))) k c) ⌝ }
 {
     let n = c.n;
     if n == 0 {
@@ -187,9 +187,9 @@ fn new_bucket_of(c: Task, ns: &[u32], bs: &[u32]) -> Changed
 }
 
 // b' <- a new bucket with the tags copied from m, or from m and n
-pub fn line49(s: State, k: usize, c: Task, ns: &[u32], bs: &mut [u32]) -> Stepped
+pub fn line49(s: State, k: usize, c: Task, ns: &[u32], bs: &mut [u32]) -> Moved
     requires { ⌜ (k < 8) × (c .line ≡ 49) × (sound (machine-of s (now ns) (now bs)) ≡ true) × (c .m ≤ s .buckets) × (c .n ≤ s .buckets) ⌝ }
-    ensures { λ r. ⌜ reply-of r (now (ns .entry)) (now (bs .exit)) ≡ step-running (machine-of s (now (ns .entry)) (now (bs .entry))) k c ⌝ }
+    ensures { λ r. ⌜ moved-reply s k r (now (ns .entry)) (now (bs .exit)) ≡ step-running (machine-of s (now (ns .entry)) (now (bs .entry))) k c ⌝ }
 {
     let t = c.t;
     if t == 0 {
@@ -218,9 +218,9 @@ pub fn line49(s: State, k: usize, c: Task, ns: &[u32], bs: &mut [u32]) -> Steppe
 }
 
 // CAS(t.buckets[i], nil, b')
-pub fn line50(s: State, k: usize, c: Task, ns: &mut [u32]) -> Stepped
+pub fn line50(s: State, k: usize, c: Task, ns: &mut [u32]) -> Moved
     requires { ⌜ (k < 8) × (c .line ≡ 50) ⌝ }
-    ensures { λ r. ⌜ ((bs : List ℕ) → reply-of r (now (ns .exit)) bs ≡ step-running (machine-of s (now (ns .entry)) bs) k c) ⌝ }
+    ensures { λ r. ⌜ ((bs : List ℕ) → moved-reply s k r (now (ns .exit)) bs ≡ step-running (machine-of s (now (ns .entry)) bs) k c) ⌝ }
 {
     let t = c.t;
     if t == 0 {
@@ -254,9 +254,9 @@ fn is_resize(call: u32) -> bool
 }
 
 // return t.buckets[i]
-pub fn line51(s: State, k: usize, c: Task, ns: &[u32]) -> Stepped
+pub fn line51(s: State, k: usize, c: Task, ns: &[u32]) -> Moved
     requires { ⌜ (k < 8) × (c .line ≡ 51) ⌝ }
-    ensures { λ r. ⌜ ((bs : List ℕ) → reply-of r (now (ns .entry)) bs ≡ step-running (machine-of s (now (ns .entry)) bs) k c) ⌝ }
+    ensures { λ r. ⌜ ((bs : List ℕ) → moved-reply s k r (now (ns .entry)) bs ≡ step-running (machine-of s (now (ns .entry)) bs) k c) ⌝ }
 {
     let t = c.t;
     if t == 0 {

@@ -12,17 +12,63 @@ use spec::State;
 use spec::Task;
 ghost use mathlib.Core.Path.{_≡_};
 ghost use mathlib.Core.List.{List};
+ghost use mathlib.Core.Bool.{true};
 ghost use Prim.Native.Nat.{ℕ, _+_, _<_, min};
-ghost use Rattle.spec.specs.Machine.{with-line, machine-of};
+ghost use Rattle.spec.specs.Machine.{idle, with-line, machine-of};
 ghost use Rattle.spec.specs.Lines.{moves, answers};
 ghost use Rattle.spec.specs.Entries.{refuse, accept};
-ghost use Rattle.lines.specs.Reply.{reply-of};
+ghost use Rattle.lines.specs.Reply.{reply-of, changes, moved-reply};
 
-// What a step answers, and the state after it.
+// What an entry answers, and the state after it.
 pub struct Stepped {
     pub out: Output,
     pub state: State,
 }
+
+// What a line answers, and what it may change of the state: the head, the node and the bucket last taken, and the record of the task
+// that moves. A caller that keeps the state stores these few words in it, and no copy of the state is made.
+pub struct Moved {
+    pub out: Output,
+    pub head: u32,
+    pub last_node: u32,
+    pub last_bucket: u32,
+    pub task: Task,
+}
+
+// ---- the state after a line
+
+// The answer of task k changes the state: it is no refusal, and there is such a task.
+pub fn changes(out: Output, k: usize) -> bool
+    ensures { λ r. ⌜ r ≡ changes out k ⌝ }
+{
+    if 8 <= k {
+        return false;
+    }
+    match out {
+        Output::At(_) => true,
+        Output::End(_, _) => true,
+        Output::Refuse(_) => false,
+    }
+}
+
+// The state after task k has moved so.
+pub fn settle(s: State, k: usize, m: Moved) -> Stepped
+    ensures { λ r. ⌜ ((ns bs : List ℕ) → reply-of r ns bs ≡ moved-reply s k m ns bs) ⌝ }
+{
+    let out = m.out;
+    if !changes(out, k) {
+        return Stepped { out, state: s };
+    }
+    let x = m.task;
+    let mut t = s;
+    t.head = m.head;
+    t.last_node = m.last_node;
+    t.last_bucket = m.last_bucket;
+    t.task[k] = x;
+    Stepped { out, state: t }
+}
+
+// ---- the three ways in which a line ends
 
 // One own step more, staying at 65535.
 fn one_more_own_step(n: u16) -> u16
@@ -31,39 +77,10 @@ fn one_more_own_step(n: u16) -> u16
     if n < 65535 { n + 1 } else { 65535 }
 }
 
-pub fn refused(s: State, why: u32) -> Stepped
-    ensures { λ r. ⌜ ((ns bs : List ℕ) → reply-of r ns bs ≡ refuse why (machine-of s ns bs)) ⌝ }
+fn idle() -> Task
+    ensures { λ r. ⌜ r ≡ idle ⌝ }
 {
-    Stepped {
-        out: Output::Refuse(why),
-        state: s,
-    }
-}
-
-// The task goes on with the record c, at line l.
-pub fn go(s: State, k: usize, c: Task, l: u32) -> Stepped
-    requires { ⌜ k < 8 ⌝ }
-    ensures { λ r. ⌜ ((ns bs : List ℕ) → reply-of r ns bs ≡ accept (machine-of s ns bs) k (c .own) (moves (with-line l c))) ⌝ }
-{
-    let mut x = c;
-    x.own = one_more_own_step(c.own);
-    x.line = l;
-    let mut t = s;
-    t.task[k] = x;
-    Stepped {
-        out: Output::At(l),
-        state: t,
-    }
-}
-
-// The call ends.
-pub fn end(s: State, k: usize, c: Task, a: Answer) -> Stepped
-    requires { ⌜ k < 8 ⌝ }
-    ensures { λ r. ⌜ ((ns bs : List ℕ) → reply-of r ns bs ≡ accept (machine-of s ns bs) k (c .own) (answers a)) ⌝ }
-{
-    let n = one_more_own_step(c.own);
-    let mut t = s;
-    t.task[k] = Task {
+    Task {
         running: false,
         call: 0,
         tag: 0,
@@ -77,9 +94,51 @@ pub fn end(s: State, k: usize, c: Task, a: Answer) -> Stepped
         n: 0,
         new_node: 0,
         new_bucket: 0,
-    };
-    Stepped {
+    }
+}
+
+pub fn refused(s: State, why: u32) -> Moved
+    ensures { λ r. ⌜ ((k : ℕ) (ns bs : List ℕ) → moved-reply s k r ns bs ≡ refuse why (machine-of s ns bs)) ⌝ }
+{
+    let x = idle();
+    Moved {
+        out: Output::Refuse(why),
+        head: s.head,
+        last_node: s.last_node,
+        last_bucket: s.last_bucket,
+        task: x,
+    }
+}
+
+// The task goes on with the record c, at line l.
+pub fn go(s: State, k: usize, c: Task, l: u32) -> Moved
+    requires { ⌜ k < 8 ⌝ }
+    ensures { λ r. ⌜ ((ns bs : List ℕ) → moved-reply s k r ns bs ≡ accept (machine-of s ns bs) k (c .own) (moves (with-line l c))) × (changes (r .out) k ≡ true) ⌝ }
+{
+    let mut x = c;
+    x.own = one_more_own_step(c.own);
+    x.line = l;
+    Moved {
+        out: Output::At(l),
+        head: s.head,
+        last_node: s.last_node,
+        last_bucket: s.last_bucket,
+        task: x,
+    }
+}
+
+// The call ends.
+pub fn end(s: State, k: usize, c: Task, a: Answer) -> Moved
+    requires { ⌜ k < 8 ⌝ }
+    ensures { λ r. ⌜ ((ns bs : List ℕ) → moved-reply s k r ns bs ≡ accept (machine-of s ns bs) k (c .own) (answers a)) × (changes (r .out) k ≡ true) ⌝ }
+{
+    let n = one_more_own_step(c.own);
+    let x = idle();
+    Moved {
         out: Output::End(a, n),
-        state: t,
+        head: s.head,
+        last_node: s.last_node,
+        last_bucket: s.last_bucket,
+        task: x,
     }
 }

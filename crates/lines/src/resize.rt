@@ -1,5 +1,5 @@
 // RESIZE, lines 20 to 28 of Figure 2. Line 23's calls of INITBUCKET are lines 39 to 51.
-use crate::Stepped;
+use crate::Moved;
 use spec::Answer;
 use spec::State;
 use spec::Task;
@@ -10,7 +10,7 @@ ghost use lib.ListN.{length};
 ghost use Rattle.spec.specs.Machine.{machine-of};
 ghost use Rattle.spec.specs.Lines.{at-limit};
 ghost use Rattle.spec.specs.Entries.{step-running};
-ghost use Rattle.lines.specs.Reply.{reply-of};
+ghost use Rattle.lines.specs.Reply.{moved-reply};
 ghost use Rattle.lines.specs.Made.{Sized};
 
 // Growing at 32 or shrinking at 1.
@@ -24,9 +24,9 @@ fn at_limit(call: u32, z: u32) -> bool
 }
 
 // t <- head, and the tests of lines 21 and 22
-pub fn line20(s: State, k: usize, c: Task, ns: &[u32]) -> Stepped
+pub fn line20(s: State, k: usize, c: Task, ns: &[u32]) -> Moved
     requires { ⌜ (k < 8) × (c .line ≡ 20) × (s .head < 64) ⌝ }
-    ensures { λ r. ⌜ ((bs : List ℕ) → reply-of r (now (ns .entry)) bs ≡ step-running (machine-of s (now (ns .entry)) bs) k c) ⌝ }
+    ensures { λ r. ⌜ ((bs : List ℕ) → moved-reply s k r (now (ns .entry)) bs ≡ step-running (machine-of s (now (ns .entry)) bs) k c) ⌝ }
 {
     let h = s.head + 1;
     let z = pool::size_of(ns, h);
@@ -40,9 +40,9 @@ pub fn line20(s: State, k: usize, c: Task, ns: &[u32]) -> Stepped
 }
 
 // t.pred <- nil
-pub fn line24(s: State, k: usize, c: Task, ns: &mut [u32]) -> Stepped
+pub fn line24(s: State, k: usize, c: Task, ns: &mut [u32]) -> Moved
     requires { ⌜ (k < 8) × (c .line ≡ 24) ⌝ }
-    ensures { λ r. ⌜ ((bs : List ℕ) → reply-of r (now (ns .exit)) bs ≡ step-running (machine-of s (now (ns .entry)) bs) k c) ⌝ }
+    ensures { λ r. ⌜ ((bs : List ℕ) → moved-reply s k r (now (ns .exit)) bs ≡ step-running (machine-of s (now (ns .entry)) bs) k c) ⌝ }
 {
     let t = c.t;
     if t == 0 {
@@ -75,9 +75,9 @@ fn new_size(call: u32, z: u32) -> u32
 }
 
 // t' <- a new node of twice or half the size, with predecessor t
-pub fn line27(s: State, k: usize, c: Task, ns: &mut [u32]) -> Stepped
+pub fn line27(s: State, k: usize, c: Task, ns: &mut [u32]) -> Moved
     requires { ⌜ (k < 8) × (c .line ≡ 27) × (s .head < 64) × (s .nodes ≤ 64) × (s .«last_node» < s .nodes) × (length (now ns) ≡ 34 * s .nodes) ⌝ }
-    ensures { λ r. ⌜ ((bs : List ℕ) → reply-of r (now (ns .exit)) bs ≡ step-running (machine-of s (now (ns .entry)) bs) k c) ⌝ }
+    ensures { λ r. ⌜ ((bs : List ℕ) → moved-reply s k r (now (ns .exit)) bs ≡ step-running (machine-of s (now (ns .entry)) bs) k c) ⌝ }
 {
     let t = c.t;
     if t == 0 {
@@ -101,9 +101,9 @@ pub fn line27(s: State, k: usize, c: Task, ns: &mut [u32]) -> Stepped
 }
 
 // CAS(head, t, t')
-pub fn line28(s: State, k: usize, c: Task) -> Stepped
+pub fn line28(s: State, k: usize, c: Task) -> Moved
     requires { ⌜ (k < 8) × (c .line ≡ 28) × (s .head < 64) ⌝ }
-    ensures { λ r. ⌜ ((ns bs : List ℕ) → reply-of r ns bs ≡ step-running (machine-of s ns bs) k c) ⌝ }
+    ensures { λ r. ⌜ ((ns bs : List ℕ) → moved-reply s k r ns bs ≡ step-running (machine-of s ns bs) k c) ⌝ }
 {
     let t = c.t;
     if t == 0 {

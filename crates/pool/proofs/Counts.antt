@@ -41,19 +41,6 @@ pub fails-end : (f : ℕ → Bool) (s : List ℕ) (i : ℕ) → length s ≤ i �
 unfolding fails
 fails-end f s i h = rw (drop-of-length-le s h)
 
-abbrev pub zero? : ℕ → Bool
-zero? x = eqb x 0
-
-pub zeros-every : (n : ℕ) (w : List ℕ) → zeros n w ≡ every zero? (take n w)
-unfolding zeros every
-zeros-every zero w = refl
-zeros-every (suc n) [] = refl
-zeros-every (suc n) (x ∷ w) = go (eqb x 0) (zeros-every n w)
-  where
-    go : (b : Bool) → zeros n w ≡ every zero? (take n w) → (b && zeros n w) ≡ (b && every zero? (take n w))
-    go true ih = ih
-    go false ih = refl
-
 -- ---- neighbours that do not ascend
 
 unfoldable pub falls : List ℕ → ℕ

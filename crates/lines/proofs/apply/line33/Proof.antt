@@ -23,7 +23,7 @@ returns c =
     let y = machine-of (a .s) (now (a .ns)) bs in
     let c′ = a .c in
     let h = c .before .before .before .pre .1 in
-    c .refused .ensures _ bs ∙ sym (empty-33 y (a .k) c′ h (c .before .if1 .taken))
+    c .refused .ensures _ _ bs ∙ sym (empty-33 y (a .k) c′ h (c .before .if1 .taken))
 
 place-for-requires : tie.Need-place-for-requires
 place-for-requires c κs = search needs
@@ -46,7 +46,7 @@ returns-2 c =
     let c′ = a .c in
     let h = c .before .before .before .before .before .before .before .pre .1 in
     let e : c .before .before .slot .result ≡ slot (c′ .tag) (size (now (a .ns)) (number (c′ .t))) = c .before .before .slot .ensures ∙ ap (λ (z : ℕ). slot (c′ .tag) z) (c .before .before .before .size-of .ensures) in
-    c .go .ensures _ bs ∙ sym (pass-33 y (a .k) c′ h (c .before .before .before .before .before .if1 .left) ∙ rw (← c .before .before .before .before .place-for .ensures, c .before .if2 .taken, ← e))
+    c .go .ensures .0 _ bs ∙ sym (pass-33 y (a .k) c′ h (c .before .before .before .before .before .if1 .left) ∙ rw (← c .before .before .before .before .place-for .ensures, c .before .if2 .taken, ← e))
 
 go-requires-2 : tie.Need-go-requires-2
 go-requires-2 c κs = search needs
@@ -59,7 +59,7 @@ returns-3 c =
     let y = machine-of (a .s) (now (a .ns)) bs in
     let c′ = a .c in
     let h = c .before .before .before .before .before .before .before .pre .1 in
-    c .go2 .ensures _ bs ∙ sym (pass-33 y (a .k) c′ h (c .before .before .before .before .before .if1 .left) ∙ rw (← c .before .before .before .before .place-for .ensures, ne-eqb _ _ (c .before .if2 .left)))
+    c .go2 .ensures .0 _ bs ∙ sym (pass-33 y (a .k) c′ h (c .before .before .before .before .before .if1 .left) ∙ rw (← c .before .before .before .before .place-for .ensures, ne-eqb _ _ (c .before .if2 .left)))
 
 pub line33-spec : {M : Type 1} → statement M
 line33-spec =

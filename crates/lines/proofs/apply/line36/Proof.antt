@@ -33,7 +33,7 @@ returns c =
     let y : Machine = machine-of (a .s) (now (a .ns)) (now (a .bs)) in
     let c′ = a .c in
     let h = c .before .before .before .before .pre .1 in
-    c .refused .ensures _ _ ∙ sym (empty-36 y (a .k) c′ h (c .before .if1 .taken))
+    c .refused .ensures _ _ _ ∙ sym (empty-36 y (a .k) c′ h (c .before .if1 .taken))
 
 cast-j : tie.Need-cast-j
 cast-j c = search needs
@@ -62,7 +62,7 @@ returns-2 c =
     let h = c .before .before .before .before .before .before .before .pre .1 in
     let w = now (a .bs) in
     let j : ℕ = number (c′ .b) in
-    c .go .ensures _ _ ∙ sym (frozen-36 y (a .k) c′ h (c .before .before .before .before .if1 .left) (sym (c .before .before .word .ensures) ∙ c .before .if2 .taken))
+    c .go .ensures .0 _ _ ∙ sym (frozen-36 y (a .k) c′ h (c .before .before .before .before .if1 .left) (sym (c .before .before .word .ensures) ∙ c .before .if2 .taken))
 
 count-requires : tie.Need-count-requires
 count-requires c κs = search needs
@@ -84,7 +84,7 @@ returns-3 c =
     let j : ℕ = number (c′ .b) in
     let nf : changeable w j ≡ 0 → ⊥ = λ q. c .before .before .before .before .before .if2 .left (c .before .before .before .before .before .before .word .ensures ∙ q) in
     let n : c .before .before .count .result ≡ length (listed y) = c .before .before .count .ensures ∙ counted y (c .before .before .before .before .before .before .before .before .before .before .before .pre .2) in
-    c .end .ensures _ _ ∙ sym (full-36 y (a .k) c′ h (c .before .before .before .before .before .before .before .before .if1 .left) nf (c .before .before .before .before .if3 .taken) (le-leb 64 _ (rw n at (c .before .if4 .taken))))
+    c .end .ensures .0 _ _ ∙ sym (full-36 y (a .k) c′ h (c .before .before .before .before .before .before .before .before .if1 .left) nf (c .before .before .before .before .if3 .taken) (le-leb 64 _ (rw n at (c .before .if4 .taken))))
 
 add-at-requires : tie.Need-add-at-requires
 add-at-requires c κs = search needs
@@ -132,7 +132,7 @@ returns-4 c =
     let n : c .before .before .before .before .before .before .before .before .count .result ≡ length (listed y) = c .before .before .before .before .before .before .before .before .count .ensures ∙ counted y (c .before .before .before .before .before .before .before .before .before .before .before .before .before .before .before .before .before .pre .2) in
     let room : leb 64 (length (listed y)) ≡ false = lt-leb 64 _ (rw n at (c .before .before .before .before .before .before .before .if4 .left)) in
     let i = added-yes w j (c′ .tag) (sym (c .before .before .before .before .before .add-at .ensures .0 ∙ d .0) ∙ c .before .enum-told .given .1) in
-    c .end2 .ensures _ _ ∙ ap (λ (v : List ℕ). accept (machine-of (a .s) (now (a .ns)) v) (a .k) (c′ .own) (answers ans.Yes)) (c .before .before .before .before .before .add-at .ensures .1 ∙ d .1 ∙ i .2) ∙ sym (yes-36 y (a .k) c′ h (c .before .before .before .before .before .before .before .before .before .before .before .before .before .before .if1 .left) nf (c .before .before .before .before .before .before .before .before .before .before .if3 .taken) room (i .0) (i .1))
+    c .end2 .ensures .0 _ _ ∙ ap (λ (v : List ℕ). accept (machine-of (a .s) (now (a .ns)) v) (a .k) (c′ .own) (answers ans.Yes)) (c .before .before .before .before .before .add-at .ensures .1 ∙ d .1 ∙ i .2) ∙ sym (yes-36 y (a .k) c′ h (c .before .before .before .before .before .before .before .before .before .before .before .before .before .before .if1 .left) nf (c .before .before .before .before .before .before .before .before .before .before .if3 .taken) room (i .0) (i .1))
 
 same-length-4 : tie.Need-same-length-4
 same-length-4 c = search needs
@@ -153,7 +153,7 @@ returns-5 c =
     let n : c .before .before .before .before .before .before .before .before .count .result ≡ length (listed y) = c .before .before .before .before .before .before .before .before .count .ensures ∙ counted y (c .before .before .before .before .before .before .before .before .before .before .before .before .before .before .before .before .before .pre .2) in
     let room : leb 64 (length (listed y)) ≡ false = lt-leb 64 _ (rw n at (c .before .before .before .before .before .before .before .if4 .left)) in
     let i = added-no w j (c′ .tag) (sym (c .before .before .before .before .before .add-at .ensures .0 ∙ d .0) ∙ c .before .enum-told2 .given .1) in
-    c .end3 .ensures _ _ ∙ ap (λ (v : List ℕ). accept (machine-of (a .s) (now (a .ns)) v) (a .k) (c′ .own) (answers ans.No)) (c .before .before .before .before .before .add-at .ensures .1 ∙ d .1 ∙ i .1) ∙ sym (no-36 y (a .k) c′ h (c .before .before .before .before .before .before .before .before .before .before .before .before .before .before .if1 .left) nf (c .before .before .before .before .before .before .before .before .before .before .if3 .taken) room (i .0))
+    c .end3 .ensures .0 _ _ ∙ ap (λ (v : List ℕ). accept (machine-of (a .s) (now (a .ns)) v) (a .k) (c′ .own) (answers ans.No)) (c .before .before .before .before .before .add-at .ensures .1 ∙ d .1 ∙ i .1) ∙ sym (no-36 y (a .k) c′ h (c .before .before .before .before .before .before .before .before .before .before .before .before .before .before .if1 .left) nf (c .before .before .before .before .before .before .before .before .before .before .if3 .taken) room (i .0))
 
 same-length-5 : tie.Need-same-length-5
 same-length-5 c = search needs
@@ -192,7 +192,7 @@ returns-7 c =
     let n : c .before .before .before .before .before .before .before .before .count .result ≡ length (listed y) = c .before .before .before .before .before .before .before .before .count .ensures ∙ counted y (c .before .before .before .before .before .before .before .before .before .before .before .before .before .before .before .before .before .pre .2) in
     let room : leb 64 (length (listed y)) ≡ false = lt-leb 64 _ (rw n at (c .before .before .before .before .before .before .before .if4 .left)) in
     let i = added-full w j (c′ .tag) (sym (c .before .before .before .before .before .add-at .ensures .0 ∙ d .0) ∙ c .before .enum-told4 .given .1) in
-    c .refused3 .ensures _ _ ∙ ap (λ (v : List ℕ). refuse 8 (machine-of (a .s) (now (a .ns)) v)) (c .before .before .before .before .before .add-at .ensures .1 ∙ d .1 ∙ i .2) ∙ sym (over-36 y (a .k) c′ h (c .before .before .before .before .before .before .before .before .before .before .before .before .before .before .if1 .left) nf (c .before .before .before .before .before .before .before .before .before .before .if3 .taken) room (i .0) (i .1))
+    c .refused3 .ensures _ _ _ ∙ ap (λ (v : List ℕ). refuse 8 (machine-of (a .s) (now (a .ns)) v)) (c .before .before .before .before .before .add-at .ensures .1 ∙ d .1 ∙ i .2) ∙ sym (over-36 y (a .k) c′ h (c .before .before .before .before .before .before .before .before .before .before .before .before .before .before .if1 .left) nf (c .before .before .before .before .before .before .before .before .before .before .if3 .taken) room (i .0) (i .1))
 
 remove-at-requires : tie.Need-remove-at-requires
 remove-at-requires c κs = search needs
@@ -238,7 +238,7 @@ returns-8 c =
     let d = remove-here w j (m .good (omega (arith, z))) (omega (arith, m .fits, z)) (c′ .tag) in
     let nf : changeable w j ≡ 0 → ⊥ = λ q. c .before .before .before .before .before .before .before .before .if2 .left (c .before .before .before .before .before .before .before .before .before .word .ensures ∙ q) in
     let i = removed-yes w j (c′ .tag) (sym (c .before .before .before .before .before .remove-at .ensures .0 ∙ d .0) ∙ c .before .enum-told5 .given .1) in
-    c .end4 .ensures _ _ ∙ ap (λ (v : List ℕ). accept (machine-of (a .s) (now (a .ns)) v) (a .k) (c′ .own) (answers ans.Yes)) (c .before .before .before .before .before .remove-at .ensures .1 ∙ d .1 ∙ i .1) ∙ sym (gone-36 y (a .k) c′ h (c .before .before .before .before .before .before .before .before .before .before .before .if1 .left) nf (c .before .before .before .before .before .before .before .if3 .left) (i .0))
+    c .end4 .ensures .0 _ _ ∙ ap (λ (v : List ℕ). accept (machine-of (a .s) (now (a .ns)) v) (a .k) (c′ .own) (answers ans.Yes)) (c .before .before .before .before .before .remove-at .ensures .1 ∙ d .1 ∙ i .1) ∙ sym (gone-36 y (a .k) c′ h (c .before .before .before .before .before .before .before .before .before .before .before .if1 .left) nf (c .before .before .before .before .before .before .before .if3 .left) (i .0))
 
 same-length-8 : tie.Need-same-length-8
 same-length-8 c = search needs
@@ -257,7 +257,7 @@ returns-9 c =
     let d = remove-here w j (m .good (omega (arith, z))) (omega (arith, m .fits, z)) (c′ .tag) in
     let nf : changeable w j ≡ 0 → ⊥ = λ q. c .before .before .before .before .before .before .before .before .if2 .left (c .before .before .before .before .before .before .before .before .before .word .ensures ∙ q) in
     let i = removed-no w j (c′ .tag) (sym (c .before .before .before .before .before .remove-at .ensures .0 ∙ d .0) ∙ c .before .enum-told6 .given .1) in
-    c .end5 .ensures _ _ ∙ ap (λ (v : List ℕ). accept (machine-of (a .s) (now (a .ns)) v) (a .k) (c′ .own) (answers ans.No)) (c .before .before .before .before .before .remove-at .ensures .1 ∙ d .1 ∙ i .1) ∙ sym (absent-36 y (a .k) c′ h (c .before .before .before .before .before .before .before .before .before .before .before .if1 .left) nf (c .before .before .before .before .before .before .before .if3 .left) (i .0))
+    c .end5 .ensures .0 _ _ ∙ ap (λ (v : List ℕ). accept (machine-of (a .s) (now (a .ns)) v) (a .k) (c′ .own) (answers ans.No)) (c .before .before .before .before .before .remove-at .ensures .1 ∙ d .1 ∙ i .1) ∙ sym (absent-36 y (a .k) c′ h (c .before .before .before .before .before .before .before .before .before .before .before .if1 .left) nf (c .before .before .before .before .before .before .before .if3 .left) (i .0))
 
 same-length-9 : tie.Need-same-length-9
 same-length-9 c = search needs

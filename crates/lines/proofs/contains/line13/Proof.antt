@@ -18,7 +18,7 @@ returns c =
     let y = machine-of (c .before .before .before .args .s) (now (c .before .before .before .args .ns)) bs in
     let c′ = c .before .before .before .args .c in
     let h = c .before .before .before .pre .1 in
-    c .refused .ensures _ bs ∙ sym (empty-13 y (c .before .before .before .args .k) c′ h (c .before .if1 .taken))
+    c .refused .ensures _ _ bs ∙ sym (empty-13 y (c .before .before .before .args .k) c′ h (c .before .if1 .taken))
 
 place-for-requires : tie.Need-place-for-requires
 place-for-requires c κs = search needs
@@ -33,7 +33,7 @@ returns-2 c =
     let y = machine-of (c .before .before .before .before .before .args .s) (now (c .before .before .before .before .before .args .ns)) bs in
     let c′ = c .before .before .before .before .before .args .c in
     let h = c .before .before .before .before .before .pre .1 in
-    c .go .ensures _ bs ∙ sym (pass-13 y (c .before .before .before .before .before .args .k) c′ h (c .before .before .before .if1 .left) ∙ rw (← c .before .before .place-for .ensures, c .before .if2 .taken))
+    c .go .ensures .0 _ bs ∙ sym (pass-13 y (c .before .before .before .before .before .args .k) c′ h (c .before .before .before .if1 .left) ∙ rw (← c .before .before .place-for .ensures, c .before .if2 .taken))
 
 go-requires-2 : tie.Need-go-requires-2
 go-requires-2 c κs = search needs
@@ -45,7 +45,7 @@ returns-3 c =
     let y = machine-of (c .before .before .before .before .before .args .s) (now (c .before .before .before .before .before .args .ns)) bs in
     let c′ = c .before .before .before .before .before .args .c in
     let h = c .before .before .before .before .before .pre .1 in
-    c .go2 .ensures _ bs ∙ sym (pass-13 y (c .before .before .before .before .before .args .k) c′ h (c .before .before .before .if1 .left) ∙ rw (← c .before .before .place-for .ensures, ne-eqb _ _ (c .before .if2 .left)))
+    c .go2 .ensures .0 _ bs ∙ sym (pass-13 y (c .before .before .before .before .before .args .k) c′ h (c .before .before .before .if1 .left) ∙ rw (← c .before .before .place-for .ensures, ne-eqb _ _ (c .before .if2 .left)))
 
 pub line13-spec : {M : Type 1} → statement M
 line13-spec =

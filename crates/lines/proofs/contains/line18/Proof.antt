@@ -23,7 +23,7 @@ returns c =
     let y = machine-of (a .s) ns (now (a .bs)) in
     let c′ = a .c in
     let h = c .before .before .before .pre .1 in
-    c .refused .ensures ns _ ∙ sym (empty-18 y (a .k) c′ h (c .before .if1 .taken))
+    c .refused .ensures _ ns _ ∙ sym (empty-18 y (a .k) c′ h (c .before .if1 .taken))
 
 cast-has-at : tie.Need-cast-has-at
 cast-has-at c = search needs
@@ -47,7 +47,7 @@ returns-2 c =
     let h = c .before .before .before .before .before .pre .1 in
     let z = c .before .before .before .if1 .left in
     let f = found-here (now (a .bs)) (c′ .b - 1) (c .before .before .before .before .before .pre .4 (omega (arith, z))) (omega (arith, z)) (c′ .tag) in
-    c .end .ensures ns _ ∙ sym (pass-18 y (a .k) c′ h (c .before .before .before .if1 .left) ∙ rw (sym f ∙ sym (c .before .before .has-at .ensures) ∙ c .before .if2 .taken))
+    c .end .ensures .0 ns _ ∙ sym (pass-18 y (a .k) c′ h (c .before .before .before .if1 .left) ∙ rw (sym f ∙ sym (c .before .before .has-at .ensures) ∙ c .before .if2 .taken))
 
 end-requires-2 : tie.Need-end-requires-2
 end-requires-2 c κs = search needs
@@ -62,7 +62,7 @@ returns-3 c =
     let h = c .before .before .before .before .before .pre .1 in
     let z = c .before .before .before .if1 .left in
     let f = found-here (now (a .bs)) (c′ .b - 1) (c .before .before .before .before .before .pre .4 (omega (arith, z))) (omega (arith, z)) (c′ .tag) in
-    c .end2 .ensures ns _ ∙ sym (pass-18 y (a .k) c′ h (c .before .before .before .if1 .left) ∙ rw (sym f ∙ sym (c .before .before .has-at .ensures) ∙ c .before .if2 .left))
+    c .end2 .ensures .0 ns _ ∙ sym (pass-18 y (a .k) c′ h (c .before .before .before .if1 .left) ∙ rw (sym f ∙ sym (c .before .before .has-at .ensures) ∙ c .before .if2 .left))
 
 pub line18-spec : {M : Type 1} → statement M
 line18-spec =

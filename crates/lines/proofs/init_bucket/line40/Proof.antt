@@ -18,7 +18,7 @@ returns c =
     let y = machine-of (c .before .before .before .args .s) (now (c .before .before .before .args .ns)) bs in
     let c′ = c .before .before .before .args .c in
     let h = c .before .before .before .pre .1 in
-    c .refused .ensures _ bs ∙ sym (empty-40 y (c .before .before .before .args .k) c′ h (c .before .if1 .taken))
+    c .refused .ensures _ _ bs ∙ sym (empty-40 y (c .before .before .before .args .k) c′ h (c .before .if1 .taken))
 
 pred-of-requires : tie.Need-pred-of-requires
 pred-of-requires c κs = search needs
@@ -33,7 +33,7 @@ returns-2 c =
     let y = machine-of (c .before .before .before .before .before .args .s) (now (c .before .before .before .before .before .args .ns)) bs in
     let c′ = c .before .before .before .before .before .args .c in
     let h = c .before .before .before .before .before .pre .1 in
-    c .go .ensures _ bs ∙ sym (pass-40 y (c .before .before .before .before .before .args .k) c′ h (c .before .before .before .if1 .left) ∙ rw (← c .before .before .pred-of .ensures, ne-eqb _ _ (c .before .if2 .taken)))
+    c .go .ensures .0 _ bs ∙ sym (pass-40 y (c .before .before .before .before .before .args .k) c′ h (c .before .before .before .if1 .left) ∙ rw (← c .before .before .pred-of .ensures, ne-eqb _ _ (c .before .if2 .taken)))
 
 go-requires-2 : tie.Need-go-requires-2
 go-requires-2 c κs = search needs
@@ -45,7 +45,7 @@ returns-3 c =
     let y = machine-of (c .before .before .before .before .before .before .args .s) (now (c .before .before .before .before .before .before .args .ns)) bs in
     let c′ = c .before .before .before .before .before .before .args .c in
     let h = c .before .before .before .before .before .before .pre .1 in
-    c .go2 .ensures _ bs ∙ sym (pass-40 y (c .before .before .before .before .before .before .args .k) c′ h (c .before .before .before .before .if1 .left) ∙ rw (← c .before .before .before .pred-of .ensures, eq-eqb (c′ .b) 0 (c .before .before .if2 .left), c .before .if3 .taken))
+    c .go2 .ensures .0 _ bs ∙ sym (pass-40 y (c .before .before .before .before .before .before .args .k) c′ h (c .before .before .before .before .if1 .left) ∙ rw (← c .before .before .before .pred-of .ensures, eq-eqb (c′ .b) 0 (c .before .before .if2 .left), c .before .if3 .taken))
 
 size-of-requires : tie.Need-size-of-requires
 size-of-requires c κs = search needs
@@ -72,7 +72,7 @@ returns-4 c =
     let y = machine-of (c .before .before .before .before .before .before .before .before .before .args .s) (now (c .before .before .before .before .before .before .before .before .before .args .ns)) bs in
     let c′ = c .before .before .before .before .before .before .before .before .before .args .c in
     let h = c .before .before .before .before .before .before .before .before .before .pre .1 in
-    c .go3 .ensures _ bs ∙ sym (pass-40 y (c .before .before .before .before .before .before .before .before .before .args .k) c′ h (c .before .before .before .before .before .before .before .if1 .left) ∙ rw (← c .before .before .before .before .before .before .pred-of .ensures, eq-eqb (c′ .b) 0 (c .before .before .before .before .before .if2 .left), ne-eqb _ _ (c .before .before .before .before .if3 .left), ← c .before .before .before .size-of .ensures, ← c .before .before .size-of2 .ensures, eq-eqb _ _ (c .before .if4 .taken)))
+    c .go3 .ensures .0 _ bs ∙ sym (pass-40 y (c .before .before .before .before .before .before .before .before .before .args .k) c′ h (c .before .before .before .before .before .before .before .if1 .left) ∙ rw (← c .before .before .before .before .before .before .pred-of .ensures, eq-eqb (c′ .b) 0 (c .before .before .before .before .before .if2 .left), ne-eqb _ _ (c .before .before .before .before .if3 .left), ← c .before .before .before .size-of .ensures, ← c .before .before .size-of2 .ensures, eq-eqb _ _ (c .before .if4 .taken)))
 
 go-requires-4 : tie.Need-go-requires-4
 go-requires-4 c κs = search needs
@@ -84,7 +84,7 @@ returns-5 c =
     let y = machine-of (c .before .before .before .before .before .before .before .before .before .args .s) (now (c .before .before .before .before .before .before .before .before .before .args .ns)) bs in
     let c′ = c .before .before .before .before .before .before .before .before .before .args .c in
     let h = c .before .before .before .before .before .before .before .before .before .pre .1 in
-    c .go4 .ensures _ bs ∙ sym (pass-40 y (c .before .before .before .before .before .before .before .before .before .args .k) c′ h (c .before .before .before .before .before .before .before .if1 .left) ∙ rw (← c .before .before .before .before .before .before .pred-of .ensures, eq-eqb (c′ .b) 0 (c .before .before .before .before .before .if2 .left), ne-eqb _ _ (c .before .before .before .before .if3 .left), ← c .before .before .before .size-of .ensures, ← c .before .before .size-of2 .ensures, ne-eqb _ _ (c .before .if4 .left)))
+    c .go4 .ensures .0 _ bs ∙ sym (pass-40 y (c .before .before .before .before .before .before .before .before .before .args .k) c′ h (c .before .before .before .before .before .before .before .if1 .left) ∙ rw (← c .before .before .before .before .before .before .pred-of .ensures, eq-eqb (c′ .b) 0 (c .before .before .before .before .before .if2 .left), ne-eqb _ _ (c .before .before .before .before .if3 .left), ← c .before .before .before .size-of .ensures, ← c .before .before .size-of2 .ensures, ne-eqb _ _ (c .before .if4 .left)))
 
 pub line40-spec : {M : Type 1} → statement M
 line40-spec =

@@ -22,7 +22,7 @@ returns c =
     let y = machine-of (a .s) (now (a .ns)) bs in
     let c′ = a .c in
     let h = c .before .before .before .pre .1 in
-    c .refused .ensures _ bs ∙ sym (empty-43 y (a .k) c′ h (c .before .if1 .taken))
+    c .refused .ensures _ _ bs ∙ sym (empty-43 y (a .k) c′ h (c .before .if1 .taken))
 
 size-of-requires : tie.Need-size-of-requires
 size-of-requires c κs = search needs
@@ -48,7 +48,7 @@ returns-2 c =
     let q : ℕ = number (c′ .s) in
     let e : c .before .place-of .result ≡ place w q (slot (c′ .i) (size w q)) =
     c .before .place-of .ensures ∙ ap (λ (i : ℕ). place w q i) (c .before .before .slot .ensures ∙ ap (λ (z : ℕ). slot (c′ .i) z) (c .before .before .before .size-of .ensures)) in
-    c .go .ensures _ bs ∙ sym (pass-43 y (a .k) c′ h (c .before .before .before .before .if1 .left) ∙ rw (← e))
+    c .go .ensures .0 _ bs ∙ sym (pass-43 y (a .k) c′ h (c .before .before .before .before .if1 .left) ∙ rw (← e))
 
 pub line43-spec : {M : Type 1} → statement M
 line43-spec =

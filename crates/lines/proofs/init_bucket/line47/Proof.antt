@@ -18,7 +18,7 @@ returns c =
     let y = machine-of (c .before .before .before .args .s) (now (c .before .before .before .args .ns)) bs in
     let c′ = c .before .before .before .args .c in
     let h = c .before .before .before .pre .1 in
-    c .refused .ensures _ bs ∙ sym (empty-47 y (c .before .before .before .args .k) c′ h (c .before .if1 .taken))
+    c .refused .ensures _ _ bs ∙ sym (empty-47 y (c .before .before .before .args .k) c′ h (c .before .if1 .taken))
 
 refused-requires-2 : tie.Need-refused-requires-2
 refused-requires-2 c κs = search needs
@@ -29,7 +29,7 @@ returns-2 c =
     let y = machine-of (c .before .before .before .before .args .s) (now (c .before .before .before .before .args .ns)) bs in
     let c′ = c .before .before .before .before .args .c in
     let h = c .before .before .before .before .pre .1 in
-    c .refused2 .ensures _ bs ∙ sym (empty-47-2 y (c .before .before .before .before .args .k) c′ h (c .before .before .if1 .left) (c .before .if2 .taken))
+    c .refused2 .ensures _ _ bs ∙ sym (empty-47-2 y (c .before .before .before .before .args .k) c′ h (c .before .before .if1 .left) (c .before .if2 .taken))
 
 size-of-requires : tie.Need-size-of-requires
 size-of-requires c κs = search needs
@@ -59,7 +59,7 @@ returns-3 c =
     let y = machine-of (c .before .before .before .before .before .before .before .args .s) (now (c .before .before .before .before .before .before .before .args .ns)) bs in
     let c′ = c .before .before .before .before .before .before .before .args .c in
     let h = c .before .before .before .before .before .before .before .pre .1 in
-    c .refused3 .ensures _ bs ∙ sym (past-47 y (c .before .before .before .before .before .before .before .args .k) c′ h (c .before .before .before .before .before .if1 .left) (c .before .before .before .before .if2 .left) (rw (← c .before .before .before .size-of .ensures, ← c .before .before .size-of2 .ensures) (le-leb _ _ (c .before .if3 .taken))))
+    c .refused3 .ensures _ _ bs ∙ sym (past-47 y (c .before .before .before .before .before .before .before .args .k) c′ h (c .before .before .before .before .before .if1 .left) (c .before .before .before .before .if2 .left) (rw (← c .before .before .before .size-of .ensures, ← c .before .before .size-of2 .ensures) (le-leb _ _ (c .before .if3 .taken))))
 
 add-place-of : tie.Need-add-place-of
 add-place-of c = search needs
@@ -77,7 +77,7 @@ returns-4 c =
     let y = machine-of (c .before .before .before .before .before .before .before .before .args .s) (now (c .before .before .before .before .before .before .before .before .args .ns)) bs in
     let c′ = c .before .before .before .before .before .before .before .before .args .c in
     let h = c .before .before .before .before .before .before .before .before .pre .1 in
-    c .go .ensures _ bs ∙ sym (pass-47 y (c .before .before .before .before .before .before .before .before .args .k) c′ h (c .before .before .before .before .before .before .if1 .left) (c .before .before .before .before .before .if2 .left) (rw (← c .before .before .before .before .size-of .ensures, ← c .before .before .before .size-of2 .ensures) (lt-leb _ _ (c .before .before .if3 .left))) ∙ rw (← c .before .before .before .before .size-of .ensures, ← c .before .place-of .ensures))
+    c .go .ensures .0 _ bs ∙ sym (pass-47 y (c .before .before .before .before .before .before .before .before .args .k) c′ h (c .before .before .before .before .before .before .if1 .left) (c .before .before .before .before .before .if2 .left) (rw (← c .before .before .before .before .size-of .ensures, ← c .before .before .before .size-of2 .ensures) (lt-leb _ _ (c .before .before .if3 .left))) ∙ rw (← c .before .before .before .before .size-of .ensures, ← c .before .place-of .ensures))
 
 pub line47-spec : {M : Type 1} → statement M
 line47-spec =

@@ -10,6 +10,7 @@ use Rattle.spec.specs.Held.{free-bucket}
 use Rattle.spec.specs.Lines.{moves, line-49}
 use Rattle.spec.specs.StepRefusals.{overfull-49}
 use Rattle.spec.specs.Entries.{accept}
+use Rattle.lines.proofs.Settling.{over-last-bucket}
 use Rattle.lines.proofs.Taking.{free-bucket-in}
 use borrow.Author.Tests.{le-ltb, lt-ltb}
 use Rattle.pool.proofs.Facts.{numbers-of}
@@ -32,7 +33,7 @@ returns c =
     let y : Machine = machine-of (a .s) (now (a .ns)) (now (a .bs)) in
     let c′ = a .c in
     let h = c .before .before .before .before .pre .1 in
-    c .refused .ensures _ _ ∙ sym (empty-49 y (a .k) c′ h (c .before .if1 .taken))
+    c .refused .ensures _ _ _ ∙ sym (empty-49 y (a .k) c′ h (c .before .if1 .taken))
 
 refused-requires-2 : tie.Need-refused-requires-2
 refused-requires-2 c κs = search needs
@@ -43,7 +44,7 @@ returns-2 c =
     let y : Machine = machine-of (a .s) (now (a .ns)) (now (a .bs)) in
     let c′ = a .c in
     let h = c .before .before .before .before .before .pre .1 in
-    c .refused2 .ensures _ _ ∙ sym (empty-49-2 y (a .k) c′ h (c .before .before .if1 .left) (c .before .if2 .taken))
+    c .refused2 .ensures _ _ _ ∙ sym (empty-49-2 y (a .k) c′ h (c .before .before .if1 .left) (c .before .if2 .taken))
 
 new-bucket-of-requires : tie.Need-new-bucket-of-requires
 new-bucket-of-requires c κs =
@@ -71,7 +72,7 @@ returns-3 c =
     let y : Machine = machine-of (a .s) (now (a .ns)) (now (a .bs)) in
     let c′ = a .c in
     let h = c .before .before .before .before .before .before .before .before .before .pre .1 in
-    c .refused3 .ensures _ _ ∙ sym (past-49 y (a .k) c′ h (c .before .before .before .before .before .before .if1 .left) (c .before .before .before .before .before .if2 .left) (lt-ltb _ _ (c .before .before .before .new-bucket-of .ensures (a .s) .over (c .before .enum-told .given .1))))
+    c .refused3 .ensures _ _ _ ∙ sym (past-49 y (a .k) c′ h (c .before .before .before .before .before .before .if1 .left) (c .before .before .before .before .before .if2 .left) (lt-ltb _ _ (c .before .before .before .new-bucket-of .ensures (a .s) .over (c .before .enum-told .given .1))))
 
 free-bucket-of-requires : tie.Need-free-bucket-of-requires
 free-bucket-of-requires c κs = search needs
@@ -89,7 +90,7 @@ returns-4 c =
     let y : Machine = machine-of (a .s) (now (a .ns)) (now (a .bs)) in
     let c′ = a .c in
     let h = c .before .before .before .before .before .before .before .before .before .before .pre .1 in
-    c .refused4 .ensures _ _ ∙ sym (all-held-49 y (a .k) c′ h (c .before .before .before .before .before .before .before .if1 .left) (c .before .before .before .before .before .before .if2 .left) (le-ltb _ _ ((c .before .before .before .before .new-bucket-of .ensures (a .s) .fine (not-full (c .before .before .before .before .new-bucket-of .result .answer) (c .before .before .before .match .keys2))) .0)) (sym (c .before .before .free-bucket-of .ensures (now (a .bs)) ∙ bucket-sound y (c .before .before .before .before .before .before .before .before .before .before .pre .2)) ∙ c .before .if3 .taken))
+    c .refused4 .ensures _ _ _ ∙ sym (all-held-49 y (a .k) c′ h (c .before .before .before .before .before .before .before .if1 .left) (c .before .before .before .before .before .before .if2 .left) (le-ltb _ _ ((c .before .before .before .before .new-bucket-of .ensures (a .s) .fine (not-full (c .before .before .before .before .new-bucket-of .result .answer) (c .before .before .before .match .keys2))) .0)) (sym (c .before .before .free-bucket-of .ensures (now (a .bs)) ∙ bucket-sound y (c .before .before .before .before .before .before .before .before .before .before .pre .2)) ∙ c .before .if3 .taken))
 
 cast-store-at : tie.Need-cast-store-at
 cast-store-at c = search needs
@@ -121,8 +122,9 @@ returns-5 c =
     let z = c .before .before .before .before .before .before .if3 .left in
     let l : c .before .before .before .before .before .before .before .free-bucket-of .result ≤ a .s .buckets = rw ef (free-bucket-in y (omega arith)) in
     let g = c .before .before .before .before .before .before .before .before .before .new-bucket-of .ensures (a .s) .fine (not-full (c .before .before .before .before .before .before .before .before .before .new-bucket-of .result .answer) (c .before .before .before .before .before .before .before .before .match .keys2)) in
-    c .go .ensures _ (c .before .before .before .store-at .last .0) ∙ ap (λ (v : List ℕ). accept (machine-of (state-last-bucket (c .before .before .before .before .before .before .before .free-bucket-of .result - 1) (a .s)) (now (a .ns)) v) (a .k) (c′ .own) (moves (with-line 50 (with-new-bucket (c .before .before .before .before .before .before .before .free-bucket-of .result) c′))))
-    (c .before .before .before .store-at .ensures ∙ store-here (now (a .bs)) (c .before .before .before .before .before .before .before .free-bucket-of .result - 1) (omega (arith, z, l)) (c .before .before .before .before .before .before .before .before .before .new-bucket-of .result .bucket) ∙ ap (λ (v : List ℕ). overwrite (now (a .bs)) (66 * (c .before .before .before .before .before .before .before .free-bucket-of .result - 1)) v) (g .1))
+    over-last-bucket (c .before .before .before .before .before .before .before .free-bucket-of .result - 1) (a .s) (a .k) (c .go .result) _ _ (c .go .ensures .1)
+    (c .go .ensures .0 _ (c .before .before .before .store-at .last .0) ∙ ap (λ (v : List ℕ). accept (machine-of (state-last-bucket (c .before .before .before .before .before .before .before .free-bucket-of .result - 1) (a .s)) (now (a .ns)) v) (a .k) (c′ .own) (moves (with-line 50 (with-new-bucket (c .before .before .before .before .before .before .before .free-bucket-of .result) c′))))
+    (c .before .before .before .store-at .ensures ∙ store-here (now (a .bs)) (c .before .before .before .before .before .before .before .free-bucket-of .result - 1) (omega (arith, z, l)) (c .before .before .before .before .before .before .before .before .before .new-bucket-of .result .bucket) ∙ ap (λ (v : List ℕ). overwrite (now (a .bs)) (66 * (c .before .before .before .before .before .before .before .free-bucket-of .result - 1)) v) (g .1)))
     ∙ sym (pass-49 y (a .k) c′ h (c .before .before .before .before .before .before .before .before .before .before .before .before .if1 .left) (c .before .before .before .before .before .before .before .before .before .before .before .if2 .left) (le-ltb _ _ (g .0)) (λ q. z (ef ∙ q)) ∙ rw (← ef))
 
 pub line49-spec : {M : Type 1} → statement M

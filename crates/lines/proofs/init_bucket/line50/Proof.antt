@@ -26,7 +26,7 @@ returns c =
     let y = machine-of (a .s) (now (a .ns)) bs in
     let c′ = a .c in
     let h = c .before .before .before .pre .1 in
-    c .refused .ensures _ bs ∙ sym (empty-50 y (a .k) c′ h (c .before .if1 .taken))
+    c .refused .ensures _ _ bs ∙ sym (empty-50 y (a .k) c′ h (c .before .if1 .taken))
 
 refused-requires-2 : tie.Need-refused-requires-2
 refused-requires-2 c κs = search needs
@@ -38,7 +38,7 @@ returns-2 c =
     let y = machine-of (a .s) (now (a .ns)) bs in
     let c′ = a .c in
     let h = c .before .before .before .before .pre .1 in
-    c .refused2 .ensures _ bs ∙ sym (empty-50-2 y (a .k) c′ h (c .before .before .if1 .left) (c .before .if2 .taken))
+    c .refused2 .ensures _ _ bs ∙ sym (empty-50-2 y (a .k) c′ h (c .before .before .if1 .left) (c .before .if2 .taken))
 
 size-of-requires : tie.Need-size-of-requires
 size-of-requires c κs = search needs
@@ -57,7 +57,7 @@ returns-3 c =
     let y = machine-of (a .s) (now (a .ns)) bs in
     let c′ = a .c in
     let h = c .before .before .before .before .before .before .before .pre .1 in
-    c .refused3 .ensures _ bs ∙ sym (past-50 y (a .k) c′ h (c .before .before .before .before .before .if1 .left) (c .before .before .before .before .if2 .left) (rw (← c .before .before .size-of .ensures) (le-leb _ _ (c .before .if3 .taken))))
+    c .refused3 .ensures _ _ bs ∙ sym (past-50 y (a .k) c′ h (c .before .before .before .before .before .if1 .left) (c .before .before .before .before .if2 .left) (rw (← c .before .before .size-of .ensures) (le-leb _ _ (c .before .if3 .taken))))
 
 place-of-requires : tie.Need-place-of-requires
 place-of-requires c κs = search needs
@@ -99,7 +99,7 @@ returns-4 c =
     let h = c .before .before .before .before .before .before .before .before .before .before .before .before .before .before .before .pre .1 in
     let w = now (a .ns) in
     let e : c .before .before .before .put .last .0 ≡ set w (34 * number (c′ .t) + 2 + c′ .i) (c′ .«new_bucket») = c .before .before .before .put .ensures ∙ ap (λ (j : ℕ). set w (34 * j + 2 + c′ .i) (c′ .«new_bucket»)) (c .before .before .before .before .before .number-of .ensures) in
-    c .go .ensures (c .before .before .before .put .last .0) bs ∙ ap (λ (v : List ℕ). accept (machine-of (a .s) v bs) (a .k) (c′ .own) (moves (with-line 51 c′))) e
+    c .go .ensures .0 (c .before .before .before .put .last .0) bs ∙ ap (λ (v : List ℕ). accept (machine-of (a .s) v bs) (a .k) (c′ .own) (moves (with-line 51 c′))) e
     ∙ sym (pass-50 y (a .k) c′ h (c .before .before .before .before .before .before .before .before .before .before .before .before .before .if1 .left) (c .before .before .before .before .before .before .before .before .before .before .before .before .if2 .left) (rw (← c .before .before .before .before .before .before .before .before .before .before .size-of .ensures) (lt-leb _ _ (c .before .before .before .before .before .before .before .before .before .if3 .left))) ∙ rw (← c .before .before .before .before .before .before .before .place-of .ensures, c .before .before .before .before .before .before .if4 .taken))
 
 go-requires-2 : tie.Need-go-requires-2
@@ -116,7 +116,7 @@ returns-5 c =
     let y = machine-of (a .s) (now (a .ns)) bs in
     let c′ = a .c in
     let h = c .before .before .before .before .before .before .before .before .before .before .pre .1 in
-    c .go2 .ensures _ bs ∙ sym (pass-50 y (a .k) c′ h (c .before .before .before .before .before .before .before .before .if1 .left) (c .before .before .before .before .before .before .before .if2 .left) (rw (← c .before .before .before .before .before .size-of .ensures) (lt-leb _ _ (c .before .before .before .before .if3 .left))) ∙ rw (← c .before .before .place-of .ensures, ne-eqb _ _ (c .before .if4 .left)))
+    c .go2 .ensures .0 _ bs ∙ sym (pass-50 y (a .k) c′ h (c .before .before .before .before .before .before .before .before .if1 .left) (c .before .before .before .before .before .before .before .if2 .left) (rw (← c .before .before .before .before .before .size-of .ensures) (lt-leb _ _ (c .before .before .before .before .if3 .left))) ∙ rw (← c .before .before .place-of .ensures, ne-eqb _ _ (c .before .if4 .left)))
 
 pub line50-spec : {M : Type 1} → statement M
 line50-spec =

@@ -19,7 +19,7 @@ returns c =
     let y = machine-of (c .before .before .before .args .s) (now (c .before .before .before .args .ns)) bs in
     let c′ = c .before .before .before .args .c in
     let h = c .before .before .before .pre .1 in
-    c .refused .ensures _ bs ∙ sym (empty-51 y (c .before .before .before .args .k) c′ h (c .before .if1 .taken))
+    c .refused .ensures _ _ bs ∙ sym (empty-51 y (c .before .before .before .args .k) c′ h (c .before .if1 .taken))
 
 size-of-requires : tie.Need-size-of-requires
 size-of-requires c κs = search needs
@@ -34,7 +34,7 @@ returns-2 c =
     let y = machine-of (c .before .before .before .before .before .args .s) (now (c .before .before .before .before .before .args .ns)) bs in
     let c′ = c .before .before .before .before .before .args .c in
     let h = c .before .before .before .before .before .pre .1 in
-    c .refused2 .ensures _ bs ∙ sym (past-51 y (c .before .before .before .before .before .args .k) c′ h (c .before .before .before .if1 .left) (rw (← c .before .before .size-of .ensures) (le-leb _ _ (c .before .if2 .taken))))
+    c .refused2 .ensures _ _ bs ∙ sym (past-51 y (c .before .before .before .before .before .args .k) c′ h (c .before .before .before .if1 .left) (rw (← c .before .before .size-of .ensures) (le-leb _ _ (c .before .if2 .taken))))
 
 is-resize-requires : tie.Need-is-resize-requires
 is-resize-requires c κs = search needs
@@ -55,7 +55,7 @@ returns-3 c =
     let y = machine-of (c .before .before .before .before .before .before .before .before .args .s) (now (c .before .before .before .before .before .before .before .before .args .ns)) bs in
     let c′ = c .before .before .before .before .before .before .before .before .args .c in
     let h = c .before .before .before .before .before .before .before .before .pre .1 in
-    c .go .ensures _ bs ∙ sym (pass-51 y (c .before .before .before .before .before .before .before .before .args .k) c′ h (c .before .before .before .before .before .before .if1 .left) (rw (← c .before .before .before .before .before .size-of .ensures) (lt-leb _ _ (c .before .before .before .before .if2 .left))) ∙ rw (sym (c .before .before .before .is-resize .ensures) ∙ c .before .before .if3 .taken, ← c .before .before .before .before .before .size-of .ensures, lt-ltb _ _ (c .before .if4 .taken)))
+    c .go .ensures .0 _ bs ∙ sym (pass-51 y (c .before .before .before .before .before .before .before .before .args .k) c′ h (c .before .before .before .before .before .before .if1 .left) (rw (← c .before .before .before .before .before .size-of .ensures) (lt-leb _ _ (c .before .before .before .before .if2 .left))) ∙ rw (sym (c .before .before .before .is-resize .ensures) ∙ c .before .before .if3 .taken, ← c .before .before .before .before .before .size-of .ensures, lt-ltb _ _ (c .before .if4 .taken)))
 
 go-requires-2 : tie.Need-go-requires-2
 go-requires-2 c κs = search needs
@@ -67,7 +67,7 @@ returns-4 c =
     let y = machine-of (c .before .before .before .before .before .before .before .before .args .s) (now (c .before .before .before .before .before .before .before .before .args .ns)) bs in
     let c′ = c .before .before .before .before .before .before .before .before .args .c in
     let h = c .before .before .before .before .before .before .before .before .pre .1 in
-    c .go2 .ensures _ bs ∙ sym (pass-51 y (c .before .before .before .before .before .before .before .before .args .k) c′ h (c .before .before .before .before .before .before .if1 .left) (rw (← c .before .before .before .before .before .size-of .ensures) (lt-leb _ _ (c .before .before .before .before .if2 .left))) ∙ rw (sym (c .before .before .before .is-resize .ensures) ∙ c .before .before .if3 .taken, ← c .before .before .before .before .before .size-of .ensures, le-ltb _ _ (c .before .if4 .left)))
+    c .go2 .ensures .0 _ bs ∙ sym (pass-51 y (c .before .before .before .before .before .before .before .before .args .k) c′ h (c .before .before .before .before .before .before .if1 .left) (rw (← c .before .before .before .before .before .size-of .ensures) (lt-leb _ _ (c .before .before .before .before .if2 .left))) ∙ rw (sym (c .before .before .before .is-resize .ensures) ∙ c .before .before .if3 .taken, ← c .before .before .before .before .before .size-of .ensures, le-ltb _ _ (c .before .if4 .left)))
 
 place-of-requires : tie.Need-place-of-requires
 place-of-requires c κs = search needs
@@ -82,7 +82,7 @@ returns-5 c =
     let y = machine-of (c .before .before .before .before .before .before .before .before .args .s) (now (c .before .before .before .before .before .before .before .before .args .ns)) bs in
     let c′ = c .before .before .before .before .before .before .before .before .args .c in
     let h = c .before .before .before .before .before .before .before .before .pre .1 in
-    c .go3 .ensures _ bs ∙ sym (pass-51 y (c .before .before .before .before .before .before .before .before .args .k) c′ h (c .before .before .before .before .before .before .if1 .left) (rw (← c .before .before .before .before .before .size-of .ensures) (lt-leb _ _ (c .before .before .before .before .if2 .left))) ∙ rw (sym (c .before .before .before .is-resize .ensures) ∙ c .before .before .if3 .left, ← c .before .place-of .ensures))
+    c .go3 .ensures .0 _ bs ∙ sym (pass-51 y (c .before .before .before .before .before .before .before .before .args .k) c′ h (c .before .before .before .before .before .before .if1 .left) (rw (← c .before .before .before .before .before .size-of .ensures) (lt-leb _ _ (c .before .before .before .before .if2 .left))) ∙ rw (sym (c .before .before .before .is-resize .ensures) ∙ c .before .before .if3 .left, ← c .before .place-of .ensures))
 
 pub line51-spec : {M : Type 1} → statement M
 line51-spec =

@@ -27,7 +27,7 @@ returns c =
     let y = machine-of (c .before .before .before .before .before .before .args .s) (now (c .before .before .before .before .before .before .args .ns)) bs in
     let c′ = c .before .before .before .before .before .before .args .c in
     let h = c .before .before .before .before .before .before .pre .1 in
-    c .end .ensures _ bs ∙ sym (pass-20 y (c .before .before .before .before .before .before .args .k) c′ h ∙ rw (← c .before .before .before .size-of .ensures, sym (c .before .before .at-limit .ensures) ∙ c .before .if1 .taken))
+    c .end .ensures .0 _ bs ∙ sym (pass-20 y (c .before .before .before .before .before .before .args .k) c′ h ∙ rw (← c .before .before .before .size-of .ensures, sym (c .before .before .at-limit .ensures) ∙ c .before .if1 .taken))
 
 go-requires : tie.Need-go-requires
 go-requires c κs = search needs
@@ -39,7 +39,7 @@ returns-2 c =
     let y = machine-of (c .before .before .before .before .before .before .args .s) (now (c .before .before .before .before .before .before .args .ns)) bs in
     let c′ = c .before .before .before .before .before .before .args .c in
     let h = c .before .before .before .before .before .before .pre .1 in
-    c .go .ensures _ bs ∙ sym (pass-20 y (c .before .before .before .before .before .before .args .k) c′ h ∙ rw (← c .before .before .before .size-of .ensures, sym (c .before .before .at-limit .ensures) ∙ c .before .if1 .left))
+    c .go .ensures .0 _ bs ∙ sym (pass-20 y (c .before .before .before .before .before .before .args .k) c′ h ∙ rw (← c .before .before .before .size-of .ensures, sym (c .before .before .at-limit .ensures) ∙ c .before .if1 .left))
 
 pub line20-spec : {M : Type 1} → statement M
 line20-spec =

@@ -24,7 +24,7 @@ returns c =
     let y = machine-of (a .s) (now (a .ns)) bs in
     let c′ = a .c in
     let h = c .before .before .before .pre .1 in
-    c .refused .ensures _ bs ∙ sym (empty-24 y (a .k) c′ h (c .before .if1 .taken))
+    c .refused .ensures _ _ bs ∙ sym (empty-24 y (a .k) c′ h (c .before .if1 .taken))
 
 number-of-requires : tie.Need-number-of-requires
 number-of-requires c κs = search needs
@@ -57,7 +57,7 @@ returns-2 c =
     let h = c .before .before .before .before .before .before .before .before .pre .1 in
     let w = now (a .ns) in
     let e : c .before .before .before .put .last .0 ≡ set w (34 * number (c′ .t) + 1) 0 = c .before .before .before .put .ensures ∙ ap (λ (j : ℕ). set w (34 * j + 1) 0) (c .before .before .before .before .before .number-of .ensures) in
-    c .go .ensures (c .before .before .before .put .last .0) bs ∙ ap (λ (v : List ℕ). accept (machine-of (a .s) v bs) (a .k) (c′ .own) (moves (with-line 27 c′))) e ∙ sym (pass-24 y (a .k) c′ h (c .before .before .before .before .before .before .if1 .left))
+    c .go .ensures .0 (c .before .before .before .put .last .0) bs ∙ ap (λ (v : List ℕ). accept (machine-of (a .s) v bs) (a .k) (c′ .own) (moves (with-line 27 c′))) e ∙ sym (pass-24 y (a .k) c′ h (c .before .before .before .before .before .before .if1 .left))
 
 pub line24-spec : {M : Type 1} → statement M
 line24-spec =

@@ -10,9 +10,9 @@ use Rattle.spec.specs.Held.{free-node}
 use Rattle.spec.specs.Listed.{size-of}
 use Rattle.spec.specs.Lines.{moves, resized, line-27}
 use Rattle.spec.specs.Entries.{accept}
+use Rattle.lines.proofs.Settling.{over-last-node}
 use Rattle.lines.proofs.Taking.{free-node-in}
 use Rattle.lines.proofs.Laws.{empty-27, unlisted-27, all-held-27, pass-27}
-use Prim.Native.Nat.{_≤_}
 use Rattle.pool.proofs.At.{node-here}
 use Rattle.held.proofs.Taking.{node-in}
 use native.Mathlib.Omega.{arith}
@@ -30,7 +30,7 @@ returns c =
     let y = machine-of (a .s) (now (a .ns)) bs in
     let c′ = a .c in
     let h = c .before .before .before .pre .1 in
-    c .refused .ensures _ bs ∙ sym (empty-27 y (a .k) c′ h (c .before .if1 .taken))
+    c .refused .ensures _ _ bs ∙ sym (empty-27 y (a .k) c′ h (c .before .if1 .taken))
 
 size-of-requires : tie.Need-size-of-requires
 size-of-requires c κs = search needs
@@ -53,7 +53,7 @@ returns-2 c =
     let c′ = a .c in
     let h = c .before .before .before .before .before .before .before .pre .1 in
     let ez : c .before .before .before .size-of .result ≡ size (now (a .ns)) (number (c′ .t)) = c .before .before .before .size-of .ensures in
-    c .refused2 .ensures _ bs ∙ sym (unlisted-27 y (a .k) c′ h (c .before .before .before .before .before .if1 .left) (rw (← ez) (c .before .before .new-size .ensures .none (c .before .if2 .taken))))
+    c .refused2 .ensures _ _ bs ∙ sym (unlisted-27 y (a .k) c′ h (c .before .before .before .before .before .if1 .left) (rw (← ez) (c .before .before .new-size .ensures .none (c .before .if2 .taken))))
 
 free-node-of-requires : tie.Need-free-node-of-requires
 free-node-of-requires c κs = search needs
@@ -73,7 +73,7 @@ returns-3 c =
     let c′ = a .c in
     let h = c .before .before .before .before .before .before .before .before .before .before .pre .1 in
     let ez : c .before .before .before .before .before .before .size-of .result ≡ size (now (a .ns)) (number (c′ .t)) = c .before .before .before .before .before .before .size-of .ensures in
-    c .refused3 .ensures _ bs ∙ sym (all-held-27 y (a .k) c′ h (c .before .before .before .before .before .before .before .before .if1 .left) (rw (← ez) (c .before .before .before .before .before .new-size .ensures .some (c .before .before .before .before .if2 .left) .0)) (sym (c .before .before .free-node-of .ensures bs ∙ node-in y (c .before .before .before .before .before .before .before .before .before .before .pre .2, c .before .before .before .before .before .before .before .before .before .before .pre .3, c .before .before .before .before .before .before .before .before .before .before .pre .4)) ∙ c .before .if3 .taken))
+    c .refused3 .ensures _ _ bs ∙ sym (all-held-27 y (a .k) c′ h (c .before .before .before .before .before .before .before .before .if1 .left) (rw (← ez) (c .before .before .before .before .before .new-size .ensures .some (c .before .before .before .before .if2 .left) .0)) (sym (c .before .before .free-node-of .ensures bs ∙ node-in y (c .before .before .before .before .before .before .before .before .before .before .pre .2, c .before .before .before .before .before .before .before .before .before .before .pre .3, c .before .before .before .before .before .before .before .before .before .before .pre .4)) ∙ c .before .if3 .taken))
 
 cast-new-node : tie.Need-cast-new-node
 cast-new-node c = search needs
@@ -106,7 +106,8 @@ returns-4 c =
     let l : c .before .before .before .before .before .before .free-node-of .result ≤ a .s .nodes = rw ef (free-node-in y (omega arith)) in
     let z = c .before .before .before .before .before .if3 .left in
     let ew : c .before .before .before .before .before .before .before .before .before .new-size .result ≡ resized (c′ .call) (c .before .before .before .before .before .before .before .before .before .before .size-of .result) = c .before .before .before .before .before .before .before .before .before .new-size .ensures .some (c .before .before .before .before .before .before .before .before .if2 .left) .1 in
-    c .go .ensures (c .before .before .before .new-node .last .0) bs ∙ ap (λ (v : List ℕ). accept (machine-of (state-last-node (c .before .before .before .before .before .before .free-node-of .result - 1) (a .s)) v bs) (a .k) (c′ .own) (moves (with-line 28 (with-new-node (c .before .before .before .before .before .before .free-node-of .result) c′)))) (c .before .before .before .new-node .ensures ∙ node-here (now (a .ns)) (c .before .before .before .before .before .before .free-node-of .result - 1) (c .before .before .before .before .before .before .before .before .before .new-size .result) (c′ .t) (omega (arith, z, l)))
+    over-last-node (c .before .before .before .before .before .before .free-node-of .result - 1) (a .s) (a .k) (c .go .result) _ bs (c .go .ensures .1)
+    (c .go .ensures .0 (c .before .before .before .new-node .last .0) bs ∙ ap (λ (v : List ℕ). accept (machine-of (state-last-node (c .before .before .before .before .before .before .free-node-of .result - 1) (a .s)) v bs) (a .k) (c′ .own) (moves (with-line 28 (with-new-node (c .before .before .before .before .before .before .free-node-of .result) c′)))) (c .before .before .before .new-node .ensures ∙ node-here (now (a .ns)) (c .before .before .before .before .before .before .free-node-of .result - 1) (c .before .before .before .before .before .before .before .before .before .new-size .result) (c′ .t) (omega (arith, z, l))))
     ∙ sym (pass-27 y (a .k) c′ h (c .before .before .before .before .before .before .before .before .before .before .before .before .if1 .left) (rw (← ez) (c .before .before .before .before .before .before .before .before .before .new-size .ensures .some (c .before .before .before .before .before .before .before .before .if2 .left) .0)) (λ q. c .before .before .before .before .before .if3 .left (ef ∙ q)) ∙ rw (← ef, ← ez, ← ew))
 
 pub line27-spec : {M : Type 1} → statement M

@@ -5,6 +5,8 @@ use Rattle.spec.specs.Words.{apply}
 use Rattle.spec.specs.Listed.{head-of}
 use Rattle.spec.specs.Entries.{accept}
 use Rattle.spec.specs.Lines.{line-28}
+use Prim.Native.Nat.{_-_}
+use Rattle.lines.proofs.Settling.{over-head}
 use Rattle.lines.proofs.Laws.{empty-28, empty-28-2, pass-28}
 use borrow.Author.Needs.{needs}
 use Rattle.lines.proofs.resize.line28.Statement.{statement}
@@ -19,7 +21,7 @@ returns c =
     let y = machine-of (c .before .before .args .s) ns bs in
     let c′ = c .before .before .args .c in
     let h = c .before .before .pre .1 in
-    c .refused .ensures ns bs ∙ sym (empty-28 y (c .before .before .args .k) c′ h (c .before .if1 .taken))
+    c .refused .ensures _ ns bs ∙ sym (empty-28 y (c .before .before .args .k) c′ h (c .before .if1 .taken))
 
 refused-requires-2 : tie.Need-refused-requires-2
 refused-requires-2 c κs = search needs
@@ -30,7 +32,7 @@ returns-2 c =
     let y = machine-of (c .before .before .before .args .s) ns bs in
     let c′ = c .before .before .before .args .c in
     let h = c .before .before .before .pre .1 in
-    c .refused2 .ensures ns bs ∙ sym (empty-28-2 y (c .before .before .before .args .k) c′ h (c .before .before .if1 .left) (c .before .if2 .taken))
+    c .refused2 .ensures _ ns bs ∙ sym (empty-28-2 y (c .before .before .before .args .k) c′ h (c .before .before .if1 .left) (c .before .if2 .taken))
 
 add-h : tie.Need-add-h
 add-h c = search needs
@@ -48,7 +50,7 @@ returns-3 c =
     let y = machine-of (c .before .before .before .before .before .args .s) ns bs in
     let c′ = c .before .before .before .before .before .args .c in
     let h = c .before .before .before .before .before .pre .1 in
-    c .end .ensures ns bs ∙ sym (pass-28 y (c .before .before .before .before .before .args .k) c′ h (c .before .before .before .before .if1 .left) (c .before .before .before .if2 .left) ∙ rw (eq-eqb _ _ (c .before .if3 .taken)))
+    over-head (c′ .«new_node» - 1) (c .before .before .before .before .before .args .s) (c .before .before .before .before .before .args .k) (c .end .result) ns bs (c .end .ensures .1) (c .end .ensures .0 ns bs) ∙ sym (pass-28 y (c .before .before .before .before .before .args .k) c′ h (c .before .before .before .before .if1 .left) (c .before .before .before .if2 .left) ∙ rw (eq-eqb _ _ (c .before .if3 .taken)))
 
 end-requires-2 : tie.Need-end-requires-2
 end-requires-2 c κs = search needs
@@ -60,7 +62,7 @@ returns-4 c =
     let y = machine-of (c .before .before .before .before .before .args .s) ns bs in
     let c′ = c .before .before .before .before .before .args .c in
     let h = c .before .before .before .before .before .pre .1 in
-    c .end2 .ensures ns bs ∙ sym (pass-28 y (c .before .before .before .before .before .args .k) c′ h (c .before .before .before .before .if1 .left) (c .before .before .before .if2 .left) ∙ rw (ne-eqb _ _ (c .before .if3 .left)))
+    c .end2 .ensures .0 ns bs ∙ sym (pass-28 y (c .before .before .before .before .before .args .k) c′ h (c .before .before .before .before .if1 .left) (c .before .before .before .if2 .left) ∙ rw (ne-eqb _ _ (c .before .if3 .left)))
 
 pub line28-spec : {M : Type 1} → statement M
 line28-spec =

@@ -1,0 +1,11 @@
+use mathlib.Core.Path.{refl}
+use Rattle.spec.specs.Machine.{idle}
+use Rattle.lines.proofs.idle.Statement.{statement}
+use Rattle.lines.proofs.idle.Tie as tie
+
+returns : tie.Need-returns
+unfolding idle
+returns c = refl
+
+pub idle-spec : {M : Type 1} → statement M
+idle-spec = tie.close (tie.spec returns)
