@@ -1,4 +1,5 @@
 // The entries of the yard set.
+use lines::Moved;
 use lines::Stepped;
 use spec::Call;
 use spec::Listing;
@@ -11,7 +12,7 @@ ghost use Prim.Native.Nat.{ℕ, _+_, _≤_, _<_};
 ghost use lib.ListN.{length, replicate};
 ghost use Rattle.spec.specs.Entries.{start, started, step, show, list, opening, pool-fits};
 ghost use Rattle.spec.specs.Machine.{state-of, machine-of};
-ghost use Rattle.lines.specs.Reply.{reply-of};
+ghost use Rattle.lines.specs.Reply.{reply-of, moved-reply};
 
 fn begun(call: Call, tag: u32) -> Task
     ensures { λ r. ⌜ r ≡ started call tag ⌝ }
@@ -95,9 +96,9 @@ fn begun(call: Call, tag: u32) -> Task
     }
 }
 
-// Starts a call for a task.
-pub fn start(s: State, k: u32, call: Call, tag: u32, ns: &[u32], bs: &[u32]) -> Stepped
-    ensures { λ r. ⌜ reply-of r (now (ns .entry)) (now (bs .entry)) ≡ start (machine-of s (now (ns .entry)) (now (bs .entry))) k call tag ⌝ }
+// What a start for task k changes of the state.
+pub fn moved_by_start(s: State, k: u32, call: Call, tag: u32, ns: &[u32], bs: &[u32]) -> Moved
+    ensures { λ r. ⌜ moved-reply s k r (now (ns .entry)) (now (bs .entry)) ≡ start (machine-of s (now (ns .entry)) (now (bs .entry))) k call tag ⌝ }
 {
     if !pool::soundness::sound(s, ns, bs) {
         return lines::refused(s, 8);
@@ -115,12 +116,21 @@ pub fn start(s: State, k: u32, call: Call, tag: u32, ns: &[u32], bs: &[u32]) -> 
         return lines::refused(s, 5);
     }
     let x = begun(call, tag);
-    let mut t = s;
-    t.task[j] = x;
-    Stepped {
+    Moved {
         out: Output::At(x.line),
-        state: t,
+        head: s.head,
+        last_node: s.last_node,
+        last_bucket: s.last_bucket,
+        task: x,
     }
+}
+
+// Starts a call for a task.
+pub fn start(s: State, k: u32, call: Call, tag: u32, ns: &[u32], bs: &[u32]) -> Stepped
+    ensures { λ r. ⌜ reply-of r (now (ns .entry)) (now (bs .entry)) ≡ start (machine-of s (now (ns .entry)) (now (bs .entry))) k call tag ⌝ }
+{
+    let m = moved_by_start(s, k, call, tag, ns, bs);
+    lines::settle(s, k, m)
 }
 
 // The tags of bucket k, where they stand; an empty part for a bad number or spoilt memory.
@@ -146,9 +156,9 @@ pub fn show<'a>(s: State, ns: &[u32], bs: &'a [u32], k: u32) -> &'a [u32]
     &bs[f..e]
 }
 
-// Steps a task by one line.
-pub fn step(s: State, k: u32, ns: &mut [u32], bs: &mut [u32]) -> Stepped
-    ensures { λ r. ⌜ reply-of r (now (ns .exit)) (now (bs .exit)) ≡ step (machine-of s (now (ns .entry)) (now (bs .entry))) k ⌝ }
+// What a step of task k by one line changes of the state.
+pub fn moved_by_step(s: State, k: u32, ns: &mut [u32], bs: &mut [u32]) -> Moved
+    ensures { λ r. ⌜ moved-reply s k r (now (ns .exit)) (now (bs .exit)) ≡ step (machine-of s (now (ns .entry)) (now (bs .entry))) k ⌝ }
 {
     if !pool::soundness::sound(s, ns, bs) {
         return lines::refused(s, 8);
@@ -193,6 +203,14 @@ pub fn step(s: State, k: u32, ns: &mut [u32], bs: &mut [u32]) -> Stepped
         52 => lines::init_bucket::line52(s, j, c, bs),
         _ => lines::refused(s, 8),
     }
+}
+
+// Steps a task by one line.
+pub fn step(s: State, k: u32, ns: &mut [u32], bs: &mut [u32]) -> Stepped
+    ensures { λ r. ⌜ reply-of r (now (ns .exit)) (now (bs .exit)) ≡ step (machine-of s (now (ns .entry)) (now (bs .entry))) k ⌝ }
+{
+    let m = moved_by_step(s, k, ns, bs);
+    lines::settle(s, k, m)
 }
 
 // Writes the tags in the set, ascending, and gives their number; later words are kept.

@@ -7,7 +7,7 @@ use Prim.Native.Nat.{ℕ, _<_, _≤_}
 use native.Mathlib.Omega.{arith}
 use borrow.Author.Tests.{le-ltb, ltb-true}
 use lib.ListN.{set}
-use Rattle.spec.specs.Machine.{state-head, state-last-node, state-last-bucket, state-task}
+use Rattle.spec.specs.Machine.{machine-of, state-head, state-last-node, state-last-bucket, state-task}
 use Rattle.spec.specs.Entries.{Reply}
 use Rattle.spec.specs.declared.State.{State}
 use Rattle.spec.specs.declared.Output.{Output}
@@ -31,14 +31,18 @@ changes-below (Refuse w) k h = absurd (let z : _≡_ {A = ℕ} 0 1 = cc in omega
 
 -- ---- the state afterwards
 
-pub settled-on : (s : State) (k : ℕ) (m : Moved) → changes (m .out) k ≡ true
-    → settled s k m ≡ state-task (set (s .task) k (m .task)) (state-last-bucket (m .«last_bucket») (state-last-node (m .«last_node») (state-head (m .head) s)))
-unfolding settled
-settled-on s k m e = rw e
+-- a reply of a line, as that of the state written out
+module _ (s : State) (k : ℕ) (m : Moved) (ns bs : List ℕ) {r : Reply} (h : moved-reply s k m ns bs ≡ r) where
+  abbrev pub changed : State
+  changed = state-task (set (s .task) k (m .task)) (state-last-bucket (m .«last_bucket») (state-last-node (m .«last_node») (state-head (m .head) s)))
 
-pub settled-off : (s : State) (k : ℕ) (m : Moved) → changes (m .out) k ≡ false → settled s k m ≡ s
-unfolding settled
-settled-off s k m e = rw e
+  pub moved-on : changes (m .out) k ≡ true → record { out = m .out; machine = machine-of changed ns bs } ≡ r
+  unfolding settled
+  moved-on e = rw e at h
+
+  pub moved-off : changes (m .out) k ≡ false → record { out = m .out; machine = machine-of s ns bs } ≡ r
+  unfolding settled
+  moved-off e = rw e at h
 
 -- A line that takes a record or moves the head makes its answer over the state with that change. The answer over the state before is
 -- the same, since what it gives stands in the place of the change.

@@ -38,7 +38,7 @@ pub struct Moved {
 // ---- the state after a line
 
 // The answer of task k changes the state: it is no refusal, and there is such a task.
-pub fn changes(out: Output, k: usize) -> bool
+pub fn changes(out: Output, k: u32) -> bool
     ensures { λ r. ⌜ r ≡ changes out k ⌝ }
 {
     if 8 <= k {
@@ -52,7 +52,7 @@ pub fn changes(out: Output, k: usize) -> bool
 }
 
 // The state after task k has moved so.
-pub fn settle(s: State, k: usize, m: Moved) -> Stepped
+pub fn settle(s: State, k: u32, m: Moved) -> Stepped
     ensures { λ r. ⌜ ((ns bs : List ℕ) → reply-of r ns bs ≡ moved-reply s k m ns bs) ⌝ }
 {
     let out = m.out;
@@ -60,11 +60,12 @@ pub fn settle(s: State, k: usize, m: Moved) -> Stepped
         return Stepped { out, state: s };
     }
     let x = m.task;
+    let j = k as usize;
     let mut t = s;
     t.head = m.head;
     t.last_node = m.last_node;
     t.last_bucket = m.last_bucket;
-    t.task[k] = x;
+    t.task[j] = x;
     Stepped { out, state: t }
 }
 

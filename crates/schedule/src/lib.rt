@@ -1,5 +1,5 @@
 // A whole schedule in one call: the opening, then starts and steps given as words, then the list.
-use lines::Stepped;
+use lines::Moved;
 use spec::Answer;
 use spec::Call;
 use spec::Listing;
@@ -15,7 +15,7 @@ ghost use Rattle.spec.specs.Machine.{machine-of};
 ghost use Rattle.spec.specs.Words.{overwrite};
 ghost use Rattle.spec.specs.Schedule.{event, run};
 ghost use Rattle.spec.specs.Linearizable.{Linearizable};
-ghost use Rattle.lines.specs.Reply.{reply-of};
+ghost use Rattle.lines.specs.Reply.{moved-reply};
 ghost use Rattle.schedule.specs.Encoding.{event-of, events-of, decoded, run-words, result-of, listing-number, c-result, c-result-of};
 
 // What a run gives: the opening's refusal, or 0; the number of events run; the state; the list's answer, in whose place the refusal
@@ -27,17 +27,17 @@ pub struct Outcome {
     pub listing: Listing,
 }
 
-// Runs one event.
-fn one(s: State, kind: u32, task: u32, tag: u32, ns: &mut [u32], bs: &mut [u32]) -> Stepped
-    ensures { λ r. ⌜ reply-of r (now (ns .exit)) (now (bs .exit)) ≡ event (machine-of s (now (ns .entry)) (now (bs .entry))) (event-of kind task tag) ⌝ }
+// Runs one event; gives what it changes of the state.
+fn one(s: State, kind: u32, task: u32, tag: u32, ns: &mut [u32], bs: &mut [u32]) -> Moved
+    ensures { λ r. ⌜ moved-reply s task r (now (ns .exit)) (now (bs .exit)) ≡ event (machine-of s (now (ns .entry)) (now (bs .entry))) (event-of kind task tag) ⌝ }
 {
     match kind {
-        1 => hashset::start(s, task, Call::Insert, tag, ns, bs),
-        2 => hashset::start(s, task, Call::Remove, tag, ns, bs),
-        3 => hashset::start(s, task, Call::Contains, tag, ns, bs),
-        4 => hashset::start(s, task, Call::Grow, tag, ns, bs),
-        5 => hashset::start(s, task, Call::Shrink, tag, ns, bs),
-        _ => hashset::step(s, task, ns, bs),
+        1 => hashset::moved_by_start(s, task, Call::Insert, tag, ns, bs),
+        2 => hashset::moved_by_start(s, task, Call::Remove, tag, ns, bs),
+        3 => hashset::moved_by_start(s, task, Call::Contains, tag, ns, bs),
+        4 => hashset::moved_by_start(s, task, Call::Grow, tag, ns, bs),
+        5 => hashset::moved_by_start(s, task, Call::Shrink, tag, ns, bs),
+        _ => hashset::moved_by_step(s, task, ns, bs),
     }
 }
 
@@ -73,7 +73,7 @@ fn write_output(outs: &mut [u32], at: usize, out: Output)
     pool::write_over(&mut outs[at..], &w)
 }
 
-// Runs the first n events and writes their outputs.
+// Runs the first n events and writes their outputs. The state is changed in place, as `settle` of lines has it.
 fn run_events(
     s: State,
     n: usize,
@@ -91,11 +91,18 @@ fn run_events(
     while i < n {
         let next = i + 1;
         let at = 4 * i;
-        let m = one(t, events[at], events[at + 1], events[at + 2], ns, bs);
+        let k = events[at + 1];
+        let m = one(t, events[at], k, events[at + 2], ns, bs);
         let out = m.out;
         write_output(outs, 3 * i, out);
-        let x = m.state;
-        t = x;
+        if lines::changes(out, k) {
+            t.head = m.head;
+            t.last_node = m.last_node;
+            t.last_bucket = m.last_bucket;
+            let x = m.task;
+            let j = k as usize;
+            t.task[j] = x;
+        }
         i = next;
     }
     t

@@ -1,10 +1,9 @@
-use mathlib.Core.Path.{sym, ap, _∙_}
+use mathlib.Core.Path.{refl, sym, _∙_}
 use native.Mathlib.Omega.{arith}
 use borrow.Author.Needs.{needs}
 use borrow.Author.Tests.{not-true, not-false}
-use Rattle.spec.specs.Machine.{machine-of, state-head, state-last-node, state-last-bucket, state-task}
-use Rattle.spec.specs.declared.State.{State}
-use Rattle.lines.proofs.Settling.{changes-below, settled-on, settled-off}
+use Rattle.spec.specs.Machine.{state-head, state-last-node, state-last-bucket, state-task}
+use Rattle.lines.proofs.Settling.{changes-below, moved-on, moved-off}
 use Rattle.lines.proofs.settle.Statement.{statement}
 use Rattle.lines.proofs.settle.Tie as tie
 
@@ -15,7 +14,7 @@ returns : tie.Need-returns
 returns c =
     let a = c .before .before .args in
     λ ns bs.
-    ap (λ (x : State). record { out = a .m .out; machine = machine-of x ns bs }) (sym (settled-off (a .s) (a .k) (a .m) (sym (c .before .changes .ensures) ∙ not-true _ (c .if1 .taken))))
+    moved-off (a .s) (a .k) (a .m) ns bs refl (sym (c .before .changes .ensures) ∙ not-true _ (c .if1 .taken))
 
 mul-x : tie.Need-mul-x
 mul-x c = let h = changes-below (c .before .before .before .args .m .out) (c .before .before .before .args .k) (sym (c .before .before .changes .ensures) ∙ not-false _ (c .before .if1 .left)) in omega arith
@@ -28,7 +27,7 @@ unfolding state-head state-last-node state-last-bucket state-task
 returns-2 c =
     let a = c .before .before .before .args in
     λ ns bs.
-    ap (λ (x : State). record { out = a .m .out; machine = machine-of x ns bs }) (sym (settled-on (a .s) (a .k) (a .m) (sym (c .before .before .changes .ensures) ∙ not-false _ (c .before .if1 .left))))
+    moved-on (a .s) (a .k) (a .m) ns bs refl (sym (c .before .before .changes .ensures) ∙ not-false _ (c .before .if1 .left))
 
 pub settle-spec : {M : Type 1} → statement M
 settle-spec = tie.close (tie.spec changes-requires returns mul-x element-set-from-x returns-2)

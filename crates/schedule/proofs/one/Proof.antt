@@ -7,23 +7,23 @@ use borrow.Author.Needs.{needs}
 use Rattle.schedule.proofs.one.Statement.{statement}
 use Rattle.schedule.proofs.one.Tie as tie
 
-start-requires : tie.Need-start-requires
-start-requires c κs = search needs
+moved-by-start-requires : tie.Need-moved-by-start-requires
+moved-by-start-requires c κs = search needs
 
-start-requires-2 : tie.Need-start-requires-2
-start-requires-2 c κs = search needs
+moved-by-start-requires-2 : tie.Need-moved-by-start-requires-2
+moved-by-start-requires-2 c κs = search needs
 
-start-requires-3 : tie.Need-start-requires-3
-start-requires-3 c κs = search needs
+moved-by-start-requires-3 : tie.Need-moved-by-start-requires-3
+moved-by-start-requires-3 c κs = search needs
 
-start-requires-4 : tie.Need-start-requires-4
-start-requires-4 c κs = search needs
+moved-by-start-requires-4 : tie.Need-moved-by-start-requires-4
+moved-by-start-requires-4 c κs = search needs
 
-start-requires-5 : tie.Need-start-requires-5
-start-requires-5 c κs = search needs
+moved-by-start-requires-5 : tie.Need-moved-by-start-requires-5
+moved-by-start-requires-5 c κs = search needs
 
-step-requires : tie.Need-step-requires
-step-requires c κs = search needs
+moved-by-step-requires : tie.Need-moved-by-step-requires
+moved-by-step-requires c κs = search needs
 
 same-length : tie.Need-same-length
 same-length c = search needs
@@ -33,7 +33,7 @@ same-length-2 c = search needs
 
 returns : tie.Need-returns
 unfolding event event-of
-returns c = rw (c .before .before .before .match .keys1) (c .start .ensures)
+returns c = rw (c .before .before .before .match .keys1) (c .moved-by-start .ensures)
 
 same-length-3 : tie.Need-same-length-3
 same-length-3 c = search needs
@@ -43,7 +43,7 @@ same-length-4 c = search needs
 
 returns-2 : tie.Need-returns-2
 unfolding event event-of
-returns-2 c = rw (c .before .before .before .match .keys2) (c .start2 .ensures)
+returns-2 c = rw (c .before .before .before .match .keys2) (c .moved-by-start2 .ensures)
 
 same-length-5 : tie.Need-same-length-5
 same-length-5 c = search needs
@@ -53,7 +53,7 @@ same-length-6 c = search needs
 
 returns-3 : tie.Need-returns-3
 unfolding event event-of
-returns-3 c = rw (c .before .before .before .match .keys3) (c .start3 .ensures)
+returns-3 c = rw (c .before .before .before .match .keys3) (c .moved-by-start3 .ensures)
 
 same-length-7 : tie.Need-same-length-7
 same-length-7 c = search needs
@@ -63,7 +63,7 @@ same-length-8 c = search needs
 
 returns-4 : tie.Need-returns-4
 unfolding event event-of
-returns-4 c = rw (c .before .before .before .match .keys4) (c .start4 .ensures)
+returns-4 c = rw (c .before .before .before .match .keys4) (c .moved-by-start4 .ensures)
 
 same-length-9 : tie.Need-same-length-9
 same-length-9 c = search needs
@@ -73,7 +73,7 @@ same-length-10 c = search needs
 
 returns-5 : tie.Need-returns-5
 unfolding event event-of
-returns-5 c = rw (c .before .before .before .match .keys5) (c .start5 .ensures)
+returns-5 c = rw (c .before .before .before .match .keys5) (c .moved-by-start5 .ensures)
 
 same-length-11 : tie.Need-same-length-11
 same-length-11 c = search needs
@@ -87,18 +87,18 @@ returns-6 c =
     let n = c .before .before .before .before .before .before .before .match .rest in
     let k = c .before .before .before .before .before .before .before .before .before .before .args .kind in
     rw (ne-eqb k 1 (n .0 .0 .0 .0 .1), ne-eqb k 2 (n .0 .0 .0 .1), ne-eqb k 3 (n .0 .0 .1), ne-eqb k 4 (n .0 .1), ne-eqb k 5 (n .1))
-    (c .before .before .before .before .step .ensures)
+    (c .before .before .before .before .moved-by-step .ensures)
 
 pub one-spec : {M : Type 1} → statement M
 one-spec =
     tie.close
     (tie.spec
-    start-requires
-    start-requires-2
-    start-requires-3
-    start-requires-4
-    start-requires-5
-    step-requires
+    moved-by-start-requires
+    moved-by-start-requires-2
+    moved-by-start-requires-3
+    moved-by-start-requires-4
+    moved-by-start-requires-5
+    moved-by-step-requires
     same-length
     same-length-2
     returns

@@ -2,10 +2,11 @@
 -- running the remaining events from the present machine, with their outputs after those written. A turn is `turn` of Laws.
 -- Assumes nothing.
 use denote.Ref.{now}
-use Prim.Native.Nat.{_≤_, _-_, _*_}
-use mathlib.Core.Path.{_≡_, refl, _∙_}
-use lib.ListN.{length, drop}
-use Rattle.spec.specs.Machine.{machine-of}
+use Prim.Native.Nat.{_≤_, _+_, _-_, _*_}
+use mathlib.Core.Path.{_≡_, refl, sym, _∙_}
+use lib.ListN.{length, drop, getD}
+use Rattle.spec.specs.Machine.{machine-of, state-head, state-last-node, state-last-bucket, state-task}
+use Rattle.lines.proofs.Settling.{changes-below, moved-on, moved-off}
 use Rattle.schedule.specs.Encoding.{events-of}
 use Rattle.schedule.proofs.Laws.{Rest, rest-start, turn, finished}
 use native.Mathlib.Omega.{arith}
@@ -32,6 +33,15 @@ add-next c = search needs
 mul-at : tie.Need-mul-at Inv-loop μ-loop
 mul-at c = search needs
 
+add-k : tie.Need-add-k Inv-loop μ-loop
+add-k c = search needs
+
+mul-k : tie.Need-mul-k Inv-loop μ-loop
+mul-k c = search needs
+
+shared-slice-read-k : tie.Need-shared-slice-read-k Inv-loop μ-loop
+shared-slice-read-k c = search needs
+
 mul-one : tie.Need-mul-one Inv-loop μ-loop
 mul-one c = search needs
 
@@ -47,15 +57,6 @@ mul-one-2 c = search needs
 shared-slice-read-one-2 : tie.Need-shared-slice-read-one-2 Inv-loop μ-loop
 shared-slice-read-one-2 c = search needs
 
-add-one-2 : tie.Need-add-one-2 Inv-loop μ-loop
-add-one-2 c = search needs
-
-mul-one-3 : tie.Need-mul-one-3 Inv-loop μ-loop
-mul-one-3 c = search needs
-
-shared-slice-read-one-3 : tie.Need-shared-slice-read-one-3 Inv-loop μ-loop
-shared-slice-read-one-3 c = search needs
-
 one-requires : tie.Need-one-requires Inv-loop μ-loop
 one-requires c κs = search needs
 
@@ -65,12 +66,25 @@ mul-write-output c = search needs
 write-output-requires : tie.Need-write-output-requires Inv-loop μ-loop
 write-output-requires c κs = search needs
 
+changes-requires : tie.Need-changes-requires Inv-loop μ-loop
+changes-requires c κs = search needs
+
+cast-j : tie.Need-cast-j Inv-loop μ-loop
+cast-j c = let h = changes-below _ _ (sym (c .before .before .changes .ensures) ∙ c .before .if1 .taken) in omega arith
+
+mul-x : tie.Need-mul-x Inv-loop μ-loop
+mul-x c = let h = changes-below _ _ (sym (c .before .before .changes .ensures) ∙ c .before .if1 .taken) in omega arith
+
+element-set-from-x : tie.Need-element-set-from-x Inv-loop μ-loop
+element-set-from-x c = changes-below _ _ (sym (c .before .before .changes .ensures) ∙ c .before .if1 .taken)
+
 loop-less : tie.Need-loop-less Inv-loop μ-loop
 loop-less c = search needs
 
 loop-again : tie.Need-loop-again Inv-loop μ-loop
+unfolding state-head state-last-node state-last-bucket state-task
 loop-again c =
-    let at-write = c .before .before .before in
+    let at-write = c .before .before .before .before .before in
     let at-one = at-write .before .before .before .before .before .before in
     let at-test = at-one .before .before .before .before .before .before in
     let at-loop = at-test .before in
@@ -79,12 +93,38 @@ loop-again c =
     let l = at-loop .loop in
     let h = at-test .loop-test .taken in
     let m = at-one .one in
-    let o = at-write .write-output in (
+    let o = at-write .write-output in
+    let k = getD (now (start .args .events)) (4 * l .i + 1) 0 in
+    let q = sym (c .before .before .changes .ensures) ∙ c .before .if1 .taken in (
       omega arith,
       m .kept .1 .1 .1 .1 .0 ∙ l .inv .1,
       m .kept .1 .1 .1 .1 .1 .0 ∙ l .inv .2,
       o .kept .0 ∙ l .inv .3,
-      turn (now (start .args .events)) (start .args .n) (l .i) h (omega arith) (l .inv .4) _ (m .ensures) _ (o .ensures),
+      turn (now (start .args .events)) (start .args .n) (l .i) h (omega arith) (l .inv .4) _ (moved-on (l .t) k (m .result) _ _ (m .ensures) q) _ (o .ensures),
+    )
+
+loop-less-2 : tie.Need-loop-less-2 Inv-loop μ-loop
+loop-less-2 c = search needs
+
+loop-again-2 : tie.Need-loop-again-2 Inv-loop μ-loop
+loop-again-2 c =
+    let at-write = c .before .before .before .before in
+    let at-one = at-write .before .before .before .before .before .before in
+    let at-test = at-one .before .before .before .before .before .before in
+    let at-loop = at-test .before in
+    let start = at-loop .before .before .before .before .before in
+    let room = start .pre .1 in
+    let l = at-loop .loop in
+    let h = at-test .loop-test .taken in
+    let m = at-one .one in
+    let o = at-write .write-output in
+    let k = getD (now (start .args .events)) (4 * l .i + 1) 0 in
+    let q = sym (c .before .changes .ensures) ∙ c .if1 .left in (
+      omega arith,
+      m .kept .1 .1 .1 .1 .0 ∙ l .inv .1,
+      m .kept .1 .1 .1 .1 .1 .0 ∙ l .inv .2,
+      o .kept .0 ∙ l .inv .3,
+      turn (now (start .args .events)) (start .args .n) (l .i) h (omega arith) (l .inv .4) _ (moved-off (l .t) k (m .result) _ _ (m .ensures) q) _ (o .ensures),
     )
 
 same-length : tie.Need-same-length Inv-loop μ-loop
@@ -111,19 +151,25 @@ run-events-spec =
     loop-holds
     add-next
     mul-at
+    add-k
+    mul-k
+    shared-slice-read-k
     mul-one
     shared-slice-read-one
     add-one
     mul-one-2
     shared-slice-read-one-2
-    add-one-2
-    mul-one-3
-    shared-slice-read-one-3
     one-requires
     mul-write-output
     write-output-requires
+    changes-requires
+    cast-j
+    mul-x
+    element-set-from-x
     loop-less
     loop-again
+    loop-less-2
+    loop-again-2
     same-length
     same-length-2
     same-length-3
