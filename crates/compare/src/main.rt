@@ -7,6 +7,7 @@ mod flat;
 mod random;
 mod report;
 mod runs;
+mod spoil;
 
 ghost use mathlib.Core.Path.{_≡_};
 ghost use lib.ListN.{length};
