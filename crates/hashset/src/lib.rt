@@ -11,88 +11,39 @@ ghost use mathlib.Core.List.{List};
 ghost use Prim.Native.Nat.{ℕ, _+_, _≤_, _<_};
 ghost use lib.ListN.{length, replicate};
 ghost use Rattle.spec.specs.Entries.{start, started, step, show, list, opening, pool-fits};
-ghost use Rattle.spec.specs.Machine.{state-of, machine-of};
+ghost use Rattle.spec.specs.Machine.{fresh-task, state-of, machine-of};
 ghost use Rattle.lines.specs.Reply.{reply-of, moved-reply};
+
+// A call's number, its tag and its first line; the rest zeros and empty places.
+fn fresh(call: u32, tag: u32, line: u32) -> Task
+    ensures { λ r. ⌜ r ≡ fresh-task call tag line ⌝ }
+{
+    Task {
+        running: true,
+        call,
+        tag,
+        line,
+        i: 0,
+        own: 0,
+        t: 0,
+        s: 0,
+        b: 0,
+        m: 0,
+        n: 0,
+        new_node: 0,
+        new_bucket: 0,
+    }
+}
 
 fn begun(call: Call, tag: u32) -> Task
     ensures { λ r. ⌜ r ≡ started call tag ⌝ }
 {
     match call {
-        Call::Insert => Task {
-            running: true,
-            call: 1,
-            tag,
-            line: 32,
-            i: 0,
-            own: 0,
-            t: 0,
-            s: 0,
-            b: 0,
-            m: 0,
-            n: 0,
-            new_node: 0,
-            new_bucket: 0,
-        },
-        Call::Remove => Task {
-            running: true,
-            call: 2,
-            tag,
-            line: 32,
-            i: 0,
-            own: 0,
-            t: 0,
-            s: 0,
-            b: 0,
-            m: 0,
-            n: 0,
-            new_node: 0,
-            new_bucket: 0,
-        },
-        Call::Contains => Task {
-            running: true,
-            call: 3,
-            tag,
-            line: 12,
-            i: 0,
-            own: 0,
-            t: 0,
-            s: 0,
-            b: 0,
-            m: 0,
-            n: 0,
-            new_node: 0,
-            new_bucket: 0,
-        },
-        Call::Grow => Task {
-            running: true,
-            call: 4,
-            tag: 0,
-            line: 20,
-            i: 0,
-            own: 0,
-            t: 0,
-            s: 0,
-            b: 0,
-            m: 0,
-            n: 0,
-            new_node: 0,
-            new_bucket: 0,
-        },
-        Call::Shrink => Task {
-            running: true,
-            call: 5,
-            tag: 0,
-            line: 20,
-            i: 0,
-            own: 0,
-            t: 0,
-            s: 0,
-            b: 0,
-            m: 0,
-            n: 0,
-            new_node: 0,
-            new_bucket: 0,
-        },
+        Call::Insert => fresh(1, tag, 32),
+        Call::Remove => fresh(2, tag, 32),
+        Call::Contains => fresh(3, tag, 12),
+        Call::Grow => fresh(4, 0, 20),
+        Call::Shrink => fresh(5, 0, 20),
     }
 }
 
@@ -256,21 +207,7 @@ fn zero(s: &mut [u32])
 fn state_with(t: u32, h: u32, b: u32) -> State
     ensures { λ r. ⌜ r ≡ state-of t h b ⌝ }
 {
-    let c = Task {
-        running: false,
-        call: 0,
-        tag: 0,
-        line: 0,
-        i: 0,
-        own: 0,
-        t: 0,
-        s: 0,
-        b: 0,
-        m: 0,
-        n: 0,
-        new_node: 0,
-        new_bucket: 0,
-    };
+    let c = lines::idle();
     State {
         tasks: t,
         nodes: h,

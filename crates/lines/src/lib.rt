@@ -1,6 +1,6 @@
 // One step, one line: a function for each line of Figure 2, in the figure's order, a file for each procedure. Each takes the state
-// by value, the task's number and record, and the words that it reads or writes, and gives what `step-running` of the
-// definitions gives for a task that stands at that line.
+// by value, the task's number and record, and the words that it reads or writes. What it gives, stored in the state, is what
+// `step-running` of the definitions gives for a task that stands at that line.
 pub mod apply;
 pub mod contains;
 pub mod init_bucket;
@@ -78,7 +78,8 @@ fn one_more_own_step(n: u16) -> u16
     if n < 65535 { n + 1 } else { 65535 }
 }
 
-fn idle() -> Task
+// A task that runs nothing.
+pub fn idle() -> Task
     ensures { λ r. ⌜ r ≡ idle ⌝ }
 {
     Task {

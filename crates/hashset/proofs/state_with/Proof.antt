@@ -1,11 +1,14 @@
-use mathlib.Core.Path.{refl}
-use Rattle.spec.specs.Machine.{idle, state-of}
+use Rattle.spec.specs.Machine.{state-of}
+use borrow.Author.Needs.{needs}
 use Rattle.hashset.proofs.state_with.Statement.{statement}
 use Rattle.hashset.proofs.state_with.Tie as tie
 
+idle-requires : tie.Need-idle-requires
+idle-requires c κs = search needs
+
 returns : tie.Need-returns
-unfolding state-of idle
-returns c = refl
+unfolding state-of
+returns c = rw (c .idle .ensures)
 
 pub state-with-spec : {M : Type 1} → statement M
-state-with-spec = tie.close (tie.spec returns)
+state-with-spec = tie.close (tie.spec idle-requires returns)

@@ -1,0 +1,11 @@
+use mathlib.Core.Path.{refl}
+use Rattle.spec.specs.Machine.{fresh-task}
+use Rattle.hashset.proofs.fresh.Statement.{statement}
+use Rattle.hashset.proofs.fresh.Tie as tie
+
+returns : tie.Need-returns
+unfolding fresh-task
+returns c = refl
+
+pub fresh-spec : {M : Type 1} → statement M
+fresh-spec = tie.close (tie.spec returns)
