@@ -1,7 +1,9 @@
-//! `bench digest`: the functions on buckets, pools, held records and listed tags, on hand-picked and on pseudo-random words.
+//! `bench digest`: the functions on buckets, pools, held records and listed tags, on hand-picked
+//! and on pseudo-random words.
 //!
-//! It prints what the program crate `digest` prints when it calls the proved functions on the same words: its stored output is this
-//! one. Here the functions are written from the definitions (`digest/defs.rs`), with sets and iterators.
+//! It prints what the program crate `digest` prints when it calls the proved functions on the
+//! same words: its stored output is this one. Here the functions are written from the
+//! definitions (`digest/defs.rs`), with sets and iterators.
 
 mod defs;
 mod drawn;

@@ -1,5 +1,5 @@
-//! Buckets, node reads, held records and listed tags for any words, well-formed or not. A record's number past its pool names zero
-//! words, and a write there changes nothing.
+//! Buckets, node reads, held records and listed tags for any words, well-formed or not. A
+//! record's number past its pool names zero words, and a write there changes nothing.
 
 use crate::machine::{Node, NODE_WORDS};
 use crate::machine::{State, Task, BUCKET_WORDS, MAX_BUCKETS, MAX_NODES, MAX_SIZE, MAX_TAGS};
@@ -104,8 +104,8 @@ fn ascends(tags: &[u32]) -> bool {
     tags.windows(2).all(|pair| pair[0] < pair[1])
 }
 
-/// Of buckets whose tags ascend, the union of two sets; of others, the left bucket's tags from the last to the first, each put
-/// where it belongs among those of the right one.
+/// Of buckets whose tags ascend, the union of two sets; of others, the left bucket's tags from
+/// the last to the first, each put where it belongs among those of the right one.
 pub fn union(left: &[u32], right: &[u32]) -> (Bucket, Response) {
     let (l, r) = (tags(left), tags(right));
     let all: Vec<u32> = if ascends(l) && ascends(r) {
@@ -241,7 +241,8 @@ pub fn free_bucket(state: &State, nodes: &[u32]) -> u32 {
 
 // Listed tags.
 
-/// The tags of node `k` at the places where they are looked up: those of place 0, of place 1 and so on.
+/// The tags of node `k` at the places where they are looked up: those of place 0, of place 1 and
+/// so on.
 fn looked_up(nodes: &[u32], buckets: &[u32], k: u32) -> Vec<u32> {
     let at_place = |j: u32| {
         let link = place(nodes, k, j);
@@ -271,7 +272,8 @@ pub fn listed(state: &State, nodes: &[u32], buckets: &[u32]) -> Vec<u32> {
     all
 }
 
-/// The listed tags in a bucket, and whether there was a 65th, which with those after it is left out.
+/// The listed tags in a bucket, and whether there was a 65th, which with those after it is left
+/// out.
 pub fn gather(listed: &[u32]) -> (Bucket, bool) {
     let mut set = BTreeSet::new();
     for &tag in listed {

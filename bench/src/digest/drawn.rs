@@ -1,13 +1,14 @@
 //! The pseudo-random words: buckets, and whole memories of a state and two pools.
 //!
-//! Everything is drawn from a round's seed. `nth(x, k)` is the k-th number after x, `stream(x, k)` the seed of another sequence.
+//! Everything is drawn from a round's seed. `nth(x, k)` is the k-th number after x, `stream(x,
+//! k)` the seed of another sequence.
 
 use crate::machine::{State, Task, BUCKET_WORDS, NODE_WORDS};
 use std::iter::successors;
 
 const PRIME: u64 = 2_147_483_647;
 pub const STATE_WORDS: usize = 110;
-const TASK_WORDS: usize = 13;
+pub const TASK_WORDS: usize = 13;
 
 pub fn next(x: u64) -> u64 {
     x % PRIME * 48_271 % PRIME
@@ -61,7 +62,8 @@ pub fn odd(x: u64) -> u32 {
 
 // A bucket.
 
-/// A well-formed bucket. Its tags are `offset` and multiples of `stride` more, with gaps below a drawn bound.
+/// A well-formed bucket. Its tags are `offset` and multiples of `stride` more, with gaps below a
+/// drawn bound.
 fn ascending(x: u64, stride: u32, offset: u32) -> Vec<u32> {
     let count = pick(nth(x, 3), &[0, 1, 2, 3, 5, 8, 20, 40, 63, 64, 64, 64]);
     let gap = pick(nth(x, 4), &[1, 1, 2, 9, 60_000_000 / stride]);
@@ -115,7 +117,8 @@ pub struct Memory {
     pub buckets: Vec<u32>,
 }
 
-/// What a memory is drawn from. Kinds: 0 any words, 1 any words below 40, from 2 on well-formed, from 5 on with one spoilt word.
+/// What a memory is drawn from. Kinds: 0 any words, 1 any words below 40, from 2 on well-formed,
+/// from 5 on with one spoilt word.
 #[derive(Clone, Copy, Debug)]
 pub struct Plan {
     pub kind: u32,

@@ -16,7 +16,8 @@ pub fn filled(length: usize, pairs: &[(usize, u32)]) -> Vec<u32> {
 
 type Pairs = &'static [(usize, u32)];
 
-/// H, B, head, last node and last bucket, task 0's words, then the words of three nodes of which the first H are lent (at most 3).
+/// H, B, head, last node and last bucket, task 0's words, then the words of three nodes of which
+/// the first H are lent (at most 3).
 const HELD_CASES: [(&str, [u32; 5], Pairs, Pairs); 16] = [
     ("an opening", [3, 4, 0, 0, 0], &[], &[(0, 1), (2, 1)]),
     (
@@ -31,6 +32,13 @@ const HELD_CASES: [(&str, [u32; 5], Pairs, Pairs); 16] = [
         &[],
         &[(0, 1), (1, 3), (2, 1), (68, 2), (70, 2), (71, 4)],
     ),
+    (
+        "pools of one record",
+        [1, 1, 0, 0, 0],
+        &[],
+        &[(0, 1), (2, 1)],
+    ),
+    ("one bucket, in no place", [1, 1, 0, 0, 0], &[], &[(0, 1)]),
     (
         "a cycle of predecessors",
         [3, 4, 0, 2, 3],
@@ -55,13 +63,6 @@ const HELD_CASES: [(&str, [u32; 5], Pairs, Pairs); 16] = [
         &[],
         &[(0, 1), (1, 9), (2, 1)],
     ),
-    (
-        "pools of one record",
-        [1, 1, 0, 0, 0],
-        &[],
-        &[(0, 1), (2, 1)],
-    ),
-    ("one bucket, in no place", [1, 1, 0, 0, 0], &[], &[(0, 1)]),
     (
         "a running task's records",
         [3, 4, 0, 0, 0],
@@ -131,7 +132,8 @@ fn held(out: &mut String) {
     }
 }
 
-/// A chain of 64 nodes from the head, node 0, on. The first 32 are of size 32 and place each bucket once, the others of size 1.
+/// A chain of 64 nodes from the head, node 0, on. The first 32 are of size 32 and place each
+/// bucket once, the others of size 1.
 fn large() -> Memory {
     let node = |k: u32| {
         let size = if k < 32 { 32 } else { 1 };
@@ -171,6 +173,18 @@ const LISTED_CASES: [(&str, u32, Pairs, Pairs); 16] = [
         0,
         &[(0, 1), (2, 1)],
         &[(1, 2), (2, 0), (3, LAST)],
+    ),
+    (
+        "tags that repeat",
+        0,
+        &[(0, 1), (2, 1)],
+        &[(0, 1), (1, 3), (2, 9), (3, 2), (4, 9)],
+    ),
+    (
+        "a count past 64",
+        0,
+        &[(0, 1), (2, 1)],
+        &[(0, 1), (1, 70), (2, 5), (65, 8)],
     ),
     (
         "place 1 empty, the predecessor's tags",
@@ -223,18 +237,6 @@ const LISTED_CASES: [(&str, u32, Pairs, Pairs); 16] = [
     ("a head past the nodes", 7, &[(0, 1), (2, 1)], TWO_BUCKETS),
     ("a head of size 0", 0, &[(6, 1)], TWO_BUCKETS),
     ("a head of size 3", 0, &[(0, 3), (3, 1)], TWO_BUCKETS),
-    (
-        "tags that repeat",
-        0,
-        &[(0, 1), (2, 1)],
-        &[(0, 1), (1, 3), (2, 9), (3, 2), (4, 9)],
-    ),
-    (
-        "a count past 64",
-        0,
-        &[(0, 1), (2, 1)],
-        &[(0, 1), (1, 70), (2, 5), (65, 8)],
-    ),
 ];
 
 /// Tags 4, 5 and 7 in bucket 0, 4 and 6 in bucket 1.

@@ -1,4 +1,5 @@
-//! Single buckets and node and bucket words, hand-picked: a line each with what goes in and what comes out.
+//! Single buckets and node and bucket words, hand-picked: a line each with what goes in and what
+//! comes out.
 
 use super::defs;
 use super::show::{answer, bucket_text, buckets_text, nodes_text, words_text, yes_no};
@@ -287,7 +288,7 @@ fn by_number(out: &mut String) {
     for k in [0, 1, 2] {
         let mut pool = two_buckets();
         defs::store(&mut pool, k, &bucket(1, 1, &[6]));
-        writeln!(out, "store [1 1: 6] at {k}:{}", buckets_text(&pool)).unwrap();
+        writeln!(out, "store the bucket of 6 at {k}:{}", buckets_text(&pool)).unwrap();
     }
     for (k, tag) in [(0, 5), (0, 9), (1, 5), (2, 5)] {
         let mut pool = two_buckets();

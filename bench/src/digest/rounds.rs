@@ -13,20 +13,20 @@ const YES_NO: &[&str] = &["yes", "no"];
 const ANSWERS: &[&str] = &["yes", "no", "frozen", "full"];
 const INSIDE_PAST: &[&str] = &["inside", "past"];
 const ZERO_OTHER: &[&str] = &["zero", "other"];
-const NONE_SOME: &[&str] = &["none", "some"];
+const SHARES: &[&str] = &["none", "some", "all"];
 const TO_64: &[&str] = &["none", "to 64", "over 64"];
 
 /// The functions, each with the kinds of its answers.
 const FUNCTIONS: [(&str, &[&str]); 34] = [
-    ("bucket::count", &["none", "some", "64"]),
-    ("bucket::position", &["front", "inside", "end"]),
+    ("bucket::count", SHARES),
+    ("bucket::position", SHARES),
     ("bucket::has", YES_NO),
     ("bucket::add", ANSWERS),
-    ("bucket::remove", &["yes", "no", "frozen"]),
-    ("bucket::freeze", &["changeable", "frozen"]),
-    ("bucket::split", &["none", "some", "all"]),
-    ("bucket::union", &["yes", "full"]),
-    ("bucket::slot", &["of size 0", "of another"]),
+    ("bucket::remove", ANSWERS),
+    ("bucket::freeze", ZERO_OTHER),
+    ("bucket::split", SHARES),
+    ("bucket::union", ANSWERS),
+    ("bucket::slot", ZERO_OTHER),
     ("pool::word", INSIDE_PAST),
     ("pool::number_of", ZERO_OTHER),
     ("pool::size_at", ZERO_OTHER),
@@ -38,18 +38,18 @@ const FUNCTIONS: [(&str, &[&str]); 34] = [
     ("pool::place_of", ZERO_OTHER),
     ("pool::place_for", ZERO_OTHER),
     ("pool::put", INSIDE_PAST),
-    ("pool::write_over", &["fits", "does not"]),
+    ("pool::write_over", INSIDE_PAST),
     ("pool::new_node", INSIDE_PAST),
     ("buckets::load", INSIDE_PAST),
     ("buckets::has_at", YES_NO),
     ("buckets::store_at", INSIDE_PAST),
     ("buckets::add_at", ANSWERS),
-    ("buckets::remove_at", &["yes", "no", "frozen"]),
+    ("buckets::remove_at", ANSWERS),
     ("buckets::freeze_at", INSIDE_PAST),
     ("soundness::sound", YES_NO),
     ("soundness::is_listed_size", YES_NO),
-    ("held::free_node_of", NONE_SOME),
-    ("held::free_bucket_of", NONE_SOME),
+    ("held::free_node_of", ZERO_OTHER),
+    ("held::free_bucket_of", ZERO_OTHER),
     ("listing::count", TO_64),
     ("listing::gather", TO_64),
 ];
@@ -119,9 +119,9 @@ fn of_bucket(function: usize, x: u64, d: &mut Rolling) -> usize {
             d.answer(answer)
         }
         5 => {
-            let changeable = bucket[0] != 0;
+            let frozen = bucket[0] == 0;
             bucket = defs::freeze(&bucket);
-            no(changeable)
+            no(frozen)
         }
         6 => {
             bucket = defs::split(&bucket, size, choice(x, 25, 4));
@@ -130,12 +130,9 @@ fn of_bucket(function: usize, x: u64, d: &mut Rolling) -> usize {
         7 => {
             let (both, answer) = defs::union(&bucket, &drawn::bucket(stream(x, 1)));
             bucket = both;
-            usize::from(d.answer(answer) != 0)
+            d.answer(answer)
         }
-        _ => {
-            d.word(defs::slot(tag, size));
-            return no(size == 0);
-        }
+        _ => return d.zero(defs::slot(tag, size)),
     };
     d.words(&bucket);
     kind

@@ -3,8 +3,8 @@
 use super::defs::Response;
 use crate::machine::{BUCKET_WORDS, NODE_WORDS};
 
-/// A record as `[first second: others]`: at least `least` others and all up to the last that is not 0; of more than eight the
-/// first three and the last two.
+/// A record as `[first second: others]`: at least `least` others and all up to the last that is
+/// not 0; of more than eight the first three and the last two.
 fn record(words: &[u32], least: u32) -> String {
     let others = &words[2..];
     let used = others

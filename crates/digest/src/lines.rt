@@ -133,63 +133,78 @@ fn all_rounds(which: u32) -> Tally {
     rounds_of(which, &mut w, &mut ns, &mut bs)
 }
 
-// A kind's label and count, nothing where there is no label.
-fn kind(label: &[u8], n: u32) {
-    if label.len() == 0 {
-        return;
-    }
-    show::field(label, n);
-}
-
-// The line of a function, with the labels of the kinds of its answers.
-fn line(which: u32, name: &[u8], a: &[u8], b: &[u8], c: &[u8], d: &[u8]) {
-    let t = all_rounds(which);
+// A function's name, rounds and digest.
+fn begin(name: &[u8], t: Tally) {
     show::text(name);
     show::text(b" rounds 1000 digest ");
     io::print_decimal(1, t.d);
-    kind(a, t.first);
-    kind(b, t.second);
-    kind(c, t.third);
-    kind(d, t.fourth);
-    show::text(b"\n");
+}
+
+// ---- a line, by the kinds of a function's answers
+
+fn two(t: Tally, a: &[u8], b: &[u8]) {
+    show::field(a, t.first);
+    show::field(b, t.second);
 }
 
 fn yes_no(which: u32, name: &[u8]) {
-    line(which, name, b" yes ", b" no ", b"", b"");
+    let t = all_rounds(which);
+    begin(name, t);
+    two(t, b" yes ", b" no ");
+    show::text(b"\n");
 }
 
 fn inside(which: u32, name: &[u8]) {
-    line(which, name, b" inside ", b" past ", b"", b"");
+    let t = all_rounds(which);
+    begin(name, t);
+    two(t, b" inside ", b" past ");
+    show::text(b"\n");
 }
 
 fn zero(which: u32, name: &[u8]) {
-    line(which, name, b" zero ", b" other ", b"", b"");
+    let t = all_rounds(which);
+    begin(name, t);
+    two(t, b" zero ", b" other ");
+    show::text(b"\n");
 }
 
+fn answer(which: u32, name: &[u8]) {
+    let t = all_rounds(which);
+    begin(name, t);
+    two(t, b" yes ", b" no ");
+    show::field(b" frozen ", t.third);
+    show::field(b" full ", t.fourth);
+    show::text(b"\n");
+}
+
+fn share(which: u32, name: &[u8]) {
+    let t = all_rounds(which);
+    begin(name, t);
+    two(t, b" none ", b" some ");
+    show::field(b" all ", t.third);
+    show::text(b"\n");
+}
+
+fn listed(which: u32, name: &[u8]) {
+    let t = all_rounds(which);
+    begin(name, t);
+    two(t, b" none ", b" to 64 ");
+    show::field(b" over 64 ", t.third);
+    show::text(b"\n");
+}
+
+// ---- all functions
+
 fn of_one_bucket() {
-    line(0, b"bucket::count", b" none ", b" some ", b" 64 ", b"");
-    line(
-        1,
-        b"bucket::position",
-        b" front ",
-        b" inside ",
-        b" end ",
-        b"",
-    );
+    share(0, b"bucket::count");
+    share(1, b"bucket::position");
     yes_no(2, b"bucket::has");
-    line(3, b"bucket::add", b" yes ", b" no ", b" frozen ", b" full ");
-    line(4, b"bucket::remove", b" yes ", b" no ", b" frozen ", b"");
-    line(5, b"bucket::freeze", b" changeable ", b" frozen ", b"", b"");
-    line(6, b"bucket::split", b" none ", b" some ", b" all ", b"");
-    line(7, b"bucket::union", b" yes ", b" full ", b"", b"");
-    line(
-        8,
-        b"bucket::slot",
-        b" of size 0 ",
-        b" of another ",
-        b"",
-        b"",
-    );
+    answer(3, b"bucket::add");
+    answer(4, b"bucket::remove");
+    zero(5, b"bucket::freeze");
+    share(6, b"bucket::split");
+    answer(7, b"bucket::union");
+    zero(8, b"bucket::slot");
 }
 
 fn of_node_reads() {
@@ -207,51 +222,23 @@ fn of_node_reads() {
 
 fn of_writes() {
     inside(19, b"pool::put");
-    line(20, b"pool::write_over", b" fits ", b" does not ", b"", b"");
+    inside(20, b"pool::write_over");
     inside(21, b"pool::new_node");
     inside(22, b"buckets::load");
     yes_no(23, b"buckets::has_at");
     inside(24, b"buckets::store_at");
-    line(
-        25,
-        b"buckets::add_at",
-        b" yes ",
-        b" no ",
-        b" frozen ",
-        b" full ",
-    );
-    line(
-        26,
-        b"buckets::remove_at",
-        b" yes ",
-        b" no ",
-        b" frozen ",
-        b"",
-    );
+    answer(25, b"buckets::add_at");
+    answer(26, b"buckets::remove_at");
     inside(27, b"buckets::freeze_at");
 }
 
 fn of_memories() {
     yes_no(28, b"soundness::sound");
     yes_no(29, b"soundness::is_listed_size");
-    line(30, b"held::free_node_of", b" none ", b" some ", b"", b"");
-    line(31, b"held::free_bucket_of", b" none ", b" some ", b"", b"");
-    line(
-        32,
-        b"listing::count",
-        b" none ",
-        b" to 64 ",
-        b" over 64 ",
-        b"",
-    );
-    line(
-        33,
-        b"listing::gather",
-        b" none ",
-        b" to 64 ",
-        b" over 64 ",
-        b"",
-    );
+    zero(30, b"held::free_node_of");
+    zero(31, b"held::free_bucket_of");
+    listed(32, b"listing::count");
+    listed(33, b"listing::gather");
 }
 
 pub fn print() {

@@ -1,5 +1,5 @@
-// Held records and listed tags on hand-picked memories of three nodes and four buckets. A table has a word's number and its value,
-// one after the other; all other words are 0.
+// Held records and listed tags on hand-picked memories: one array with the words of the state (from word 0 on), of three nodes (from
+// 110) and of four buckets (from 212). A table has a word's number and its value, one after the other; all other words are 0.
 use crate::picked_bucket;
 use crate::show;
 use crate::state;
@@ -9,16 +9,10 @@ ghost use mathlib.Core.Path.{_≡_};
 ghost use lib.ListN.{length};
 
 // The `ensures` gives the length, which lending a part needs.
-pub fn node_words() -> [u32; 102]
-    ensures { λ r. ⌜ 102 ≡ length r ⌝ }
+pub fn memory() -> [u32; 476]
+    ensures { λ r. ⌜ 476 ≡ length r ⌝ }
 {
-    [0; 102]
-}
-
-pub fn bucket_words() -> [u32; 264]
-    ensures { λ r. ⌜ 264 ≡ length r ⌝ }
-{
-    [0; 264]
+    [0; 476]
 }
 
 // ---- held
@@ -29,98 +23,207 @@ fn free(s: State, ns: &[u32]) {
     show::text(b"\n");
 }
 
-// The numbers are H, B, the head, the last node and the last bucket; the first table is of the state, the other of the nodes, of
-// which H are lent, three at most.
-fn held(name: &[u8], numbers: &[u32], task: &[u32], nodes: &[u32]) {
-    let mut w = state::words();
-    let mut ns = node_words();
-    words::copy(&mut w, 1, numbers);
-    words::fill(&mut w, task);
-    words::fill(&mut ns, nodes);
-    show::text(b"free of ");
-    show::text(name);
-    let s = state::of(&w);
-    let h = words::at(numbers, 0);
-    if h < 3 {
-        let n = 34 * (h as usize);
-        return free(s, &ns[0..n]);
+// The first H nodes are lent, three at most.
+fn free_of(m: &[u32]) {
+    if m.len() < 212 {
+        return;
     }
-    free(s, &ns);
+    let h = words::at(m, 1);
+    if h < 3 {
+        let e = 110 + 34 * (h as usize);
+        return free(state::of(m), &m[110..e]);
+    }
+    free(state::of(m), &m[110..212]);
 }
 
+fn held(name: &[u8], table: &[u32]) {
+    let mut m = memory();
+    words::fill(&mut m, table);
+    show::text(b"free of ");
+    show::text(name);
+    free_of(&m);
+}
+
+// State words 1 to 5: H, B, head, last node, last bucket.
 fn held_in_turn() {
-    held(b"an opening", &[3, 4, 0, 0, 0], &[], &[0, 1, 2, 1]);
+    held(b"an opening", &[1, 3, 2, 4, 110, 1, 112, 1]);
     held(
         b"the last taken at the end",
-        &[3, 4, 0, 2, 3],
-        &[],
-        &[0, 1, 2, 1],
+        &[1, 3, 2, 4, 4, 2, 5, 3, 110, 1, 112, 1],
     );
     held(
         b"only the last taken free",
-        &[3, 4, 0, 1, 2],
-        &[],
-        &[0, 1, 1, 3, 2, 1, 68, 2, 70, 2, 71, 4],
+        &[
+            1,
+            3,
+            2,
+            4,
+            4,
+            1,
+            5,
+            2,
+            110,
+            1,
+            111,
+            3,
+            112,
+            1,
+            178,
+            2,
+            180,
+            2,
+            181,
+            4,
+        ],
     );
+    held(b"pools of one record", &[1, 1, 2, 1, 110, 1, 112, 1]);
+    held(b"one bucket, in no place", &[1, 1, 2, 1, 110, 1]);
 }
 
 fn held_predecessors() {
     held(
         b"a cycle of predecessors",
-        &[3, 4, 0, 2, 3],
-        &[],
-        &[0, 1, 1, 2, 2, 1, 34, 2, 35, 1, 36, 2],
+        &[
+            1,
+            3,
+            2,
+            4,
+            4,
+            2,
+            5,
+            3,
+            110,
+            1,
+            111,
+            2,
+            112,
+            1,
+            144,
+            2,
+            145,
+            1,
+            146,
+            2,
+        ],
     );
     held(
         b"a cycle of all nodes",
-        &[2, 2, 0, 1, 1],
-        &[],
-        &[0, 1, 1, 2, 2, 1, 34, 2, 35, 1, 36, 2],
+        &[
+            1,
+            2,
+            2,
+            2,
+            4,
+            1,
+            5,
+            1,
+            110,
+            1,
+            111,
+            2,
+            112,
+            1,
+            144,
+            2,
+            145,
+            1,
+            146,
+            2,
+        ],
     );
     held(
         b"a node that is its own predecessor",
-        &[2, 2, 0, 1, 1],
-        &[],
-        &[0, 1, 1, 1, 2, 1],
+        &[1, 2, 2, 2, 4, 1, 5, 1, 110, 1, 111, 1, 112, 1],
     );
     held(
         b"a predecessor past the pool",
-        &[2, 2, 0, 1, 1],
-        &[],
-        &[0, 1, 1, 9, 2, 1],
+        &[1, 2, 2, 2, 4, 1, 5, 1, 110, 1, 111, 9, 112, 1],
     );
 }
 
-fn held_others() {
-    held(b"pools of one record", &[1, 1, 0, 0, 0], &[], &[0, 1, 2, 1]);
-    held(b"one bucket, in no place", &[1, 1, 0, 0, 0], &[], &[0, 1]);
+// State words 6 to 18 are those of task 0: running, .., t, s, b, m, n, new node, new bucket.
+fn held_tasks() {
     held(
         b"a running task's records",
-        &[3, 4, 0, 0, 0],
-        &[6, 1, 12, 2, 14, 2, 15, 3, 17, 3, 18, 4],
-        &[0, 1, 2, 1],
+        &[
+            1,
+            3,
+            2,
+            4,
+            6,
+            1,
+            12,
+            2,
+            14,
+            2,
+            15,
+            3,
+            17,
+            3,
+            18,
+            4,
+            110,
+            1,
+            112,
+            1,
+        ],
     );
     held(
         b"the same of an idle task",
-        &[3, 4, 0, 0, 0],
-        &[12, 2, 14, 2, 15, 3, 17, 3, 18, 4],
-        &[0, 1, 2, 1],
+        &[
+            1,
+            3,
+            2,
+            4,
+            12,
+            2,
+            14,
+            2,
+            15,
+            3,
+            17,
+            3,
+            18,
+            4,
+            110,
+            1,
+            112,
+            1,
+        ],
     );
     held(
         b"a predecessor of a task's node",
-        &[3, 4, 0, 0, 0],
-        &[6, 1, 13, 2],
-        &[0, 1, 2, 1, 34, 2, 35, 3, 70, 3],
+        &[
+            1,
+            3,
+            2,
+            4,
+            6,
+            1,
+            13,
+            2,
+            110,
+            1,
+            112,
+            1,
+            144,
+            2,
+            145,
+            3,
+            180,
+            3,
+        ],
     );
+}
+
+fn held_odd() {
     held(
         b"a place past the size",
-        &[3, 4, 0, 0, 0],
-        &[],
-        &[0, 1, 2, 1, 33, 2],
+        &[1, 3, 2, 4, 110, 1, 112, 1, 143, 2],
     );
-    held(b"a head past 63", &[3, 4, 64, 0, 0], &[], &[0, 1, 2, 1]);
-    held(b"H and B 0", &[0, 0, 0, 0, 0], &[], &[0, 1, 2, 1]);
-    held(b"H 65 and B 1025", &[65, 1025, 0, 0, 0], &[], &[0, 1, 2, 1]);
+    held(b"a head past 63", &[1, 3, 2, 4, 3, 64, 110, 1, 112, 1]);
+    held(b"H and B 0", &[110, 1, 112, 1]);
+    held(b"H 65 and B 1025", &[1, 65, 2, 1025, 110, 1, 112, 1]);
 }
 
 // ---- held, of the largest pools
@@ -154,12 +257,10 @@ fn large_nodes(ns: &mut [u32]) {
 }
 
 fn large(name: &[u8], last: u32, at: usize, v: u32) {
-    let numbers: [u32; 5] = [64, 1024, 0, 0, last];
-    let mut w = state::words();
     let mut ns = large_words();
-    words::copy(&mut w, 1, &numbers);
     large_nodes(&mut ns);
     words::put(&mut ns, at, v);
+    let w: [u32; 6] = [0, 64, 1024, 0, 0, last];
     show::text(b"free of ");
     show::text(name);
     free(state::of(&w), &ns);
@@ -174,7 +275,7 @@ fn held_large() {
 
 // ---- listed
 
-fn listed_of(s: State, ns: &[u32], bs: &[u32]) {
+fn listed_in(s: State, ns: &[u32], bs: &[u32]) {
     show::field(b": count ", listing::count(s, ns, bs));
     show::text(b" gathered ");
     let g = listing::gather(s, ns, bs);
@@ -187,113 +288,140 @@ fn listed_of(s: State, ns: &[u32], bs: &[u32]) {
     show::text(b"\n");
 }
 
-fn listed(name: &[u8], head: u32, nodes: &[u32], buckets: &[u32]) {
-    let mut w = state::words();
-    let mut ns = node_words();
-    let mut bs = bucket_words();
-    words::put(&mut w, 3, head);
-    words::fill(&mut ns, nodes);
-    words::fill(&mut bs, buckets);
+fn listed_of(name: &[u8], m: &[u32]) {
     show::text(b"listed of ");
     show::text(name);
-    listed_of(state::of(&w), &ns, &bs);
+    if m.len() < 476 {
+        return;
+    }
+    listed_in(state::of(m), &m[110..212], &m[212..476]);
+}
+
+fn listed(name: &[u8], table: &[u32]) {
+    let mut m = memory();
+    words::fill(&mut m, table);
+    listed_of(name, &m);
 }
 
 // Tags 4, 5 and 7 in bucket 0, 4 and 6 in bucket 1.
-fn listed_two(name: &[u8], head: u32, nodes: &[u32]) {
-    listed(
-        name,
-        head,
-        nodes,
-        &[0, 1, 1, 3, 2, 4, 3, 5, 4, 7, 66, 1, 67, 2, 68, 4, 69, 6],
-    );
+fn listed_two(name: &[u8], table: &[u32]) {
+    let buckets: [u32; 18] = [
+        212,
+        1,
+        213,
+        3,
+        214,
+        4,
+        215,
+        5,
+        216,
+        7,
+        278,
+        1,
+        279,
+        2,
+        280,
+        4,
+        281,
+        6,
+    ];
+    let mut m = memory();
+    words::fill(&mut m, &buckets);
+    words::fill(&mut m, table);
+    listed_of(name, &m);
 }
 
 fn listed_heads() {
-    listed(b"an opening", 0, &[0, 1, 2, 1], &[0, 1]);
+    listed(b"an opening", &[110, 1, 112, 1, 212, 1]);
     listed(
         b"a head of size 1",
-        0,
-        &[0, 1, 2, 1],
-        &[0, 1, 1, 3, 2, 3, 3, 8, 4, 21],
+        &[110, 1, 112, 1, 212, 1, 213, 3, 214, 3, 215, 8, 216, 21],
     );
     listed(
         b"a frozen bucket and both ends",
-        0,
-        &[0, 1, 2, 1],
-        &[1, 2, 2, 0, 3, 4294967295],
+        &[110, 1, 112, 1, 213, 2, 214, 0, 215, 4294967295],
     );
-}
-
-fn listed_places() {
-    listed_two(
-        b"place 1 empty, the predecessor's tags",
-        1,
-        &[0, 1, 2, 1, 34, 2, 35, 1, 36, 2],
-    );
-    listed_two(
-        b"place 1 empty, no predecessor",
-        1,
-        &[0, 1, 2, 1, 34, 2, 36, 2],
-    );
-    listed_two(
-        b"place 1 an empty bucket",
-        1,
-        &[0, 1, 2, 1, 34, 2, 35, 1, 36, 2, 37, 3],
-    );
-    listed_two(b"both places empty", 1, &[0, 1, 2, 1, 34, 2, 35, 1]);
-    listed_two(b"a tag of another residue", 1, &[0, 1, 34, 2, 36, 1]);
-    listed_two(
-        b"a larger predecessor",
-        1,
-        &[0, 2, 2, 1, 3, 2, 34, 1, 35, 1],
-    );
-    listed_two(
-        b"a predecessor's predecessor",
-        2,
-        &[0, 1, 2, 1, 34, 2, 35, 1, 68, 4, 69, 2],
-    );
-}
-
-fn listed_odd() {
-    listed_two(b"a place past the buckets", 0, &[0, 1, 2, 9]);
-    listed_two(b"a head past the nodes", 7, &[0, 1, 2, 1]);
-    listed_two(b"a head of size 0", 0, &[6, 1]);
-    listed_two(b"a head of size 3", 0, &[0, 3, 3, 1]);
     listed(
         b"tags that repeat",
-        0,
-        &[0, 1, 2, 1],
-        &[0, 1, 1, 3, 2, 9, 3, 2, 4, 9],
+        &[110, 1, 112, 1, 212, 1, 213, 3, 214, 9, 215, 2, 216, 9],
     );
     listed(
         b"a count past 64",
-        0,
-        &[0, 1, 2, 1],
-        &[0, 1, 1, 70, 2, 5, 65, 8],
+        &[110, 1, 112, 1, 212, 1, 213, 70, 214, 5, 277, 8],
     );
+}
+
+// State word 3: the head.
+fn listed_places() {
+    listed_two(
+        b"place 1 empty, the predecessor's tags",
+        &[3, 1, 110, 1, 112, 1, 144, 2, 145, 1, 146, 2],
+    );
+    listed_two(
+        b"place 1 empty, no predecessor",
+        &[3, 1, 110, 1, 112, 1, 144, 2, 146, 2],
+    );
+    listed_two(
+        b"place 1 an empty bucket",
+        &[3, 1, 110, 1, 112, 1, 144, 2, 145, 1, 146, 2, 147, 3],
+    );
+    listed_two(
+        b"both places empty",
+        &[3, 1, 110, 1, 112, 1, 144, 2, 145, 1],
+    );
+    listed_two(b"a tag of another residue", &[3, 1, 110, 1, 144, 2, 146, 1]);
+}
+
+fn listed_odd() {
+    listed_two(
+        b"a larger predecessor",
+        &[3, 1, 110, 2, 112, 1, 113, 2, 144, 1, 145, 1],
+    );
+    listed_two(
+        b"a predecessor's predecessor",
+        &[3, 2, 110, 1, 112, 1, 144, 2, 145, 1, 178, 4, 179, 2],
+    );
+    listed_two(b"a place past the buckets", &[110, 1, 112, 9]);
+    listed_two(b"a head past the nodes", &[3, 7, 110, 1, 112, 1]);
+    listed_two(b"a head of size 0", &[116, 1]);
+    listed_two(b"a head of size 3", &[110, 3, 113, 1]);
 }
 
 // Bucket 1, at place 0 of the head, has 64 even tags; bucket 0, of the predecessor, has this one.
 fn listed_many(name: &[u8], tag: u32) {
-    let mut w = state::words();
-    let mut ns = node_words();
-    let mut bs = bucket_words();
-    words::put(&mut w, 3, 1);
-    words::fill(&mut ns, &[0, 1, 2, 1, 34, 2, 35, 1, 36, 2]);
-    words::fill(&mut bs, &[0, 1, 1, 1, 2, tag]);
+    let table: [u32; 18] = [
+        3,
+        1,
+        110,
+        1,
+        112,
+        1,
+        144,
+        2,
+        145,
+        1,
+        146,
+        2,
+        212,
+        1,
+        213,
+        1,
+        214,
+        tag,
+    ];
     let b = picked_bucket::run(1, 64, 64, 0, 2);
     let v = b.words;
-    words::copy(&mut bs, 66, &v);
-    show::text(b"listed of ");
-    show::text(name);
-    listed_of(state::of(&w), &ns, &bs);
+    let mut m = memory();
+    words::fill(&mut m, &table);
+    words::copy(&mut m, 278, &v);
+    listed_of(name, &m);
 }
 
 pub fn print() {
     held_in_turn();
     held_predecessors();
-    held_others();
+    held_tasks();
+    held_odd();
     held_large();
     listed_heads();
     listed_places();

@@ -77,31 +77,32 @@ fn reads() {
 
 fn put(at: u32, v: u32) {
     let mut w: [u32; 3] = [1, 2, 3];
+    pool::put(&mut w, at as usize, v);
     show::field(b"put ", v);
     show::field(b" at ", at);
-    show::text(b" of");
-    show::words(&w);
-    show::text(b":");
-    pool::put(&mut w, at as usize, v);
+    show::text(b" of 1 2 3:");
     show::words(&w);
     show::text(b"\n");
 }
 
 fn write_over(v: &[u32]) {
     let mut w: [u32; 3] = [1, 2, 3];
+    pool::write_over(&mut w, v);
     show::text(b"write");
     show::words(v);
-    show::text(b" over");
-    show::words(&w);
-    show::text(b":");
-    pool::write_over(&mut w, v);
+    show::text(b" over 1 2 3:");
     show::words(&w);
     show::text(b"\n");
 }
 
 fn new_node_of(ns: &mut [u32], k: u32) {
     pool::new_node(ns, k as usize, 8, 2);
+    show::field(b"new node ", k);
+    show::text(b" of ");
+    io::print_decimal(1, ns.len() as u64);
+    show::text(b" words, size 8 pred 2:");
     show::nodes(ns);
+    show::text(b"\n");
 }
 
 // Node k anew in a pool of so many words, whose node 0 is that of an opening.
@@ -109,13 +110,9 @@ fn new_node(n: usize, k: u32) {
     let a: [u32; 3] = [1, 0, 1];
     let mut ns = node_words();
     words::copy(&mut ns, 0, &a);
-    show::field(b"new node ", k);
-    show::field(b" of ", (n % 1000) as u32);
-    show::text(b" words, size 8 pred 2:");
     if n <= 68 {
         new_node_of(&mut ns[0..n], k);
     }
-    show::text(b"\n");
 }
 
 fn writes() {
@@ -149,69 +146,73 @@ fn shown() {
     let mut bs = bucket_words();
     two_buckets(&mut bs);
     show::text(b"buckets");
-    show::buckets(&bs);
+    after(&bs);
+}
+
+fn after(bs: &[u32]) {
+    show::buckets(bs);
     show::text(b"\n");
 }
 
+// What is done with which tag or bucket at which number.
+fn at(name: &[u8], n: u32, k: u32) {
+    show::field(name, n);
+    show::field(b" at ", k);
+    show::text(b":");
+}
+
 fn load_of(bs: &[u32], k: u32) {
-    let b = pool::buckets::load(bs, k as usize);
-    show::bucket(b);
+    show::field(b"load ", k);
+    show::text(b" of ");
+    io::print_decimal(1, bs.len() as u64);
+    show::text(b" words: ");
+    show::bucket(pool::buckets::load(bs, k as usize));
     show::text(b" has 9 ");
     show::yes_no(pool::buckets::has_at(bs, k as usize, 9));
+    show::text(b"\n");
 }
 
 fn load(n: usize, k: u32) {
     let mut bs = bucket_words();
     two_buckets(&mut bs);
-    show::field(b"load ", k);
-    show::field(b" of ", (n % 1000) as u32);
-    show::text(b" words: ");
     if n <= 132 {
         load_of(&bs[0..n], k);
     }
-    show::text(b"\n");
 }
 
-fn store(k: u32) {
+fn store(k: u32, tag: u32) {
     let mut bs = bucket_words();
     two_buckets(&mut bs);
-    show::field(b"store [1 1: 6] at ", k);
-    show::text(b":");
-    pool::buckets::store_at(&mut bs, k as usize, picked_bucket::one(1, 1, 6));
-    show::buckets(&bs);
-    show::text(b"\n");
+    pool::buckets::store_at(&mut bs, k as usize, picked_bucket::one(1, 1, tag));
+    at(b"store the bucket of ", tag, k);
+    after(&bs);
 }
 
 fn add(k: u32, tag: u32) {
     let mut bs = bucket_words();
     two_buckets(&mut bs);
-    show::field(b"add ", tag);
-    show::field(b" at ", k);
-    show::text(b": ");
+    at(b"add ", tag, k);
+    show::text(b" ");
     show::answer(pool::buckets::add_at(&mut bs, k as usize, tag));
-    show::buckets(&bs);
-    show::text(b"\n");
+    after(&bs);
 }
 
 fn remove(k: u32, tag: u32) {
     let mut bs = bucket_words();
     two_buckets(&mut bs);
-    show::field(b"remove ", tag);
-    show::field(b" at ", k);
-    show::text(b": ");
+    at(b"remove ", tag, k);
+    show::text(b" ");
     show::answer(pool::buckets::remove_at(&mut bs, k as usize, tag));
-    show::buckets(&bs);
-    show::text(b"\n");
+    after(&bs);
 }
 
 fn freeze(k: u32) {
     let mut bs = bucket_words();
     two_buckets(&mut bs);
+    pool::buckets::freeze_at(&mut bs, k as usize);
     show::field(b"freeze ", k);
     show::text(b":");
-    pool::buckets::freeze_at(&mut bs, k as usize);
-    show::buckets(&bs);
-    show::text(b"\n");
+    after(&bs);
 }
 
 fn by_number() {
@@ -222,9 +223,9 @@ fn by_number() {
     load(131, 1);
     load(66, 0);
     load(65, 0);
-    store(0);
-    store(1);
-    store(2);
+    store(0, 6);
+    store(1, 6);
+    store(2, 6);
     add(0, 5);
     add(0, 9);
     add(1, 5);

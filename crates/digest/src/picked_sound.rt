@@ -1,4 +1,5 @@
-// Soundness on hand-picked memories: one that is sound, and that one with one word spoilt, or with a slice of another length.
+// Soundness on hand-picked memories: one that is sound, and that one with one word spoilt, or with slices of other lengths. The
+// memory is as in picked_memory: state words from 0 on, node words from 110, bucket words from 212.
 use crate::picked_memory;
 use crate::show;
 use crate::state;
@@ -6,9 +7,20 @@ use crate::words;
 
 // Head: node 1 of size 2, both places filled; its predecessor: node 0 of size 1; node 2 was never used. Task 0 runs an insert, task 1
 // a grow. Each table has a word's number and its value.
-fn state_of(w: &mut [u32]) {
-    let numbers: [u32; 12] = [0, 2, 1, 3, 2, 4, 3, 1, 4, 1, 5, 2];
-    let tasks: [u32; 26] = [
+fn fill(m: &mut [u32]) {
+    let state: [u32; 38] = [
+        0,
+        2,
+        1,
+        3,
+        2,
+        4,
+        3,
+        1,
+        4,
+        1,
+        5,
+        2,
         6,
         1,
         7,
@@ -36,203 +48,298 @@ fn state_of(w: &mut [u32]) {
         25,
         2,
     ];
-    words::fill(w, &numbers);
-    words::fill(w, &tasks);
-}
-
-fn pools_of(ns: &mut [u32], bs: &mut [u32]) {
-    let nodes: [u32; 12] = [0, 1, 2, 1, 34, 2, 35, 1, 36, 2, 37, 3];
-    let buckets: [u32; 18] = [
+    let pools: [u32; 30] = [
+        110,
         1,
+        112,
+        1,
+        144,
         2,
+        145,
+        1,
+        146,
         2,
-        4,
+        147,
         3,
-        5,
-        66,
-        1,
-        67,
-        1,
-        68,
+        213,
+        2,
+        214,
         4,
-        132,
+        215,
+        5,
+        278,
         1,
-        133,
+        279,
         1,
-        134,
+        280,
+        4,
+        344,
+        1,
+        345,
+        1,
+        346,
         5,
     ];
-    words::fill(ns, &nodes);
-    words::fill(bs, &buckets);
+    words::fill(m, &state);
+    words::fill(m, &pools);
 }
 
-fn told(w: &[u32], ns: &[u32], bs: &[u32]) {
+// Whether a memory with so many node and bucket words is sound.
+fn told(m: &[u32], n: usize, k: usize) {
+    if m.len() < 476 {
+        return;
+    }
+    if 102 < n {
+        return;
+    }
+    if 264 < k {
+        return;
+    }
+    let a = 110 + n;
+    let e = 212 + k;
     show::text(b": ");
-    show::yes_no(pool::soundness::sound(state::of(w), ns, bs));
+    show::yes_no(pool::soundness::sound(state::of(m), &m[110..a], &m[212..e]));
     show::text(b"\n");
 }
 
+fn state_shown(m: &[u32]) {
+    if m.len() < 476 {
+        return;
+    }
+    show::text(b"state");
+    show::words(&m[0..32]);
+    show::text(b"\nnodes");
+    show::nodes(&m[110..212]);
+    show::text(b"\nbuckets");
+    show::buckets(&m[212..476]);
+    show::text(b"\nsound");
+}
+
 fn unspoilt() {
-    let mut w = state::words();
-    let mut ns = picked_memory::node_words();
-    let mut bs = picked_memory::bucket_words();
-    state_of(&mut w);
-    pools_of(&mut ns, &mut bs);
-    show::text(b"sound");
-    told(&w, &ns, &bs);
+    let mut m = picked_memory::memory();
+    fill(&mut m);
+    state_shown(&m);
+    told(&m, 102, 264);
 }
 
 // ---- one word spoilt
 
-fn of_state(name: &[u8], at: usize, v: u32) {
-    let mut w = state::words();
-    let mut ns = picked_memory::node_words();
-    let mut bs = picked_memory::bucket_words();
-    state_of(&mut w);
-    pools_of(&mut ns, &mut bs);
-    words::put(&mut w, at, v);
-    show::text(b"sound with ");
+// The name of a word: of a record, and its number there.
+fn word(name: &[u8], i: usize, size: usize) {
+    if size == 0 {
+        return;
+    }
     show::text(name);
-    told(&w, &ns, &bs);
+    io::print_decimal(1, (i / size) as u64);
+    show::text(b" word ");
+    io::print_decimal(1, (i % size) as u64);
 }
 
-fn of_nodes(name: &[u8], at: usize, v: u32) {
-    let mut w = state::words();
-    let mut ns = picked_memory::node_words();
-    let mut bs = picked_memory::bucket_words();
-    state_of(&mut w);
-    pools_of(&mut ns, &mut bs);
-    words::put(&mut ns, at, v);
-    show::text(b"sound with ");
-    show::text(name);
-    told(&w, &ns, &bs);
+fn name(i: usize) {
+    if i < 6 {
+        return word(b"state ", i, 6);
+    }
+    if i < 110 {
+        return word(b"task ", i - 6, 13);
+    }
+    if i < 212 {
+        return word(b"node ", i - 110, 34);
+    }
+    word(b"bucket ", i - 212, 66)
 }
 
-fn of_buckets(name: &[u8], at: usize, v: u32) {
-    let mut w = state::words();
-    let mut ns = picked_memory::node_words();
-    let mut bs = picked_memory::bucket_words();
-    state_of(&mut w);
-    pools_of(&mut ns, &mut bs);
-    words::put(&mut bs, at, v);
+fn spoilt(i: usize, v: u32) {
+    let mut m = picked_memory::memory();
+    fill(&mut m);
+    words::put(&mut m, i, v);
     show::text(b"sound with ");
-    show::text(name);
-    told(&w, &ns, &bs);
+    name(i);
+    show::field(b" = ", v);
+    told(&m, 102, 264);
 }
 
+fn each(table: &[u32]) {
+    let n = table.len() / 2;
+    let mut i = 0;
+    while i < n {
+        let k = words::at(table, 2 * i) as usize;
+        spoilt(k, words::at(table, 2 * i + 1));
+        i += 1;
+    }
+}
+
+// T, H, B, the head, the last node and the last bucket.
 fn numbers() {
-    of_state(b"T 0", 0, 0);
-    of_state(b"T 9", 0, 9);
-    of_state(b"T 1", 0, 1);
-    of_state(b"T 8", 0, 8);
-    of_state(b"H 0", 1, 0);
-    of_state(b"H 2", 1, 2);
-    of_state(b"B 5", 2, 5);
-    of_state(b"head 0", 3, 0);
-    of_state(b"head never used", 3, 2);
-    of_state(b"head past the pool", 3, 3);
-    of_state(b"last node past the pool", 4, 3);
-    of_state(b"last bucket past the pool", 5, 4);
+    let table: [u32; 24] = [
+        0,
+        0,
+        0,
+        9,
+        0,
+        1,
+        0,
+        8,
+        1,
+        0,
+        1,
+        2,
+        2,
+        5,
+        3,
+        0,
+        3,
+        2,
+        3,
+        3,
+        4,
+        3,
+        5,
+        4,
+    ];
+    each(&table);
 }
 
+// Node 2's size; node 1's predecessor, a place, the first place past its size, and the last.
 fn nodes() {
-    of_nodes(b"node 2 of size 4", 68, 4);
-    of_nodes(b"node 2 of size 3", 68, 3);
-    of_nodes(b"node 2 of size 64", 68, 64);
-    of_nodes(b"no predecessor", 35, 0);
-    of_nodes(b"a node that is its own predecessor", 35, 2);
-    of_nodes(b"predecessor never used", 35, 3);
-    of_nodes(b"predecessor past the pool", 35, 4);
-    of_nodes(b"an empty place", 36, 0);
-    of_nodes(b"a place past the buckets", 36, 5);
-    of_nodes(b"the first place past the size", 38, 1);
-    of_nodes(b"the last place", 67, 1);
+    let table: [u32; 22] = [
+        178,
+        4,
+        178,
+        3,
+        178,
+        64,
+        145,
+        0,
+        145,
+        2,
+        145,
+        3,
+        145,
+        4,
+        146,
+        0,
+        146,
+        5,
+        148,
+        1,
+        177,
+        1,
+    ];
+    each(&table);
 }
 
+// Bucket 1's first word; bucket 0's count, tags, and the word after them; the last word of the pool.
 fn buckets() {
-    of_buckets(b"a frozen bucket", 66, 0);
-    of_buckets(b"a first word 2", 66, 2);
-    of_buckets(b"a count too low", 1, 1);
-    of_buckets(b"a count too high", 1, 3);
-    of_buckets(b"a count 65", 1, 65);
-    of_buckets(b"tags alike", 3, 4);
-    of_buckets(b"tags that descend", 3, 3);
-    of_buckets(b"tags that ascend", 3, 4294967295);
-    of_buckets(b"first tag 0", 2, 0);
-    of_buckets(b"a word after the tags", 4, 6);
-    of_buckets(b"the last word of the pool", 263, 1);
+    let table: [u32; 22] = [
+        278,
+        0,
+        278,
+        2,
+        213,
+        1,
+        213,
+        3,
+        213,
+        65,
+        215,
+        4,
+        215,
+        3,
+        215,
+        4294967295,
+        214,
+        0,
+        216,
+        6,
+        475,
+        1,
+    ];
+    each(&table);
 }
 
-fn calls() {
-    of_state(b"an idle task with a call", 6, 0);
-    of_state(b"call 0", 7, 0);
-    of_state(b"call 2", 7, 2);
-    of_state(b"call 3 at 36", 7, 3);
-    of_state(b"call 6", 7, 6);
-    of_state(b"line 52", 9, 52);
-    of_state(b"line 45", 9, 45);
-    of_state(b"line 12 of an insert", 9, 12);
-    of_state(b"line 24 of an insert", 9, 24);
-    of_state(b"line 36 of a grow", 22, 36);
-    of_state(b"a grow with a tag", 21, 1);
-    of_state(b"i 32", 10, 32);
-    of_state(b"i 33", 10, 33);
-    of_state(b"own steps 65535", 11, 65535);
+// Task 0's running, call, line, i, own steps and places, task 1's line and tag, and two words of idle tasks.
+fn tasks() {
+    let table: [u32; 48] = [
+        6,
+        0,
+        7,
+        0,
+        7,
+        2,
+        7,
+        3,
+        7,
+        6,
+        9,
+        52,
+        9,
+        45,
+        9,
+        12,
+        9,
+        24,
+        22,
+        36,
+        21,
+        1,
+        10,
+        32,
+        10,
+        33,
+        11,
+        65535,
+        12,
+        3,
+        13,
+        4,
+        17,
+        4,
+        14,
+        4,
+        14,
+        5,
+        15,
+        5,
+        16,
+        5,
+        18,
+        5,
+        37,
+        1,
+        109,
+        1,
+    ];
+    each(&table);
 }
 
-fn places() {
-    of_state(b"t never used", 12, 3);
-    of_state(b"s past the pool", 13, 4);
-    of_state(b"new node past the pool", 17, 4);
-    of_state(b"b the last bucket", 14, 4);
-    of_state(b"b past the pool", 14, 5);
-    of_state(b"m past the pool", 15, 5);
-    of_state(b"n past the pool", 16, 5);
-    of_state(b"new bucket past the pool", 18, 5);
-    of_state(b"own steps of an idle task", 37, 1);
-    of_state(b"the last word of an idle task", 109, 1);
-}
+// ---- slices of other lengths
 
-// ---- slices of another length
-
-fn lengths(n: usize, m: usize) {
-    let mut w = state::words();
-    let mut ns = picked_memory::node_words();
-    let mut bs = picked_memory::bucket_words();
-    state_of(&mut w);
-    pools_of(&mut ns, &mut bs);
-    show::field(b"sound with ", (n % 1000) as u32);
-    show::field(b" node words and ", (m % 1000) as u32);
+fn lengths(m: &[u32], n: usize, k: usize) {
+    show::text(b"sound with ");
+    io::print_decimal(1, n as u64);
+    show::text(b" node words and ");
+    io::print_decimal(1, k as u64);
     show::text(b" bucket words");
-    if 102 < n {
-        return;
-    }
-    if 264 < m {
-        return;
-    }
-    told(&w, &ns[0..n], &bs[0..m]);
+    told(m, n, k);
 }
 
 fn slices() {
-    lengths(102, 264);
-    lengths(101, 264);
-    lengths(68, 264);
-    lengths(102, 263);
-    lengths(102, 198);
-    lengths(0, 0);
+    let mut m = picked_memory::memory();
+    fill(&mut m);
+    lengths(&m, 102, 264);
+    lengths(&m, 101, 264);
+    lengths(&m, 68, 264);
+    lengths(&m, 102, 263);
+    lengths(&m, 102, 198);
+    lengths(&m, 0, 0);
 }
 
 fn opening() {
-    let s: [u32; 3] = [1, 1, 1];
-    let mut w = state::words();
-    let mut ns = [0u32; 34];
-    let mut bs = [0u32; 66];
-    words::copy(&mut w, 0, &s);
-    ns[0] = 1;
-    ns[2] = 1;
-    bs[0] = 1;
-    show::text(b"sound of the opening of one node and one bucket");
-    told(&w, &ns, &bs);
+    let table: [u32; 12] = [0, 1, 1, 1, 2, 1, 110, 1, 112, 1, 212, 1];
+    let mut m = picked_memory::memory();
+    words::fill(&mut m, &table);
+    show::text(b"an opening: ");
+    lengths(&m, 34, 66);
 }
 
 fn size_if_listed(n: u32) {
@@ -257,8 +364,7 @@ pub fn print() {
     numbers();
     nodes();
     buckets();
-    calls();
-    places();
+    tasks();
     slices();
     opening();
 }

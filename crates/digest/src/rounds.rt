@@ -100,7 +100,7 @@ fn freeze(d: u64, b: Bucket) -> Round {
     let w = b.words;
     Round {
         d: roll_bucket(d, b.freeze()),
-        kind: one(w[0] == 0),
+        kind: one(w[0] != 0),
     }
 }
 
@@ -114,16 +114,12 @@ fn split(d: u64, b: Bucket, x: u64) -> Round {
 
 fn union(d: u64, b: Bucket, x: u64) -> Round {
     let other = drawn::bucket(random::stream(x, 1));
-    let r = answered(d, bucket::union(b, other));
-    Round {
-        d: r.d,
-        kind: one(r.kind != 0),
-    }
+    answered(d, bucket::union(b, other))
 }
 
 fn slot(d: u64, tag: u32, x: u64) -> Round {
-    let z = drawn::size(x);
-    result(d, bucket::slot(tag, z), one(z != 0))
+    let r = bucket::slot(tag, drawn::size(x));
+    result(d, r, one(r != 0))
 }
 
 pub fn of_bucket(which: u32, x: u64, d: u64) -> Round {
