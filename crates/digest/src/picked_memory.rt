@@ -36,194 +36,68 @@ fn free_of(m: &[u32]) {
     free(state::of(m), &m[110..212]);
 }
 
+// An opening of three nodes and four buckets, and what the table changes in it. State words 1 to 5: H, B, head, last node, last
+// bucket; 6 to 18 those of task 0: running, .., t, s, b, m, n, new node, new bucket.
 fn held(name: &[u8], table: &[u32]) {
+    let opening: [u32; 8] = [1, 3, 2, 4, 110, 1, 112, 1];
     let mut m = memory();
+    words::fill(&mut m, &opening);
     words::fill(&mut m, table);
     show::text(b"free of ");
     show::text(name);
     free_of(&m);
 }
 
-// State words 1 to 5: H, B, head, last node, last bucket.
 fn held_in_turn() {
-    held(b"an opening", &[1, 3, 2, 4, 110, 1, 112, 1]);
-    held(
-        b"the last taken at the end",
-        &[1, 3, 2, 4, 4, 2, 5, 3, 110, 1, 112, 1],
-    );
+    held(b"an opening", &[4, 0]);
+    held(b"the last taken at the end", &[4, 2, 5, 3]);
     held(
         b"only the last taken free",
-        &[
-            1,
-            3,
-            2,
-            4,
-            4,
-            1,
-            5,
-            2,
-            110,
-            1,
-            111,
-            3,
-            112,
-            1,
-            178,
-            2,
-            180,
-            2,
-            181,
-            4,
-        ],
+        &[4, 1, 5, 2, 111, 3, 178, 2, 180, 2, 181, 4],
     );
-    held(b"pools of one record", &[1, 1, 2, 1, 110, 1, 112, 1]);
-    held(b"one bucket, in no place", &[1, 1, 2, 1, 110, 1]);
+    held(b"pools of one record", &[1, 1, 2, 1]);
+    held(b"one bucket, in no place", &[1, 1, 2, 1, 112, 0]);
 }
 
 fn held_predecessors() {
     held(
         b"a cycle of predecessors",
-        &[
-            1,
-            3,
-            2,
-            4,
-            4,
-            2,
-            5,
-            3,
-            110,
-            1,
-            111,
-            2,
-            112,
-            1,
-            144,
-            2,
-            145,
-            1,
-            146,
-            2,
-        ],
+        &[4, 2, 5, 3, 111, 2, 144, 2, 145, 1, 146, 2],
     );
     held(
         b"a cycle of all nodes",
-        &[
-            1,
-            2,
-            2,
-            2,
-            4,
-            1,
-            5,
-            1,
-            110,
-            1,
-            111,
-            2,
-            112,
-            1,
-            144,
-            2,
-            145,
-            1,
-            146,
-            2,
-        ],
+        &[1, 2, 2, 2, 4, 1, 5, 1, 111, 2, 144, 2, 145, 1, 146, 2],
     );
     held(
         b"a node that is its own predecessor",
-        &[1, 2, 2, 2, 4, 1, 5, 1, 110, 1, 111, 1, 112, 1],
+        &[1, 2, 2, 2, 4, 1, 5, 1, 111, 1],
     );
     held(
         b"a predecessor past the pool",
-        &[1, 2, 2, 2, 4, 1, 5, 1, 110, 1, 111, 9, 112, 1],
+        &[1, 2, 2, 2, 4, 1, 5, 1, 111, 9],
     );
 }
 
-// State words 6 to 18 are those of task 0: running, .., t, s, b, m, n, new node, new bucket.
 fn held_tasks() {
     held(
         b"a running task's records",
-        &[
-            1,
-            3,
-            2,
-            4,
-            6,
-            1,
-            12,
-            2,
-            14,
-            2,
-            15,
-            3,
-            17,
-            3,
-            18,
-            4,
-            110,
-            1,
-            112,
-            1,
-        ],
+        &[6, 1, 12, 2, 14, 2, 15, 3, 17, 3, 18, 4],
     );
     held(
         b"the same of an idle task",
-        &[
-            1,
-            3,
-            2,
-            4,
-            12,
-            2,
-            14,
-            2,
-            15,
-            3,
-            17,
-            3,
-            18,
-            4,
-            110,
-            1,
-            112,
-            1,
-        ],
+        &[12, 2, 14, 2, 15, 3, 17, 3, 18, 4],
     );
     held(
         b"a predecessor of a task's node",
-        &[
-            1,
-            3,
-            2,
-            4,
-            6,
-            1,
-            13,
-            2,
-            110,
-            1,
-            112,
-            1,
-            144,
-            2,
-            145,
-            3,
-            180,
-            3,
-        ],
+        &[6, 1, 13, 2, 144, 2, 145, 3, 180, 3],
     );
 }
 
 fn held_odd() {
-    held(
-        b"a place past the size",
-        &[1, 3, 2, 4, 110, 1, 112, 1, 143, 2],
-    );
-    held(b"a head past 63", &[1, 3, 2, 4, 3, 64, 110, 1, 112, 1]);
-    held(b"H and B 0", &[110, 1, 112, 1]);
-    held(b"H 65 and B 1025", &[1, 65, 2, 1025, 110, 1, 112, 1]);
+    held(b"a place past the size", &[143, 2]);
+    held(b"a head past 63", &[3, 64]);
+    held(b"H and B 0", &[1, 0, 2, 0]);
+    held(b"H 65 and B 1025", &[1, 65, 2, 1025]);
 }
 
 // ---- held, of the largest pools
@@ -304,29 +178,16 @@ fn listed(name: &[u8], table: &[u32]) {
 }
 
 // Tags 4, 5 and 7 in bucket 0, 4 and 6 in bucket 1.
+fn two_buckets(m: &mut [u32]) {
+    let a: [u32; 5] = [1, 3, 4, 5, 7];
+    let b: [u32; 4] = [1, 2, 4, 6];
+    words::copy(m, 212, &a);
+    words::copy(m, 278, &b);
+}
+
 fn listed_two(name: &[u8], table: &[u32]) {
-    let buckets: [u32; 18] = [
-        212,
-        1,
-        213,
-        3,
-        214,
-        4,
-        215,
-        5,
-        216,
-        7,
-        278,
-        1,
-        279,
-        2,
-        280,
-        4,
-        281,
-        6,
-    ];
     let mut m = memory();
-    words::fill(&mut m, &buckets);
+    two_buckets(&mut m);
     words::fill(&mut m, table);
     listed_of(name, &m);
 }
@@ -387,33 +248,21 @@ fn listed_odd() {
     listed_two(b"a head of size 3", &[110, 3, 113, 1]);
 }
 
-// Bucket 1, at place 0 of the head, has 64 even tags; bucket 0, of the predecessor, has this one.
-fn listed_many(name: &[u8], tag: u32) {
-    let table: [u32; 18] = [
-        3,
-        1,
-        110,
-        1,
-        112,
-        1,
-        144,
-        2,
-        145,
-        1,
-        146,
-        2,
-        212,
-        1,
-        213,
-        1,
-        214,
-        tag,
-    ];
+// This tag in bucket 0, 64 even tags in bucket 1.
+fn many(m: &mut [u32], tag: u32) {
+    let a: [u32; 3] = [1, 1, tag];
     let b = picked_bucket::run(1, 64, 64, 0, 2);
     let v = b.words;
+    words::copy(m, 212, &a);
+    words::copy(m, 278, &v);
+}
+
+// Bucket 1 is at place 0 of the head, bucket 0 at that of its predecessor.
+fn listed_many(name: &[u8], tag: u32) {
+    let nodes: [u32; 12] = [3, 1, 110, 1, 112, 1, 144, 2, 145, 1, 146, 2];
     let mut m = memory();
-    words::fill(&mut m, &table);
-    words::copy(&mut m, 278, &v);
+    words::fill(&mut m, &nodes);
+    many(&mut m, tag);
     listed_of(name, &m);
 }
 

@@ -5,83 +5,38 @@ use crate::show;
 use crate::state;
 use crate::words;
 
-// Head: node 1 of size 2, both places filled; its predecessor: node 0 of size 1; node 2 was never used. Task 0 runs an insert, task 1
-// a grow. Each table has a word's number and its value.
+// Task 0 runs an insert, task 1 a grow.
+fn fill_state(m: &mut [u32]) {
+    let a: [u32; 15] = [2, 3, 4, 1, 1, 2, 1, 1, 9, 36, 1, 3, 2, 0, 3];
+    let b: [u32; 7] = [1, 4, 0, 39, 0, 1, 2];
+    words::copy(m, 0, &a);
+    words::copy(m, 19, &b);
+}
+
+// Head: node 1 of size 2, both places filled; its predecessor: node 0 of size 1; node 2 was never used.
+fn fill_nodes(m: &mut [u32]) {
+    let a: [u32; 3] = [1, 0, 1];
+    let b: [u32; 4] = [2, 1, 2, 3];
+    words::copy(m, 110, &a);
+    words::copy(m, 144, &b);
+}
+
+// A frozen bucket of two tags and two changeable ones of one tag each.
+fn fill_buckets(m: &mut [u32]) {
+    let a: [u32; 6] = [213, 2, 214, 4, 215, 5];
+    let b: [u32; 12] = [278, 1, 279, 1, 280, 4, 344, 1, 345, 1, 346, 5];
+    words::fill(m, &a);
+    words::fill(m, &b);
+}
+
+fn fill_pools(m: &mut [u32]) {
+    fill_nodes(m);
+    fill_buckets(m);
+}
+
 fn fill(m: &mut [u32]) {
-    let state: [u32; 38] = [
-        0,
-        2,
-        1,
-        3,
-        2,
-        4,
-        3,
-        1,
-        4,
-        1,
-        5,
-        2,
-        6,
-        1,
-        7,
-        1,
-        8,
-        9,
-        9,
-        36,
-        10,
-        1,
-        11,
-        3,
-        12,
-        2,
-        14,
-        3,
-        19,
-        1,
-        20,
-        4,
-        22,
-        39,
-        24,
-        1,
-        25,
-        2,
-    ];
-    let pools: [u32; 30] = [
-        110,
-        1,
-        112,
-        1,
-        144,
-        2,
-        145,
-        1,
-        146,
-        2,
-        147,
-        3,
-        213,
-        2,
-        214,
-        4,
-        215,
-        5,
-        278,
-        1,
-        279,
-        1,
-        280,
-        4,
-        344,
-        1,
-        345,
-        1,
-        346,
-        5,
-    ];
-    words::fill(m, &state);
-    words::fill(m, &pools);
+    fill_state(m);
+    fill_pools(m);
 }
 
 // Whether a memory with so many node and bucket words is sound.
@@ -170,146 +125,30 @@ fn each(table: &[u32]) {
 
 // T, H, B, the head, the last node and the last bucket.
 fn numbers() {
-    let table: [u32; 24] = [
-        0,
-        0,
-        0,
-        9,
-        0,
-        1,
-        0,
-        8,
-        1,
-        0,
-        1,
-        2,
-        2,
-        5,
-        3,
-        0,
-        3,
-        2,
-        3,
-        3,
-        4,
-        3,
-        5,
-        4,
-    ];
-    each(&table);
+    each(&[0, 0, 0, 9, 0, 1, 0, 8, 1, 0, 1, 2, 2, 5]);
+    each(&[3, 0, 3, 2, 3, 3, 4, 3, 5, 4]);
 }
 
 // Node 2's size; node 1's predecessor, a place, the first place past its size, and the last.
 fn nodes() {
-    let table: [u32; 22] = [
-        178,
-        4,
-        178,
-        3,
-        178,
-        64,
-        145,
-        0,
-        145,
-        2,
-        145,
-        3,
-        145,
-        4,
-        146,
-        0,
-        146,
-        5,
-        148,
-        1,
-        177,
-        1,
-    ];
-    each(&table);
+    each(&[178, 4, 178, 3, 178, 64]);
+    each(&[145, 0, 145, 2, 145, 3, 145, 4]);
+    each(&[146, 0, 146, 5, 148, 1, 177, 1]);
 }
 
 // Bucket 1's first word; bucket 0's count, tags, and the word after them; the last word of the pool.
 fn buckets() {
-    let table: [u32; 22] = [
-        278,
-        0,
-        278,
-        2,
-        213,
-        1,
-        213,
-        3,
-        213,
-        65,
-        215,
-        4,
-        215,
-        3,
-        215,
-        4294967295,
-        214,
-        0,
-        216,
-        6,
-        475,
-        1,
-    ];
-    each(&table);
+    each(&[278, 0, 278, 2, 213, 1, 213, 3, 213, 65]);
+    each(&[215, 4, 215, 3, 215, 4294967295, 214, 0]);
+    each(&[216, 6, 475, 1]);
 }
 
 // Task 0's running, call, line, i, own steps and places, task 1's line and tag, and two words of idle tasks.
 fn tasks() {
-    let table: [u32; 48] = [
-        6,
-        0,
-        7,
-        0,
-        7,
-        2,
-        7,
-        3,
-        7,
-        6,
-        9,
-        52,
-        9,
-        45,
-        9,
-        12,
-        9,
-        24,
-        22,
-        36,
-        21,
-        1,
-        10,
-        32,
-        10,
-        33,
-        11,
-        65535,
-        12,
-        3,
-        13,
-        4,
-        17,
-        4,
-        14,
-        4,
-        14,
-        5,
-        15,
-        5,
-        16,
-        5,
-        18,
-        5,
-        37,
-        1,
-        109,
-        1,
-    ];
-    each(&table);
+    each(&[6, 0, 7, 0, 7, 2, 7, 3, 7, 6]);
+    each(&[9, 52, 9, 45, 9, 12, 9, 24, 22, 36, 21, 1]);
+    each(&[10, 32, 10, 33, 11, 65535, 12, 3, 13, 4, 17, 4]);
+    each(&[14, 4, 14, 5, 15, 5, 16, 5, 18, 5, 37, 1, 109, 1]);
 }
 
 // ---- slices of other lengths
