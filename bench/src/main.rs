@@ -1,9 +1,11 @@
 //! Compares and times implementations of a resizable hash set moved one line at a time.
 //!
 //! `bench check [events]` runs random schedules, `bench time` measures. With the feature
-//! `proved` both also run the proved implementation from `libschedule.a`.
+//! `proved` both also run the proved implementation from `libschedule.a`. `bench digest`
+//! prints what the crate `digest` must print.
 
 mod check;
+mod digest;
 mod machine;
 mod model;
 mod owned;
@@ -17,7 +19,7 @@ use std::env;
 use std::process::ExitCode;
 
 const DEFAULT_EVENTS: u64 = 4_000_000;
-const USAGE: &str = "usage: bench check [events] | bench time";
+const USAGE: &str = "usage: bench check [events] | bench time | bench digest";
 
 fn command(arguments: &[&str]) -> Result<(), String> {
     match arguments {
@@ -25,6 +27,10 @@ fn command(arguments: &[&str]) -> Result<(), String> {
         ["check", events] => check::check(events.parse().map_err(|_| USAGE.to_string())?),
         ["time"] => {
             time::time();
+            Ok(())
+        }
+        ["digest"] => {
+            print!("{}", digest::text());
             Ok(())
         }
         _ => Err(USAGE.into()),
