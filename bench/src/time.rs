@@ -85,22 +85,20 @@ fn fastest(mut work: impl FnMut()) -> f64 {
         .fold(f64::INFINITY, f64::min)
 }
 
-/// Nanoseconds for each event of a whole run, the fastest of some rounds, for each
-/// implementation; their rounds alternate. Every run clears its pools by opening them, and
-/// all buffers are in use already, as one round goes before the timed ones.
-fn time_events<const N: usize>(load: &Load, runs: [Run; N]) -> [f64; N] {
-    let mut nodes = vec![0; load.shape.node_words()];
-    let mut buckets = vec![0; load.shape.bucket_words()];
-    let mut outputs = vec![0; load.count() * OUTPUT_WORDS];
+/// Nanoseconds of a whole run, the fastest of some rounds, for each implementation; their
+/// rounds alternate. Every run clears its pools by opening them, and all buffers are in use
+/// already, as one round goes before the timed ones.
+fn time_runs<const N: usize>(shape: &Shape, events: &[u32], runs: [Run; N]) -> [f64; N] {
+    let mut nodes = vec![0; shape.node_words()];
+    let mut buckets = vec![0; shape.bucket_words()];
+    let mut outputs = vec![0; events.len() / EVENT_WORDS * OUTPUT_WORDS];
     let mut tags = [0; MAX_TAGS];
     let mut round = |run: Run| {
-        let events = black_box(&load.events);
-        let tasks = load.shape.tasks;
         black_box(run(
-            tasks,
+            shape.tasks,
             &mut nodes,
             &mut buckets,
-            events,
+            black_box(events),
             &mut outputs,
             &mut tags,
         ));
@@ -112,7 +110,23 @@ fn time_events<const N: usize>(load: &Load, runs: [Run; N]) -> [f64; N] {
             *best = best.min(nanoseconds(|| round(run)));
         }
     }
-    best.map(|time| time / load.count() as f64)
+    best
+}
+
+fn time_events<const N: usize>(load: &Load, runs: [Run; N]) -> [f64; N] {
+    time_runs(&load.shape, &load.events, runs).map(|time| time / load.count() as f64)
+}
+
+/// Nanoseconds of a step that is refused for want of such a task: the soundness scan goes
+/// before that test, and nothing comes after it.
+fn time_refused<const N: usize>(load: &Load, runs: [Run; N]) -> [f64; N] {
+    let shape = &load.shape;
+    let count = load.count() / 2;
+    let accepted = &load.events[..load.count() / 10 * EVENT_WORDS];
+    let refused = encode_event(Event::Step(shape.tasks)).repeat(count);
+    let without = time_runs(shape, accepted, runs);
+    let with = time_runs(shape, &[accepted, &refused].concat(), runs);
+    std::array::from_fn(|k| (with[k] - without[k]) / count as f64)
 }
 
 #[cfg(feature = "proved")]
@@ -148,7 +162,31 @@ fn sum(words: &[u32]) -> u32 {
     words.iter().fold(0, |sum, &word| sum.wrapping_add(word))
 }
 
-/// The soundness scan against a plain read of the same words, on the pools a run has left.
+#[cfg(feature = "proved")]
+fn print_refused(load: &Load, read: f64) {
+    let [plain, proved] = time_refused(load, [schedule::run, crate::proved::run]);
+    println!(
+        "  refused step, plain {plain:8.1} ns, {:.2} times the read",
+        plain / read
+    );
+    println!(
+        "  refused step, proved {proved:7.1} ns, {:.2} times the read, {:.2} times plain",
+        proved / read,
+        proved / plain
+    );
+}
+
+#[cfg(not(feature = "proved"))]
+fn print_refused(load: &Load, read: f64) {
+    let [plain] = time_refused(load, [schedule::run]);
+    println!(
+        "  refused step, plain {plain:8.1} ns, {:.2} times the read",
+        plain / read
+    );
+}
+
+/// The soundness scan against a plain read of the same words, on the pools a run has left;
+/// and a refused step, which is little more than the scan, for each implementation.
 fn print_scan(load: &Load) {
     const TIMES: usize = 2000;
     let Owned {
@@ -172,11 +210,12 @@ fn print_scan(load: &Load) {
         load.name,
         nodes.len() + buckets.len()
     );
-    println!("  scan    {scan:10.1} ns");
+    println!("  read    {read:10.1} ns");
     println!(
-        "  read    {read:10.1} ns, scan is {:.2} times a plain read",
+        "  scan    {scan:10.1} ns, {:.2} times the read",
         scan / read
     );
+    print_refused(load, read);
 }
 
 fn loads() -> [Load; 2] {
