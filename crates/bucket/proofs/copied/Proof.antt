@@ -1,3 +1,5 @@
+-- `bucket::copied` meets its contract: after i turns the first i of the n words are copied, so after n turns it is the paste of
+-- all. Assumes nothing.
 use native.Mathlib.Omega.{arith}
 use borrow.Author.Needs.{needs}
 use mathlib.Core.Path.{_≡_}

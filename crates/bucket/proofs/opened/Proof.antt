@@ -1,3 +1,5 @@
+-- `bucket::opened` meets its contract: the flag, the count and the copied tags are the words of a changeable bucket. Assumes
+-- nothing.
 use mathlib.Core.Path.{_≡_, ap, _∙_}
 use Prim.Native.Nat.{ℕ}
 use lib.Seq.{paste}

@@ -1,3 +1,4 @@
+-- `hashset::begun` meets its contract: each arm is the clause of `started` for its call. Assumes nothing.
 use Rattle.spec.specs.Entries.{started}
 use borrow.Author.Needs.{needs}
 use Rattle.hashset.proofs.begun.Statement.{statement}

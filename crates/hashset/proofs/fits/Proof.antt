@@ -1,3 +1,4 @@
+-- `hashset::fits` meets its contract: each early return is a conjunct of `pool-fits` that fails. Assumes nothing.
 use borrow.Author.Tests.{eq-eqb, ne-eqb, le-leb, lt-leb}
 use Rattle.spec.specs.Entries.{pool-fits}
 use borrow.Author.Needs.{needs}

@@ -1,3 +1,4 @@
+-- `hashset::fresh` meets its contract: both are the same record. Assumes nothing.
 use mathlib.Core.Path.{refl}
 use Rattle.spec.specs.Machine.{fresh-task}
 use Rattle.hashset.proofs.fresh.Statement.{statement}

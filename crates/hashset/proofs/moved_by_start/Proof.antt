@@ -1,3 +1,4 @@
+-- `hashset::moved_by_start` meets its contract: each return is the case of `start` that its tests lead to. Assumes nothing.
 use mathlib.Core.Path.{sym, _∙_}
 use denote.Ref.{now}
 use borrow.Author.Tests.{not-true, not-false, lt-ltb}

@@ -1,3 +1,5 @@
+-- `hashset::moved_by_step` meets its contract: each early return is a refusal of `step`; each arm is the line at which the task
+-- stands, whose `requires` follows from soundness; no task stands at another. Assumes nothing.
 use mathlib.Core.Path.{_≡_, sym, _∙_}
 use denote.Ref.{now}
 use lib.ListN.{length, getD}

@@ -1,3 +1,5 @@
+-- `hashset::open` meets its contract: each early return is a refusal of `opening`; else both pools are zeros but for the first node
+-- and bucket. Assumes nothing.
 use mathlib.Core.Path.{_≡_, sym, ap, _∙_}
 use mathlib.Core.List.{List, _∷_}
 use Prim.Native.Nat.{ℕ, _-_, _*_}

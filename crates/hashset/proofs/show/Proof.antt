@@ -1,3 +1,5 @@
+-- `hashset::show` meets its contract: each early return is an empty part; the last is the tags of bucket k, where they stand.
+-- Assumes nothing.
 use mathlib.Core.Path.{_≡_, sym, ap, _∙_}
 use Prim.Native.Nat.{ℕ, _≤_, _-_, _+_, _*_}
 use denote.Ref.{now}

@@ -1,3 +1,5 @@
+-- `hashset::start` meets its contract: the state in which `settle` stores what the start changes is that of the definition. Assumes
+-- nothing.
 use mathlib.Core.Path.{_∙_}
 use borrow.Author.Needs.{needs}
 use Rattle.hashset.proofs.start.Statement.{statement}

@@ -1,3 +1,4 @@
+-- `hashset::state_with` meets its contract: both are the same record, with eight idle tasks. Assumes nothing.
 use Rattle.spec.specs.Machine.{state-of}
 use borrow.Author.Needs.{needs}
 use Rattle.hashset.proofs.state_with.Statement.{statement}

@@ -1,3 +1,4 @@
+-- `hashset::zero` meets its contract: after i turns the first i words are 0 and the others are kept. Assumes nothing.
 use mathlib.Core.Path.{_≡_, refl, ap, _∙_}
 use mathlib.Core.List.{List, _++_}
 use Prim.Native.Nat.{ℕ, _≤_, _-_, _+_}

@@ -1,3 +1,4 @@
+-- `lines::changes` meets its contract: by the number of the task, and then by the three kinds of output. Assumes nothing.
 use mathlib.Core.Path.{sym}
 use native.Mathlib.Omega.{arith}
 use borrow.Author.Needs.{needs}

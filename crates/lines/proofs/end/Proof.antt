@@ -1,3 +1,4 @@
+-- `lines::end` meets its contract: with k below 8 the answer changes the state, and stores an idle record. Assumes nothing.
 use borrow.Author.Tests.{lt-ltb}
 use Rattle.spec.specs.Machine.{idle, with-task, with-state, state-head, state-last-node, state-last-bucket, state-task, set-task}
 use Rattle.spec.specs.Words.{apply}

@@ -1,3 +1,5 @@
+-- `lines::go` meets its contract: with k below 8 the answer changes the state, and stores the record with its new line and one own
+-- step more. Assumes nothing.
 use borrow.Author.Tests.{lt-ltb}
 use Rattle.spec.specs.Machine.{with-line, with-own, with-task, with-state, state-head, state-last-node, state-last-bucket, state-task, set-task}
 use Rattle.spec.specs.Words.{apply}

@@ -1,3 +1,4 @@
+-- `lines::idle` meets its contract: both are the record of zeros and empty places. Assumes nothing.
 use mathlib.Core.Path.{refl}
 use Rattle.spec.specs.Machine.{idle}
 use Rattle.lines.proofs.idle.Statement.{statement}

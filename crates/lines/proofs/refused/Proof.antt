@@ -1,3 +1,4 @@
+-- `lines::refused` meets its contract: a refusal changes nothing, whatever stands beside it. Assumes nothing.
 use mathlib.Core.Path.{refl}
 use Rattle.spec.specs.Entries.{refuse}
 use borrow.Author.Needs.{needs}

@@ -1,3 +1,5 @@
+-- `lines::settle` meets its contract: by the two cases of `changes`: the state as it was, or the state with the four parts stored.
+-- Assumes nothing.
 use mathlib.Core.Path.{refl, sym, _∙_}
 use native.Mathlib.Omega.{arith}
 use borrow.Author.Needs.{needs}

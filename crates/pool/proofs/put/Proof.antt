@@ -1,3 +1,4 @@
+-- `pool::put` meets its contract: a store within the slice is `set`; past its end `set` changes nothing. Assumes nothing.
 use mathlib.Core.Path.{sym}
 use denote.Ref.{now}
 use lib.Seq.{set-out}

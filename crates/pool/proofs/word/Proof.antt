@@ -1,3 +1,4 @@
+-- `pool::word` meets its contract: `getD` gives 0 past the end. Assumes nothing.
 use mathlib.Core.Path.{sym}
 use denote.Ref.{now}
 use lib.ListN.{List·getD-eq-default}

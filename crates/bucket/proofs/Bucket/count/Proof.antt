@@ -1,3 +1,4 @@
+-- `bucket::Bucket::count` meets its contract: the second word, 64 at most, is how many tags the words have. Assumes nothing.
 use native.Mathlib.Omega.{arith}
 use borrow.Author.Needs.{needs}
 use mathlib.Core.Path.{_≡_}

@@ -1,3 +1,5 @@
+-- `bucket::Bucket::put` meets its contract: the tags before the position, the tag, and the tags after it are the list with the tag
+-- added, padded with zeros. Assumes nothing.
 use mathlib.Core.Path.{_≡_}
 use lib.ListN.{length}
 use Rattle.bucket.proofs.Pad.{put-bucket}

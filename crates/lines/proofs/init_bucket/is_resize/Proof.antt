@@ -1,3 +1,4 @@
+-- `lines::init_bucket::is_resize` meets its contract: the calls 4 and 5 resize. Assumes nothing.
 use borrow.Author.Tests.{eq-eqb, ne-eqb}
 use Rattle.lines.proofs.init_bucket.is_resize.Statement.{statement}
 use Rattle.lines.proofs.init_bucket.is_resize.Tie as tie

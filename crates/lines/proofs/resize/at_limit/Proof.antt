@@ -1,3 +1,4 @@
+-- `lines::resize::at_limit` meets its contract: growing ends at 32, every other call at 1. Assumes nothing.
 use borrow.Author.Tests.{eq-eqb, ne-eqb}
 use Rattle.spec.specs.Lines.{at-limit}
 use Rattle.lines.proofs.resize.at_limit.Statement.{statement}

@@ -1,3 +1,4 @@
+-- `lines::resize::line20` meets its contract: each return is the case of line 20 that the limit leads to. Assumes nothing.
 use mathlib.Core.Path.{sym, _∙_}
 use denote.Ref.{now}
 use Rattle.spec.specs.Machine.{with-t, with-i, machine-of}

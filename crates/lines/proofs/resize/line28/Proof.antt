@@ -1,3 +1,5 @@
+-- `lines::resize::line28` meets its contract: each return is the case of `step-running` that its tests lead to; the new head is one
+-- of the parts that the line gives. Assumes nothing.
 use mathlib.Core.Path.{sym, _∙_}
 use borrow.Author.Tests.{eq-eqb, ne-eqb}
 use Rattle.spec.specs.Machine.{with-state, with-head, state-head, machine-of}

@@ -1,3 +1,5 @@
+-- `lines::resize::new_size` meets its contract: twice or half the size, if it is a listed one; past 16 twice is none. Assumes
+-- nothing.
 use mathlib.Core.Path.{_≡_, sym, _∙_}
 use Prim.Native.Nat.{_*_, _/_}
 use borrow.Author.Tests.{ne-eqb}

@@ -1,3 +1,5 @@
+-- `pool::soundness::among` meets its contract: whether the number is a member of the whole is whether it is one of what is left.
+-- Assumes nothing.
 use mathlib.Core.Path.{_≡_, refl, sym, _∙_}
 use Prim.Native.Nat.{_≤_, _-_}
 use denote.Ref.{now}

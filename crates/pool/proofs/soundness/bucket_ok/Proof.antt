@@ -1,3 +1,5 @@
+-- `pool::soundness::bucket_ok` meets its contract: each early return is a test of `sound-bucket` that fails; the last is the words
+-- after the tags. Assumes nothing.
 use mathlib.Core.Path.{_≡_, sym, ap, _∙_}
 use mathlib.Core.Bool.{true, false}
 use Prim.Native.Nat.{ℕ, _-_, _+_}

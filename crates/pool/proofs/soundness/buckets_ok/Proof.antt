@@ -1,3 +1,5 @@
+-- `pool::soundness::buckets_ok` meets its contract: what is left to test is `sound-buckets` of the words from bucket k on. Assumes
+-- nothing.
 use mathlib.Core.Path.{_≡_, sym, ap, _∙_}
 use Prim.Native.Nat.{_≤_, _-_, _*_}
 use native.Mathlib.Nat.{sub-zero}

@@ -1,3 +1,4 @@
+-- `pool::soundness::idle_ok` meets its contract: a record is zeros exactly if its twelve numbers are. Assumes nothing.
 use Rattle.spec.specs.Lists.{every}
 use Rattle.spec.specs.Sound.{zeros, zero-task}
 use borrow.Author.Needs.{needs}

@@ -1,3 +1,4 @@
+-- `pool::soundness::is_listed_size` meets its contract: the sizes are the six elements of one small array. Assumes nothing.
 use Rattle.spec.specs.Sound.{listed-size}
 use borrow.Author.Needs.{needs}
 use Rattle.pool.proofs.soundness.is_listed_size.Statement.{statement}

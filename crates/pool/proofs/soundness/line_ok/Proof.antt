@@ -1,3 +1,5 @@
+-- `pool::soundness::line_ok` meets its contract: the arrays are `lines-of` the calls 1 to 5; other numbers have no line. Assumes
+-- nothing.
 use Rattle.spec.specs.Lists.{member}
 use Rattle.pool.proofs.Laws.{lines-none, lines-change, lines-look, lines-resize, lines-past}
 use native.Mathlib.Omega.{arith}

@@ -1,3 +1,5 @@
+-- `pool::soundness::link_ok` meets its contract: a link past the pool, no link, and a link to a node without a size are the cases
+-- of `node-link`. Assumes nothing.
 use borrow.Author.Tests.{ne-eqb, le-leb, lt-leb}
 use Rattle.spec.specs.Sound.{node-link}
 use borrow.Author.Needs.{needs}

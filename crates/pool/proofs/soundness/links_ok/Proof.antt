@@ -1,3 +1,4 @@
+-- `pool::soundness::links_ok` meets its contract: each early return is one of the three links that is none. Assumes nothing.
 use mathlib.Core.Path.{sym, _∙_}
 use borrow.Author.Tests.{not-true, not-false}
 use Rattle.spec.specs.Lists.{every}

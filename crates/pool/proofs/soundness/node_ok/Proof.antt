@@ -1,3 +1,5 @@
+-- `pool::soundness::node_ok` meets its contract: each early return is a test of `sound-node` that fails; the last is the words
+-- after the places. Assumes nothing.
 use mathlib.Core.Path.{sym, _∙_}
 use Prim.Native.Nat.{_≤_}
 use denote.Ref.{now}

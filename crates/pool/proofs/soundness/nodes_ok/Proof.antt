@@ -1,3 +1,5 @@
+-- `pool::soundness::nodes_ok` meets its contract: what is left to test is `sound-nodes` of the words from node k on. Assumes
+-- nothing.
 use mathlib.Core.Path.{_≡_, sym, ap, _∙_}
 use Prim.Native.Nat.{_≤_, _-_, _*_}
 use native.Mathlib.Nat.{sub-zero}

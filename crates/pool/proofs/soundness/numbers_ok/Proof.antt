@@ -1,3 +1,4 @@
+-- `pool::soundness::numbers_ok` meets its contract: each early return is a conjunct of `sound-numbers` that fails. Assumes nothing.
 use borrow.Author.Tests.{eq-eqb, ne-eqb, le-leb, lt-leb}
 use Rattle.spec.specs.Words.{size}
 use borrow.Author.Tests.{le-ltb, lt-ltb}

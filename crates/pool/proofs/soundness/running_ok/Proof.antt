@@ -1,3 +1,5 @@
+-- `pool::soundness::running_ok` meets its contract: each early return is a conjunct of `sound-running` that fails; the last is the
+-- four bucket links. Assumes nothing.
 use mathlib.Core.Path.{sym, _∙_}
 use Prim.Native.Nat.{_≤_, _<_}
 use borrow.Author.Tests.{le-leb, lt-leb, not-true, not-false}

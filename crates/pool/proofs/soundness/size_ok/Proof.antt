@@ -1,3 +1,4 @@
+-- `pool::soundness::size_ok` meets its contract: 0, or a listed size. Assumes nothing.
 use borrow.Author.Tests.{eq-eqb, ne-eqb}
 use borrow.Author.Needs.{needs}
 use Rattle.pool.proofs.soundness.size_ok.Statement.{statement}

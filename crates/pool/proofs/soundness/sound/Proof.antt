@@ -1,3 +1,4 @@
+-- `pool::soundness::sound` meets its contract: each early return is one of the four parts of `sound` that fails. Assumes nothing.
 use mathlib.Core.Path.{refl, sym, _∙_}
 use denote.Ref.{now}
 use borrow.Author.Tests.{not-true, not-false}

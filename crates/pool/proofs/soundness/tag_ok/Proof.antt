@@ -1,3 +1,4 @@
+-- `pool::soundness::tag_ok` meets its contract: only grow (4) and shrink (5) resize, and their tag is 0. Assumes nothing.
 use borrow.Author.Tests.{eq-eqb, ne-eqb}
 use Rattle.pool.proofs.soundness.tag_ok.Statement.{statement}
 use Rattle.pool.proofs.soundness.tag_ok.Tie as tie

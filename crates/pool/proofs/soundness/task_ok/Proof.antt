@@ -1,3 +1,4 @@
+-- `pool::soundness::task_ok` meets its contract: `sound-task` goes by whether the task runs. Assumes nothing.
 use Rattle.pool.proofs.Laws.{task-runs, task-idle}
 use mathlib.Core.Path.{sym, _∙_}
 use borrow.Author.Needs.{needs}

@@ -1,3 +1,5 @@
+-- `pool::soundness::tasks_ok` meets its contract: what is left to test is `sound-tasks` of the records from task k on. Assumes
+-- nothing.
 use mathlib.Core.Path.{_≡_, refl, sym, ap, _∙_}
 use Prim.Native.Nat.{_≤_, _-_}
 use lib.ListN.{length, drop}
