@@ -186,7 +186,8 @@ fn print_refused(load: &Load, read: f64) {
 }
 
 /// The soundness scan against a plain read of the same words, on the pools a run has left;
-/// and a refused step, which is little more than the scan, for each implementation.
+/// and for each implementation a refused step, which is little more than the scan, on as many
+/// words as a tenth of the run has left them.
 fn print_scan(load: &Load) {
     const TIMES: usize = 2000;
     let Owned {

@@ -224,13 +224,17 @@ fn node(x: u64, y: u64, p: Plan) -> [u32; NODE_WORDS] {
     node
 }
 
-fn nodes(x: u64, p: Plan) -> Vec<u32> {
-    let extra = if choice(x, 12, 16) == 0 {
-        1 + choice(x, 13, 30)
+/// Words past the last whole record of a pool (0 the nodes, 1 the buckets): some in one memory of 16.
+fn extra(x: u64, pool: u32) -> usize {
+    if choice(x, 12, 16) == pool {
+        1 + choice(x, 13, 30) as usize
     } else {
         0
-    };
-    let count = NODE_WORDS * p.h as usize + extra as usize;
+    }
+}
+
+fn nodes(x: u64, p: Plan) -> Vec<u32> {
+    let count = NODE_WORDS * p.h as usize + extra(x, 0);
     let mut w = words(stream(x, 2), count, limit(p.kind));
     if p.kind >= 2 {
         for (k, record) in (0..p.used).zip(w.chunks_exact_mut(NODE_WORDS)) {
@@ -242,12 +246,7 @@ fn nodes(x: u64, p: Plan) -> Vec<u32> {
 
 fn buckets(x: u64, p: Plan) -> Vec<u32> {
     let stride = pick(nth(x, 11), &[1, 2, 4, 8, 16, 32]);
-    let extra = if choice(x, 12, 16) == 1 {
-        1 + choice(x, 13, 30)
-    } else {
-        0
-    };
-    let count = BUCKET_WORDS * p.b as usize + extra as usize;
+    let count = BUCKET_WORDS * p.b as usize + extra(x, 1);
     let mut w = words(stream(x, 3), count, limit(p.kind));
     if p.kind >= 2 {
         for (k, record) in (0..p.b).zip(w.chunks_exact_mut(BUCKET_WORDS)) {

@@ -26,7 +26,8 @@ pub struct Stepped {
 }
 
 // What a line answers, and what it may change of the state: the head, the node and the bucket last taken, and the record of the task
-// that moves. A caller that keeps the state stores these few words in it, and no copy of the state is made.
+// that moves. After a refusal only the answer counts. A caller that keeps the state stores these few words in it, and no copy of
+// the state is made.
 pub struct Moved {
     pub out: Output,
     pub head: u32,
