@@ -1,11 +1,9 @@
 //! Compares and times implementations of a resizable hash set moved one line at a time.
 //!
 //! `bench check [events]` runs random schedules, `bench time` measures. With the feature
-//! `proved` both also run the proved implementation from `libschedule.a`. `bench digest`
-//! prints what the crate `digest` must print.
+//! `proved` both also run the proved implementation from `libschedule.a`.
 
 mod check;
-mod digest;
 mod machine;
 mod model;
 mod owned;
@@ -19,7 +17,7 @@ use std::env;
 use std::process::ExitCode;
 
 const DEFAULT_EVENTS: u64 = 4_000_000;
-const USAGE: &str = "usage: bench check [events] | bench time | bench digest";
+const USAGE: &str = "usage: bench check [events] | bench time";
 
 fn command(arguments: &[&str]) -> Result<(), String> {
     match arguments {
@@ -27,10 +25,6 @@ fn command(arguments: &[&str]) -> Result<(), String> {
         ["check", events] => check::check(events.parse().map_err(|_| USAGE.to_string())?),
         ["time"] => {
             time::time();
-            Ok(())
-        }
-        ["digest"] => {
-            print!("{}", digest::text());
             Ok(())
         }
         _ => Err(USAGE.into()),

@@ -1,13 +1,12 @@
--- A bucket by value: its 66 words, and what the search, add, remove, freeze, split and union make of them, for any words.
+-- A bucket by value: its 66 words, and what the search, add, remove and freeze make of them, for any words.
 -- Assumes nothing.
 use mathlib.Core.List.{List, [], _∷_}
 use mathlib.Core.Bool.{Bool, _&&_}
 use Prim.Native.Nat.{ℕ, suc}
 use lib.ListN.{length, getD, take, drop, set}
 use lib.Dec.{leb, ltb, eqb}
-use Rattle.spec.specs.Lists.{if_then_else_, filter, add-tag, remove-tag, union}
+use Rattle.spec.specs.Lists.{if_then_else_, add-tag, remove-tag}
 use Rattle.spec.specs.Words.{bucket-of}
-use Rattle.spec.specs.Listed.{slot}
 use Rattle.bucket.specs.declared.Bucket.{Bucket}
 use Rattle.bucket.specs.declared.Changed.{Changed}
 use Rattle.bucket.specs.declared.Response.{Response}
@@ -48,14 +47,3 @@ removed b x =
 
 abbrev pub frozen-of : Bucket → Bucket
 frozen-of b = record { words = set (b .words) 0 0 }
-
--- the changeable bucket with both buckets' tags, where there are at most 64
-unfoldable pub joined : Bucket → Bucket → Changed
-joined a b =
-    if leb (length (union (tags-in (a .words)) (tags-in (b .words)))) 64
-    then changed (bucket-of 1 (union (tags-in (a .words)) (tags-in (b .words)))) Yes
-    else changed (b .words) Full
-
--- the changeable bucket of the tags that belong to place i of a node of that size
-unfoldable pub split-of : Bucket → ℕ → ℕ → Bucket
-split-of b sz i = record { words = bucket-of 1 (filter (λ k. eqb (slot k sz) i) (tags-in (b .words))) }

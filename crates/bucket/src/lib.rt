@@ -8,7 +8,7 @@ ghost use lib.Seq.{paste};
 ghost use Rattle.spec.specs.Lists.{add-tag, remove-tag};
 ghost use Rattle.spec.specs.Words.{bucket-of};
 ghost use Rattle.spec.specs.Listed.{slot};
-ghost use Rattle.bucket.specs.Bucket.{rank, stands-at, found, tags-in, added, removed, frozen-of, joined, split-of};
+ghost use Rattle.bucket.specs.Bucket.{rank, stands-at, found, tags-in, added, removed, frozen-of};
 
 pub struct Bucket {
     pub words: [u32; 66],
@@ -185,30 +185,8 @@ impl Bucket {
     }
 }
 
-// The changeable bucket of m's tags with tag mod size = i.
-pub fn split(m: Bucket, size: u32, i: u32) -> Bucket
-    ensures { λ r. ⌜ r ≡ split-of m size i ⌝ }
-{
-    let n = m.count();
-    let w = m.words;
-    let mut out = [0u32; 66];
-    out[0] = 1;
-    let mut len = 0;
-    let mut j = 0;
-    while j < n {
-        let t = w[2 + j];
-        if slot(t, size) == i {
-            out[2 + len] = t;
-            len += 1;
-        }
-        j += 1;
-    }
-    out[1] = len as u32;
-    Bucket { words: out }
-}
-
 // The bucket's tags in a changeable bucket.
-fn opened(b: Bucket) -> Bucket
+pub fn opened(b: Bucket) -> Bucket
     ensures { λ r. ⌜ r .words ≡ bucket-of 1 (tags-in (b .words)) ⌝ }
 {
     let n = b.count();
@@ -218,30 +196,5 @@ fn opened(b: Bucket) -> Bucket
     out[1] = n as u32;
     Bucket {
         words: copied(out, 2, &w, 2, n),
-    }
-}
-
-// The changeable bucket of both buckets' tags, those of a put in from the last to the first.
-pub fn union(a: Bucket, b: Bucket) -> Changed
-    ensures { λ r. ⌜ r ≡ joined a b ⌝ }
-{
-    let w = a.words;
-    let mut out = opened(b);
-    let mut i = a.count();
-    while 0 < i {
-        let d = out.add(w[1 + i]);
-        let k = d.answer;
-        if let Response::Full = k {
-            return Changed {
-                bucket: b,
-                answer: Response::Full,
-            };
-        }
-        out = d.bucket;
-        i -= 1;
-    }
-    Changed {
-        bucket: out,
-        answer: Response::Yes,
     }
 }

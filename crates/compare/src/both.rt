@@ -1,227 +1,88 @@
-// One entry called on both implementations, each over its own copies of the pools; the answers, the states and every word of both
-// pools are compared afterwards.
-use spec::Answer;
-use spec::Call;
-use spec::Listing;
-use spec::Output;
-use spec::State;
+// One command on both implementations, each over its own part of the words; every word is compared afterwards.
+use crate::first;
+use crate::flat::fitting;
+use crate::thirds::alike;
+use crate::thirds::change;
 
-// An output as three numbers: kind (0 at, 1 end, 2 refused), value, own steps.
-pub struct Numbers {
-    pub kind: u32,
-    pub value: u32,
-    pub own: u32,
+// What is done: `how` and a word that is set come first (thirds.rt), then a call by its number (first.rt), or none (9). Words are numbered
+// through: the state's, from 110 on those of the nodes, then those of the buckets.
+pub struct Command {
+    pub how: u32,
+    pub at: u32,
+    pub v: u32,
+    pub what: u32,
+    pub k: u32,
+    pub tag: u32,
 }
 
-fn answer(a: Answer) -> u32 {
-    match a {
-        Answer::Yes => 1,
-        Answer::No => 2,
-        Answer::Full => 3,
-        Answer::Done => 4,
-        Answer::Lost => 5,
-        Answer::Limit => 6,
-    }
+fn call_first(w: &mut [u32], ns: &mut [u32], bs: &mut [u32], c: Command) {
+    let q = w.len() / 3;
+    let n = ns.len() / 3;
+    let m = bs.len() / 3;
+    first::act(
+        &mut w[0..q],
+        &mut ns[0..n],
+        &mut bs[0..m],
+        c.what,
+        c.k,
+        c.tag,
+    );
 }
 
-fn numbers_of(o: Output) -> Numbers {
-    match o {
-        Output::At(l) => Numbers {
-            kind: 0,
-            value: l,
-            own: 0,
-        },
-        Output::End(a, n) => Numbers {
-            kind: 1,
-            value: answer(a),
-            own: n as u32,
-        },
-        Output::Refuse(r) => Numbers {
-            kind: 2,
-            value: r,
-            own: 0,
-        },
-    }
+// The last part of each is lent to the second implementation, one slice after the other.
+fn call_second(w: &mut [u32], ns: &mut [u32], bs: &mut [u32], c: Command) {
+    let q = w.len() / 3 * 2;
+    with_nodes(&mut w[q..], ns, bs, c);
 }
 
-fn call_of(n: u32) -> Call {
-    match n {
-        1 => Call::Insert,
-        2 => Call::Remove,
-        3 => Call::Contains,
-        4 => Call::Grow,
-        _ => Call::Shrink,
-    }
+fn with_nodes(w: &mut [u32], ns: &mut [u32], bs: &mut [u32], c: Command) {
+    let n = ns.len() / 3 * 2;
+    with_buckets(w, &mut ns[n..], bs, c);
 }
 
-pub fn same(a: &[u32], b: &[u32]) -> bool {
-    if a.len() != b.len() {
+fn with_buckets(w: &mut [u32], ns: &mut [u32], bs: &mut [u32], c: Command) {
+    let m = bs.len() / 3 * 2;
+    reference::act(w, ns, &mut bs[m..], c.what, c.k, c.tag);
+}
+
+fn call(w: &mut [u32], ns: &mut [u32], bs: &mut [u32], c: Command) {
+    call_first(w, ns, bs, c);
+    call_second(w, ns, bs, c);
+}
+
+// Word `at` by its number after `from` others; a number past all words for those before.
+fn after(at: u32, from: usize) -> usize {
+    let i = at as usize;
+    if from <= i { i - from } else { 4294967296 }
+}
+
+fn changed(w: &mut [u32], ns: &mut [u32], bs: &mut [u32], c: Command) {
+    let n = ns.len() / 3;
+    let at = if c.at < 110 {
+        c.at as usize
+    } else {
+        4294967296
+    };
+    change(w, c.how, at, fitting(c.at, c.v));
+    change(ns, c.how, after(c.at, 110), c.v);
+    change(bs, c.how, after(c.at, 110 + n % 100000), c.v);
+}
+
+fn compared(w: &mut [u32], ns: &mut [u32], bs: &mut [u32], c: Command) -> bool {
+    changed(w, ns, bs, c);
+    call(w, ns, bs, c);
+    alike(w) && alike(ns) && alike(bs)
+}
+
+// The command over pools of n node words and m bucket words, if there are so many in each part. Gives whether all words are alike.
+pub fn run(w: &mut [u32], ns: &mut [u32], bs: &mut [u32], n: u32, m: u32, c: Command) -> bool {
+    let e = 3 * (n as usize);
+    let f = 3 * (m as usize);
+    if ns.len() < e {
         return false;
     }
-    let mut i = 0;
-    while i < a.len() {
-        if i < b.len() {
-            if a[i] != b[i] {
-                return false;
-            }
-        }
-        i += 1;
+    if bs.len() < f {
+        return false;
     }
-    true
-}
-
-fn same_state(a: [u32; 110], b: [u32; 110]) -> bool {
-    let mut i: usize = 0;
-    while i < 110 {
-        if a[i] != b[i] {
-            return false;
-        }
-        i += 1;
-    }
-    true
-}
-
-// The first implementation's state after an event, what it answered, and whether both agree on answer and state.
-pub struct Both {
-    pub state: State,
-    pub kind: u32,
-    pub value: u32,
-    pub same: bool,
-}
-
-fn joined(s: State, a: Numbers, b: reference::Reply) -> Both {
-    let w = crate::flat::words_of(s);
-    let v = b.state;
-    let mut ok = same_state(w, v);
-    if a.kind != b.kind {
-        ok = false;
-    }
-    if a.value != b.value {
-        ok = false;
-    }
-    if a.own != b.own {
-        ok = false;
-    }
-    Both {
-        state: s,
-        kind: a.kind,
-        value: a.value,
-        same: ok,
-    }
-}
-
-pub fn open(t: u32, ns: &mut [u32], bs: &mut [u32], ns2: &mut [u32], bs2: &mut [u32]) -> Both {
-    let o = hashset::open(t, ns, bs);
-    let p = reference::open(t, ns2, bs2);
-    let mut kind = 0;
-    if o.refusal != 0 {
-        kind = 2;
-    }
-    let a = Numbers {
-        kind,
-        value: o.refusal,
-        own: 0,
-    };
-    let s = o.state;
-    joined(s, a, p)
-}
-
-pub fn start(
-    s: State,
-    k: u32,
-    call: u32,
-    tag: u32,
-    ns: &[u32],
-    bs: &[u32],
-    ns2: &[u32],
-    bs2: &[u32],
-) -> Both {
-    let w = crate::flat::words_of(s);
-    let r = hashset::start(s, k, call_of(call), tag, ns, bs);
-    let p = reference::start(w, k, call, tag, ns2, bs2);
-    let o = r.out;
-    let t = r.state;
-    joined(t, numbers_of(o), p)
-}
-
-pub fn step(
-    s: State,
-    k: u32,
-    ns: &mut [u32],
-    bs: &mut [u32],
-    ns2: &mut [u32],
-    bs2: &mut [u32],
-) -> Both {
-    let w = crate::flat::words_of(s);
-    let r = hashset::step(s, k, ns, bs);
-    let p = reference::step(w, k, ns2, bs2);
-    let o = r.out;
-    let t = r.state;
-    joined(t, numbers_of(o), p)
-}
-
-// A list into two slices that are alike; they are compared afterwards.
-fn list_into(
-    s: State,
-    ns: &[u32],
-    bs: &[u32],
-    ns2: &[u32],
-    bs2: &[u32],
-    out: &mut [u32],
-    out2: &mut [u32],
-) -> Both {
-    let w = crate::flat::words_of(s);
-    let l = hashset::list(s, ns, bs, out);
-    let p = reference::list(w, ns2, bs2, out2);
-    let alike = same(out, out2);
-    and_alike(joined(s, listing_of(l), p), alike)
-}
-
-fn and_alike(b: Both, alike: bool) -> Both {
-    let mut r = b;
-    if !alike {
-        r.same = false;
-    }
-    r
-}
-
-fn listing_of(l: Listing) -> Numbers {
-    match l {
-        Listing::Count(c) => Numbers {
-            kind: 0,
-            value: c,
-            own: 0,
-        },
-        Listing::Refused(r) => Numbers {
-            kind: 2,
-            value: r,
-            own: 0,
-        },
-    }
-}
-
-// A list into 63, 64 or 70 words that hold sevens.
-pub fn list(s: State, ns: &[u32], bs: &[u32], ns2: &[u32], bs2: &[u32], room: usize) -> Both {
-    if room < 64 {
-        let mut out = [7u32; 63];
-        let mut out2 = [7u32; 63];
-        return list_into(s, ns, bs, ns2, bs2, &mut out, &mut out2);
-    }
-    if room < 65 {
-        let mut out = [7u32; 64];
-        let mut out2 = [7u32; 64];
-        return list_into(s, ns, bs, ns2, bs2, &mut out, &mut out2);
-    }
-    let mut out = [7u32; 70];
-    let mut out2 = [7u32; 70];
-    list_into(s, ns, bs, ns2, bs2, &mut out, &mut out2)
-}
-
-// Whether both show as many tags of bucket k.
-pub fn show(s: State, ns: &[u32], bs: &[u32], ns2: &[u32], bs2: &[u32], k: u32) -> bool {
-    let w = crate::flat::words_of(s);
-    let part = hashset::show(s, ns, bs, k);
-    let n = part.len();
-    let m = reference::show_count(w, ns2, bs2, k);
-    n == m as usize
+    compared(w, &mut ns[0..e], &mut bs[0..f], c)
 }

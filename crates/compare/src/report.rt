@@ -1,104 +1,110 @@
 // What is counted and printed: each output's kind, line, answer or refusal, and the differences found.
 //
 // Places in the counts: 0 to 63 lines by number, 64 to 79 answers by number, 80 to 95 refusals of unspoilt runs by number, 96 to 111
-// refusals in spoilt memory by number, 112 accepted steps in spoilt memory, 113 events, 114 differences, 115 lists, 116 shows.
-ghost use Prim.Native.Nat.{_≤_};
+// refusals in spoilt memory by number, 112 accepted events in spoilt memory, 113 lists, 114 shows, 115 differences, 116 events, 117 and 118
+// what is not printed.
+use crate::thirds::get;
+ghost use Prim.Native.Nat.{_≤_, _<_};
 
-pub fn bump(c: &mut [u32], i: usize) {
-    if i < c.len() {
-        let v = c[i];
-        if v < 4000000000 {
-            c[i] = v + 1;
-        }
-    }
-}
-
-pub fn bump_if(c: &mut [u32], i: usize, yes: bool) {
-    if yes {
-        bump(c, i);
-    }
-}
-
-fn capped(n: u32, most: u32) -> usize
+fn capped(n: u32, most: usize) -> usize
     ensures { λ r. ⌜ r ≤ most ⌝ }
 {
-    if n < most { n as usize } else { most as usize }
+    if (n as usize) < most {
+        n as usize
+    } else {
+        most
+    }
 }
 
-// One output, of an unspoilt run or in spoilt memory.
-pub fn count(c: &mut [u32], kind: u32, value: u32, spoilt: bool) {
-    bump(c, 113);
-    if kind == 2 {
-        if spoilt {
-            bump(c, 96 + capped(value, 15));
+// Where an output is counted.
+fn place(what: u32, kind: u32, value: u32, spoilt: bool) -> usize {
+    if what == 6 || what == 7 || what == 9 {
+        return if kind == 2 && what == 6 {
+            refused(value, spoilt)
         } else {
-            bump(c, 80 + capped(value, 15));
-        }
-        return;
+            117
+        };
+    }
+    if kind == 2 {
+        return refused(value, spoilt);
     }
     if spoilt {
-        bump(c, 112);
-        return;
+        return 112;
     }
     if kind == 0 {
-        bump(c, capped(value, 63));
+        capped(value, 63)
     } else {
-        bump(c, 64 + capped(value, 15));
+        64 + capped(value, 15)
     }
+}
+
+fn refused(value: u32, spoilt: bool) -> usize {
+    if spoilt {
+        return 96 + capped(value, 15);
+    }
+    80 + capped(value, 15)
+}
+
+// Where a call is counted: an opening, a start and a step is an event.
+fn class(what: u32) -> usize {
+    if what == 6 {
+        return 113;
+    }
+    if what == 7 {
+        return 114;
+    }
+    if what < 9 { 116 } else { 117 }
+}
+
+fn more(c: [u32; 119], i: usize) -> [u32; 119] {
+    let mut d = c;
+    if i < 119 {
+        if c[i] < 4000000000 {
+            d[i] = c[i] + 1;
+        }
+    }
+    d
+}
+
+// The counts after one call: what it was, how far an excursion is (memory is spoilt from turn 12 to 2), what came out, whether all words
+// are alike.
+pub fn counted(c: [u32; 119], what: u32, turn: u32, w: &[u32], alike: bool) -> [u32; 119] {
+    let spoilt = 1 < turn && turn < 13;
+    let d = more(c, place(what, get(w, 110), get(w, 111), spoilt));
+    let e = more(d, class(what));
+    more(e, if alike { 118 } else { 115 })
 }
 
 pub fn text(s: &[u8]) {
     io::write_all(1, s);
 }
 
-pub fn number(n: u32) {
+// A name and a number.
+pub fn field(name: &[u8], n: u32) {
+    io::write_all(1, name);
     io::print_decimal(1, n as u64);
 }
 
 // The counts from place a on, those that are not 0, each as number:count with the number counted from a.
-fn row(name: &[u8], c: &[u32], a: usize, n: usize) {
+fn row(name: &[u8], c: &[u32], a: u32, n: u32) {
     text(name);
-    let mut i: usize = 0;
+    let mut i: u32 = 0;
     while i < n {
-        placed(c, a, i);
+        cell(i, get(c, a as usize + i as usize));
         i += 1;
     }
     text(b"\n");
 }
 
-fn placed(c: &[u32], a: usize, i: usize) {
-    if 200 < a {
-        return;
-    }
-    if 200 < i {
-        return;
-    }
-    cell(i as u32, at(c, a + i));
-}
-
-fn at(c: &[u32], i: usize) -> u32 {
-    if i < c.len() { c[i] } else { 0 }
-}
-
 fn cell(i: u32, v: u32) {
     if v != 0 {
-        text(b" ");
-        number(i);
-        text(b":");
-        number(v);
+        field(b" ", i);
+        field(b":", v);
     }
 }
 
-fn one(name: &[u8], c: &[u32], at: usize) {
-    text(name);
-    if at < c.len() {
-        number(c[at]);
-    }
-    text(b"\n");
-}
-
-pub fn print(c: &[u32]) {
-    one(b"events ", c, 113);
+pub fn print(c: &[u32; 119]) {
+    line(b"events ", get(c, 116));
     row(b"at line", c, 0, 64);
     row(
         b"ended (1 yes 2 no 3 full 4 done 5 lost 6 limit)",
@@ -108,8 +114,30 @@ pub fn print(c: &[u32]) {
     );
     row(b"refused", c, 80, 16);
     row(b"refused in spoilt memory", c, 96, 16);
-    one(b"accepted in spoilt memory ", c, 112);
-    one(b"lists ", c, 115);
-    one(b"shows ", c, 116);
-    one(b"differences ", c, 114);
+}
+
+pub fn print_rest(c: &[u32; 119]) {
+    line(b"accepted in spoilt memory ", get(c, 112));
+    line(b"lists ", get(c, 113));
+    line(b"shows ", get(c, 114));
+    line(b"differences ", get(c, 115));
+}
+
+fn line(name: &[u8], n: u32) {
+    field(name, n);
+    text(b"\n");
+}
+
+// One output.
+pub fn outcome(kind: u32, value: u32, alike: bool) {
+    if kind == 0 {
+        field(b" ", value);
+    } else if kind == 1 {
+        field(b" end=", value);
+    } else {
+        field(b" refuse=", value);
+    }
+    if !alike {
+        text(b" DIFFERS");
+    }
 }

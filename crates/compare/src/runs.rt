@@ -1,325 +1,208 @@
-// Random schedules over one opening, with spoilt memory in between.
-use crate::both;
-use crate::random;
-use crate::report;
-use crate::spoil;
-use spec::State;
+// Random schedules, one after the other, with spoilt memory in between.
+use crate::both::Command;
+use crate::random::below;
+use crate::random::next;
+use crate::random::pick;
+use crate::thirds::get;
 
-// What a schedule is drawn from.
+// What a schedule is drawn from, and how far it is.
 pub struct Plan {
+    // the words of the pools, and the tasks
+    pub n: u32,
+    pub m: u32,
     pub tasks: u32,
     // of 100 starts so many are resizes; of 100 others those below the first number are removes, below the second contains
     pub resizes: u32,
     pub removes: u32,
     pub looks: u32,
     pub tags: u32,
-    pub events: u32,
-    // one event in so many begins an excursion into spoilt memory; 0 for none
-    pub spoil: u32,
+    // of 128 steps drawn for a contains at line 15 so many go to the next task, so that a resize overtakes it and line 17 is met
+    pub late: u32,
+    // turns left
+    pub left: u32,
+    // turns left of an excursion into spoilt memory: at 13 memory is kept, at 12 and 11 words are spoilt, at 1 memory is put back
+    pub spoilt: u32,
+}
+
+fn chosen(yes: bool, a: u32, b: u32) -> u32 {
+    if yes { a } else { b }
+}
+
+// Over ample pools contains are late in two of three schedules, which have many resizes then.
+fn is_late(n: u32, m: u32, x: u64) -> bool {
+    300 < n && 1300 < m && below(x, 3) != 0
+}
+
+// Schedules over tight pools are short: soon every task waits for a record.
+fn turns_for(n: u32, m: u32, x: u64) -> u32 {
+    if n < 100 || m < 200 {
+        return 300;
+    }
+    pick(x, &[300, 600, 1200, 3000])
+}
+
+fn planned(x: u64) -> Plan {
+    let a = next(x);
+    let b = next(a);
+    let n = pick(a, &[34, 68, 102, 136, 340, 680, 1360, 2176]);
+    let m = pick(b, &[66, 132, 264, 528, 528, 1320, 1320, 2640, 2640, 13200]);
+    planned_over(n, m, next(b))
+}
+
+fn planned_over(n: u32, m: u32, x: u64) -> Plan {
+    let late = is_late(n, m, x);
+    let d = next(x);
+    let e = next(d);
+    Plan {
+        n,
+        m,
+        tasks: 1 + below(x / 64, 8) % 8,
+        resizes: chosen(late, 40, pick(d, &[0, 5, 30, 60])),
+        removes: pick(e, &[5, 5, 30, 40]),
+        looks: chosen(late, 70, pick(e, &[25, 60, 50, 60])),
+        tags: pick(next(e), &[3, 20, 200, 4294967295]),
+        late: chosen(late, 127, 0),
+        left: turns_for(n, m, e / 64),
+        spoilt: 0,
+    }
+}
+
+// A schedule that is over.
+pub fn over() -> Plan {
+    Plan {
+        n: 0,
+        m: 0,
+        tasks: 0,
+        resizes: 0,
+        removes: 0,
+        looks: 0,
+        tags: 0,
+        late: 0,
+        left: 0,
+        spoilt: 0,
+    }
+}
+
+// The plan for the next turn: a new schedule, or this one, in which one turn in 40 begins an excursion.
+pub fn turned(p: Plan, x: u64) -> Plan {
+    if p.left == 0 {
+        return planned(x);
+    }
+    let begins = p.spoilt == 0 && below(x / 512, 40) == 0;
+    let on = if 0 < p.spoilt { p.spoilt - 1 } else { 0 };
+    Plan {
+        n: p.n,
+        m: p.m,
+        tasks: p.tasks,
+        resizes: p.resizes,
+        removes: p.removes,
+        looks: p.looks,
+        tags: p.tags,
+        late: p.late,
+        left: p.left - 1,
+        spoilt: chosen(begins, 13, on),
+    }
 }
 
 fn call_for(x: u64, p: Plan) -> u32 {
-    if random::below(x, 100) < p.resizes {
-        return 4 + random::below(x / 128, 2) % 2;
+    if below(x, 100) < p.resizes {
+        return 4 + below(x / 128, 2) % 2;
     }
-    let r = random::below(x / 128, 100);
+    let r = below(x / 128, 100);
     if r < p.removes {
         return 2;
     }
-    if r < p.looks {
-        return 3;
-    }
-    1
+    chosen(r < p.looks, 3, 1)
 }
 
-fn runs(s: State, k: u32) -> bool {
-    let ts = s.task;
-    let j = k as usize;
-    if j < 8 {
-        let c = ts[j];
-        return c.running;
+// Word j of task k's record.
+fn task_word(w: &[u32], k: u32, j: u32) -> u32 {
+    if 8 <= k {
+        return 0;
     }
-    false
+    get(w, 13 * (k as usize) + 6 + j as usize)
 }
 
 // The task of an event drawn from x: one that exists, but for one event in 64.
-fn task_for(x: u64, p: Plan) -> u32 {
-    if random::below(x / 512, 64) == 0 {
+fn task_for(w: &[u32], x: u64, p: Plan) -> u32 {
+    let k = below(x / 4096, p.tasks);
+    if below(x / 512, 64) == 0 {
         return p.tasks;
     }
-    random::below(x / 4096, p.tasks)
-}
-
-// One event drawn from x: mostly a step of a running task and a start of an idle one.
-fn event(
-    s: State,
-    x: u64,
-    p: Plan,
-    ns: &mut [u32],
-    bs: &mut [u32],
-    ns2: &mut [u32],
-    bs2: &mut [u32],
-) -> both::Both {
-    let k = task_for(x, p);
-    let y = random::next(x);
-    let usual = random::below(y, 16) != 0;
-    if runs(s, k) == usual {
-        return both::step(s, k, ns, bs, ns2, bs2);
+    if task_word(w, k, 3) == 15 && below(x, 128) < p.late {
+        return below(x / 4096 + 8, p.tasks);
     }
-    let z = random::next(y);
-    both::start(
-        s,
-        k,
-        call_for(z, p),
-        random::below(random::next(z), p.tags),
-        ns,
-        bs,
-        ns2,
-        bs2,
-    )
+    k
 }
 
-fn judge(
-    c: &mut [u32],
-    b: both::Both,
-    ns: &[u32],
-    bs: &[u32],
-    ns2: &[u32],
-    bs2: &[u32],
-    spoilt: bool,
-) {
-    report::count(c, b.kind, b.value, spoilt);
-    let ok = b.same;
-    report::bump_if(c, 114, !ok);
-    report::bump_if(c, 114, !both::same(ns, ns2));
-    report::bump_if(c, 114, !both::same(bs, bs2));
+// The call of a turn: mostly a step of a running task or a start of an idle one, now and then a list (6) or a show (7).
+fn what_for(w: &[u32], k: u32, x: u64, p: Plan) -> u32 {
+    let d = below(x, 64);
+    let y = next(x);
+    if d < 2 {
+        return 6 + d % 2;
+    }
+    if (task_word(w, k, 0) != 0) == (below(y, 16) != 0) {
+        return 0;
+    }
+    call_for(next(y), p)
 }
 
-fn copy(from: &[u32], to: &mut [u32]) {
-    let mut i = 0;
-    while i < from.len() {
-        spoil::put(to, i, from[i]);
-        i += 1;
+// A value that a spoilt word may get: small numbers, bounds, lines of the figure, or anything.
+fn odd_value(x: u64) -> u32 {
+    let y = next(x);
+    match below(x, 8) {
+        0 => below(y, 4294967295),
+        1 => pick(y, &[12, 13, 15, 16, 17, 18, 20, 24, 27, 28, 32, 33, 36]),
+        2 => pick(y, &[39, 40, 43, 44, 46, 47, 48, 49, 50, 51, 52]),
+        3 => pick(y, &[5, 8, 16, 32, 33, 64, 65, 200, 1024]),
+        _ => below(y, 5),
     }
 }
 
-// One event on both, counted and compared; gives the state after it.
-fn judged(
-    c: &mut [u32],
-    s: State,
-    x: u64,
-    p: Plan,
-    ns: &mut [u32],
-    bs: &mut [u32],
-    ns2: &mut [u32],
-    bs2: &mut [u32],
-    spoilt: bool,
-) -> State {
-    let b = event(s, x, p, ns, bs, ns2, bs2);
-    let t = b.state;
-    judge(c, b, ns, bs, ns2, bs2, spoilt);
-    t
-}
-
-// Eight events in spoilt memory.
-fn eight(
-    c: &mut [u32],
-    s: State,
-    x: u64,
-    p: Plan,
-    ns: &mut [u32],
-    bs: &mut [u32],
-    ns2: &mut [u32],
-    bs2: &mut [u32],
-) -> State {
-    let mut now = s;
-    let mut y = x;
-    let mut left: u32 = 8;
-    while 0 < left {
-        let z = random::next(y);
-        y = z;
-        let t = judged(c, now, y, p, ns, bs, ns2, bs2, true);
-        now = t;
-        left -= 1;
-    }
-    now
-}
-
-// Memory is spoilt once or twice; then eight events, a list and a show.
-fn excursion(
-    c: &mut [u32],
-    s: State,
-    x: u64,
-    p: Plan,
-    ns: &mut [u32],
-    bs: &mut [u32],
-    ns2: &mut [u32],
-    bs2: &mut [u32],
-) {
-    let b = spoil::spoil_more(s, x, ns, bs, ns2, bs2);
-    eight_and_look(c, b, x, p, ns, bs, ns2, bs2);
-}
-
-fn eight_and_look(
-    c: &mut [u32],
-    s: State,
-    x: u64,
-    p: Plan,
-    ns: &mut [u32],
-    bs: &mut [u32],
-    ns2: &mut [u32],
-    bs2: &mut [u32],
-) {
-    let t = eight(c, s, random::next(x), p, ns, bs, ns2, bs2);
-    look(c, t, x, ns, bs, ns2, bs2, true);
-}
-
-// A list into 64 or 63 words, and a show.
-fn look(
-    c: &mut [u32],
-    s: State,
-    x: u64,
-    ns: &[u32],
-    bs: &[u32],
-    ns2: &[u32],
-    bs2: &[u32],
-    spoilt: bool,
-) {
-    let room = 63 + (random::below(x, 3) % 3) as usize;
-    let b = both::list(s, ns, bs, ns2, bs2, room);
-    report::bump(c, 115);
-    judge_list(c, b, spoilt);
-    report::bump(c, 116);
-    let k = random::below(random::next(x), 210);
-    report::bump_if(c, 114, !both::show(s, ns, bs, ns2, bs2, k));
-}
-
-// A list's refusal is counted, its number of tags is not.
-fn judge_list(c: &mut [u32], b: both::Both, spoilt: bool) {
-    let ok = b.same;
-    report::bump_if(c, 114, !ok);
-    if b.kind == 2 {
-        report::count(c, 2, b.value, spoilt);
+// A word to be spoilt: of the state half of the time, or of the nodes, or of the buckets.
+fn odd_word(x: u64, p: Plan) -> u32 {
+    let y = next(x);
+    match below(x, 4) {
+        0 => 110 + below(y, p.n % 100000) % 100000,
+        1 => 110 + p.n % 100000 + below(y, p.m % 100000) % 100000,
+        _ => below(y, 110),
     }
 }
 
-// One event in so many, an excursion into spoilt memory; the pools are put back afterwards.
-fn perhaps(
-    c: &mut [u32],
-    s: State,
-    x: u64,
-    p: Plan,
-    ns: &mut [u32],
-    bs: &mut [u32],
-    ns2: &mut [u32],
-    bs2: &mut [u32],
-    ns3: &mut [u32],
-    bs3: &mut [u32],
-) {
-    if p.spoil == 0 {
-        return;
+// What is done to the words before the call of a turn.
+fn how(x: u64, p: Plan) -> u32 {
+    let turns = p.spoilt;
+    match turns {
+        13 => 1,
+        12 => 3,
+        11 => if below(x, 3) == 0 { 3 } else { 0 },
+        1 => 2,
+        _ => 0,
     }
-    if random::below(random::next(x), p.spoil) != 0 {
-        return;
+}
+
+// The list into 63, 64 or 65 words, the show of a bucket below 210, or the event's task.
+fn number_for(what: u32, k: u32, x: u64) -> u32 {
+    if what == 6 {
+        return 63 + below(x / 64, 3) % 3;
     }
-    keep(ns, bs, ns3, bs3);
-    excursion(c, s, x, p, ns, bs, ns2, bs2);
-    keep(ns3, bs3, ns, bs);
-    keep(ns3, bs3, ns2, bs2);
+    chosen(what == 7, below(x / 64, 210), k)
 }
 
-fn keep(ns: &[u32], bs: &[u32], ns2: &mut [u32], bs2: &mut [u32]) {
-    copy(ns, ns2);
-    copy(bs, bs2);
-}
-
-// One event, and perhaps an excursion after it.
-fn turn(
-    c: &mut [u32],
-    s: State,
-    x: u64,
-    p: Plan,
-    ns: &mut [u32],
-    bs: &mut [u32],
-    ns2: &mut [u32],
-    bs2: &mut [u32],
-    ns3: &mut [u32],
-    bs3: &mut [u32],
-) -> State {
-    let t = judged(c, s, x, p, ns, bs, ns2, bs2, false);
-    perhaps(c, t, x, p, ns, bs, ns2, bs2, ns3, bs3);
-    t
-}
-
-// As many events as the plan says.
-fn events(
-    c: &mut [u32],
-    s: State,
-    seed: u64,
-    p: Plan,
-    ns: &mut [u32],
-    bs: &mut [u32],
-    ns2: &mut [u32],
-    bs2: &mut [u32],
-    ns3: &mut [u32],
-    bs3: &mut [u32],
-) -> State {
-    let mut now = s;
-    let mut x = seed;
-    let mut left = p.events;
-    while 0 < left {
-        let y = random::next(x);
-        x = y;
-        let t = turn(c, now, x, p, ns, bs, ns2, bs2, ns3, bs3);
-        now = t;
-        left -= 1;
+// The command of a turn; a schedule begins with an opening.
+pub fn command(w: &[u32], x: u64, p: Plan, opens: bool) -> Command {
+    let a = next(x);
+    let b = next(a);
+    let c = next(b);
+    let k = task_for(w, a, p);
+    let what = what_for(w, k, b, p);
+    Command {
+        how: how(c, p),
+        at: odd_word(c, p),
+        v: odd_value(next(c)),
+        what: chosen(opens, 8, chosen(p.spoilt == 13, 9, what)),
+        k: chosen(opens, p.tasks, number_for(what, k, b)),
+        tag: below(next(b), p.tags),
     }
-    now
-}
-
-fn opened(
-    c: &mut [u32],
-    p: Plan,
-    ns: &mut [u32],
-    bs: &mut [u32],
-    ns2: &mut [u32],
-    bs2: &mut [u32],
-) -> State {
-    let o = both::open(p.tasks, ns, bs, ns2, bs2);
-    let s = o.state;
-    judge(c, o, ns, bs, ns2, bs2, false);
-    s
-}
-
-fn events_and_look(
-    c: &mut [u32],
-    s: State,
-    seed: u64,
-    p: Plan,
-    ns: &mut [u32],
-    bs: &mut [u32],
-    ns2: &mut [u32],
-    bs2: &mut [u32],
-    ns3: &mut [u32],
-    bs3: &mut [u32],
-) {
-    let t = events(c, s, seed, p, ns, bs, ns2, bs2, ns3, bs3);
-    look(c, t, seed, ns, bs, ns2, bs2, false);
-}
-
-// An opening, the events and a list, over two pools for each implementation and two more to keep copies in, all as long as the
-// plan asks.
-pub fn run(
-    c: &mut [u32],
-    seed: u64,
-    p: Plan,
-    ns: &mut [u32],
-    bs: &mut [u32],
-    ns2: &mut [u32],
-    bs2: &mut [u32],
-    ns3: &mut [u32],
-    bs3: &mut [u32],
-) {
-    let s = opened(c, p, ns, bs, ns2, bs2);
-    events_and_look(c, s, seed, p, ns, bs, ns2, bs2, ns3, bs3);
 }

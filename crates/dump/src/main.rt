@@ -153,7 +153,7 @@ fn tasks(s: State) {
 fn main() {
     let mut ns = node_words();
     let mut bs = bucket_words();
-    let o = hashset::open(2, &mut ns, &mut bs);
+    let o = opening::open(2, &mut ns, &mut bs);
     let a = o.state;
     let b = call(a, 0, Call::Insert, 17, 3, &mut ns, &mut bs);
     let c = call(b, 0, Call::Insert, 4, 3, &mut ns, &mut bs);

@@ -39,9 +39,9 @@ use Rattle.spec.proofs.Output as O
 use Rattle.spec.proofs.Output.Laws as O′
 use Rattle.lines.proofs.Stepped as D
 use Rattle.lines.proofs.Stepped.Laws as D′
-use Rattle.lent.proofs.state_of as state-of
-use Rattle.lent.proofs.out_of as out-of
-use Rattle.lent.proofs.stepped as stepped
+use Rattle.lent_parts.proofs.state_of as state-of
+use Rattle.lent_parts.proofs.out_of as out-of
+use Rattle.lent_parts.proofs.stepped as stepped
 
 -- An operand that is the local i, where the cells of the locals stand in the context two by two, the last local's first, and that of
 -- local 0 is entry n: whichever local the code reads is found, so that a walk fails at what the value is and not at where it is.

@@ -10,35 +10,15 @@ ghost use Rattle.spec.specs.Machine.{machine-of};
 ghost use Rattle.lines.specs.Reply.{reply-of};
 ghost use Rattle.lent.specs.Answered.{answered};
 
-// The parts of what the core gives back, and the whole of them.
-fn out_of(d: Stepped) -> Output
-    ensures { λ r. ⌜ r ≡ d .out ⌝ }
-{
-    let r = d.out;
-    r
-}
-
-fn state_of(d: Stepped) -> State
-    ensures { λ r. ⌜ r ≡ d .state ⌝ }
-{
-    d.state
-}
-
-fn stepped(p: Output, t: State) -> Stepped
-    ensures { λ r. ⌜ (r .out ≡ p) × (r .state ≡ t) ⌝ }
-{
-    Stepped { out: p, state: t }
-}
-
 // Steps task k by one line, on the lent state and the lent pools.
 pub fn step(s: &mut State, k: u32, ns: &mut [u32], bs: &mut [u32]) -> Output
     ensures { λ r. ⌜ answered r (now (s .exit)) (now (ns .exit)) (now (bs .exit)) ≡ step (machine-of (now (s .entry)) (now (ns .entry)) (now (bs .entry))) k ⌝ }
 {
     let old = *s;
     let d = hashset::step(old, k, ns, bs);
-    let new = state_of(d);
+    let new = lent_parts::state_of(d);
     *s = new;
-    out_of(d)
+    lent_parts::out_of(d)
 }
 
 // A turn of the main loop: it lends its state to a step, and has it back.
@@ -48,7 +28,7 @@ pub fn turn(s: State, k: u32, ns: &mut [u32], bs: &mut [u32]) -> Stepped
     let mut t = s;
     let p = step(&mut t, k, ns, bs);
     let new = t;
-    stepped(p, new)
+    lent_parts::stepped(p, new)
 }
 
 // Starts a call for task k, on the lent state.
@@ -57,9 +37,9 @@ pub fn start(s: &mut State, k: u32, call: Call, tag: u32, ns: &[u32], bs: &[u32]
 {
     let before = *s;
     let d = hashset::start(before, k, call, tag, ns, bs);
-    let after = state_of(d);
+    let after = lent_parts::state_of(d);
     *s = after;
-    out_of(d)
+    lent_parts::out_of(d)
 }
 
 // The main loop lends its state to a start, and has it back.
@@ -69,5 +49,5 @@ pub fn begin(s: State, k: u32, call: Call, tag: u32, ns: &[u32], bs: &[u32]) -> 
     let mut t = s;
     let p = start(&mut t, k, call, tag, ns, bs);
     let after = t;
-    stepped(p, after)
+    lent_parts::stepped(p, after)
 }

@@ -6,7 +6,7 @@ use Rattle.spec.specs.declared.Answer.the-variants.{Yes, No}
 use Rattle.spec.specs.declared.Call.the-variants.{Insert, Contains}
 use Rattle.spec.specs.Schedule.{Event, starts, steps, schedule}
 use Rattle.spec.specs.Everything.{everything}
-use Rattle.spec.specs.Cases.{stepping, calling, waiting}
+use Rattle.spec.specs.Rows.{stepping, calling, waiting}
 use Rattle.spec.specs.History.{set-call, note, tell, history-from, history}
 
 -- task 0's insert of 5 waits at line 36 while task 1 grows the set and inserts 5; a start of a running task, a step of no task

@@ -1,4 +1,3 @@
 pub mod Settling
-pub mod Laws
 pub mod Taking
-pub mod Apply36
+pub mod Running

@@ -1,12 +1,8 @@
-// One step, one line: a function for each line of Figure 2, in the figure's order, a file for each procedure. Each takes the state
-// by value, the task's number and record, and the words that it reads or writes. What it gives, stored in the state, is what
-// `step-running` of the definitions gives for a task that stands at that line.
-pub mod apply;
-pub mod contains;
-pub mod init_bucket;
-pub mod resize;
-
+// What the lines of Figure 2 share. One step is one line: each crate `lines_..` has a function for each line of a procedure, in the figure's
+// order, and one that goes by the task's line. A line takes the state by value, the task's number and record, and the words that it
+// reads or writes. What it gives, stored in the state, is what `step-running` of the definitions gives for a task that stands there.
 use spec::Answer;
+use spec::Call;
 use spec::Output;
 use spec::State;
 use spec::Task;
@@ -14,9 +10,9 @@ ghost use mathlib.Core.Path.{_≡_};
 ghost use mathlib.Core.List.{List};
 ghost use mathlib.Core.Bool.{true};
 ghost use Prim.Native.Nat.{ℕ, _+_, _<_, min};
-ghost use Rattle.spec.specs.Machine.{idle, with-line, machine-of};
+ghost use Rattle.spec.specs.Machine.{idle, fresh-task, with-line, machine-of};
 ghost use Rattle.spec.specs.Lines.{moves, answers};
-ghost use Rattle.spec.specs.Entries.{refuse, accept};
+ghost use Rattle.spec.specs.Entries.{refuse, accept, started};
 ghost use Rattle.lines.specs.Reply.{reply-of, changes, moved-reply};
 
 // What an entry answers, and the state after it.
@@ -70,7 +66,7 @@ pub fn settle(s: State, k: u32, m: Moved) -> Stepped
     Stepped { out, state: t }
 }
 
-// ---- the three ways in which a line ends
+// ---- a task's record: own steps, a task that runs nothing, a call that starts
 
 // One own step more, staying at 65535.
 fn one_more_own_step(n: u16) -> u16
@@ -99,6 +95,42 @@ pub fn idle() -> Task
         new_bucket: 0,
     }
 }
+
+// A call's number, its tag and its first line; the rest zeros and empty places.
+fn fresh(call: u32, tag: u32, line: u32) -> Task
+    ensures { λ r. ⌜ r ≡ fresh-task call tag line ⌝ }
+{
+    Task {
+        running: true,
+        call,
+        tag,
+        line,
+        i: 0,
+        own: 0,
+        t: 0,
+        s: 0,
+        b: 0,
+        m: 0,
+        n: 0,
+        new_node: 0,
+        new_bucket: 0,
+    }
+}
+
+// The record of a call that starts.
+pub fn begun(call: Call, tag: u32) -> Task
+    ensures { λ r. ⌜ r ≡ started call tag ⌝ }
+{
+    match call {
+        Call::Insert => fresh(1, tag, 32),
+        Call::Remove => fresh(2, tag, 32),
+        Call::Contains => fresh(3, tag, 12),
+        Call::Grow => fresh(4, 0, 20),
+        Call::Shrink => fresh(5, 0, 20),
+    }
+}
+
+// ---- the three ways in which a line ends
 
 pub fn refused(s: State, why: u32) -> Moved
     ensures { λ r. ⌜ ((k : ℕ) (ns bs : List ℕ) → moved-reply s k r ns bs ≡ refuse why (machine-of s ns bs)) ⌝ }

@@ -1,34 +1,20 @@
--- Laws of the tests of soundness, a turn of a loop each.
+-- Laws of the definitions of soundness that several crates cite: sizes, the lines of a call, a task's record, the numbers
+-- of a sound yard.
 -- Assumes nothing.
 use mathlib.Core.Path.{_≡_, refl, sym, ap, _∙_}
 use mathlib.Core.List.{List, [], _∷_, map}
 use mathlib.Core.Bool.{Bool, true, false, not, _&&_, _||_, false≢true}
-use Prim.Native.Nat.{ℕ, zero, suc, _+_, _-_, _*_, _<_, _≤_}
-use native.Mathlib.Numerals.{add-one}
+use Prim.Native.Nat.{ℕ, zero, suc, _*_, _<_, _≤_}
 use native.Mathlib.Omega.{arith}
-use borrow.Author.Tests.{eq-eqb, ne-eqb, eqb-true, leb-true, ltb-true}
+use borrow.Author.Tests.{eq-eqb, eqb-true, leb-true, ltb-true}
 use lib.Dec.{leb, eqb}
-use lib.ListN.{length, getD, drop, drop-of-length-le, List·getD-eq-default, length-map}
-use lib.Seq.{drop-cons, drop-drop}
+use lib.ListN.{length, List·getD-eq-default, length-map}
 use Rattle.laws.specs.Tests.{or-case, and-right}
 use Rattle.spec.specs.Lists.{if_then_else_, member}
 use Rattle.spec.specs.Machine.{Machine}
 use Rattle.spec.specs.Words.{size}
-use Rattle.spec.specs.Sound.{listed-size, sound-node, sound-nodes, sound-bucket, sound-buckets, fill-lines, lines-of, sound-running, zero-task, sound-task, sound-tasks, sound-numbers}
+use Rattle.spec.specs.Sound.{listed-size, fill-lines, lines-of, sound-running, zero-task, sound-task, sound-numbers}
 use Rattle.spec.specs.declared.Task.{Task}
-
-module _ (s : List ℕ) (i : ℕ) (h : i < length s) where
-  pub member-here : (x : ℕ) → x ≡ getD s i 0 → member x (drop i s) ≡ true
-  unfolding member
-  member-here x e = rw (drop-cons s i 0 h, eq-eqb _ _ e)
-
-  pub member-on : (x : ℕ) → (x ≡ getD s i 0 → ⊥) → member x (drop i s) ≡ member x (drop (i + 1) s)
-  unfolding member
-  member-on x n = rw (add-one, drop-cons s i 0 h, ne-eqb _ _ n)
-
-pub member-end : (x : ℕ) (s : List ℕ) (i : ℕ) → length s ≤ i → member x (drop i s) ≡ false
-unfolding member
-member-end x s i h = rw (drop-of-length-le s h)
 
 -- ---- sizes
 
@@ -43,46 +29,7 @@ listed-small n h =
     is : (m : ℕ) → eqb n m ≡ true → m ≤ 32 → n ≤ 32
     is m e l = let q : n ≡ m = eqb-true n m e in omega arith
 
--- ---- the pools, record by record
-
-module _ (w : List ℕ) (n k : ℕ) (h : k < n) where
-  less : n - k ≡ suc (n - (k + 1))
-  less = omega arith
-
-  pub buckets-on : sound-bucket (drop (66 * k) w) ≡ true → sound-buckets (n - k) (drop (66 * k) w) ≡ sound-buckets (n - (k + 1)) (drop (66 * (k + 1)) w)
-  unfolding sound-buckets
-  buckets-on e =
-      let q : 66 * k + 66 ≡ 66 * (k + 1) = omega arith in
-      rw (less, e, drop-drop 66 (66 * k) w, q)
-
-  pub buckets-no : sound-bucket (drop (66 * k) w) ≡ false → sound-buckets (n - k) (drop (66 * k) w) ≡ false
-  unfolding sound-buckets
-  buckets-no e = rw (less, e)
-
-  module _ (y : Machine) where
-    pub nodes-on : sound-node y (drop (34 * k) w) ≡ true → sound-nodes y (n - k) (drop (34 * k) w) ≡ sound-nodes y (n - (k + 1)) (drop (34 * (k + 1)) w)
-    unfolding sound-nodes
-    nodes-on e =
-        let q : 34 * k + 34 ≡ 34 * (k + 1) = omega arith in
-        rw (less, e, drop-drop 34 (34 * k) w, q)
-
-    pub nodes-no : sound-node y (drop (34 * k) w) ≡ false → sound-nodes y (n - k) (drop (34 * k) w) ≡ false
-    unfolding sound-nodes
-    nodes-no e = rw (less, e)
-
-module _ (w : List ℕ) (n k : ℕ) (h : n ≤ k) where
-  done : n - k ≡ 0
-  done = omega arith
-
-  pub buckets-end : sound-buckets (n - k) w ≡ true
-  unfolding sound-buckets
-  buckets-end = rw done
-
-  pub nodes-end : (y : Machine) → sound-nodes y (n - k) w ≡ true
-  unfolding sound-nodes
-  nodes-end y = rw done
-
--- ---- tasks
+-- ---- the lines of each call
 
 abbrev pub change-lines : List ℕ
 change-lines = 32 ∷ 33 ∷ 36 ∷ 39 ∷ 40 ∷ 43 ∷ 44 ∷ 46 ∷ 47 ∷ 48 ∷ 52 ∷ 49 ∷ 50 ∷ 51 ∷ []
@@ -122,19 +69,6 @@ lines-resize (suc (suc (suc (suc (suc (suc n)))))) h l = absurd (omega arith)
 pub lines-past : (n : ℕ) → 6 ≤ n → lines-of n ≡ []
 unfolding lines-of fill-lines
 lines-past n h = List·getD-eq-default ([] ∷ change-lines ∷ change-lines ∷ look-lines ∷ resize-lines ∷ resize-lines ∷ []) [] h
-
-module _ (y : Machine) (ts : List Task) (k : ℕ) (d : Task) (h : k < length ts) where
-  pub tasks-on : sound-task y k (getD ts k d) ≡ true → sound-tasks y k (drop k ts) ≡ sound-tasks y (k + 1) (drop (k + 1) ts)
-  unfolding sound-tasks
-  tasks-on e = rw (add-one, drop-cons ts k d h, e)
-
-  pub tasks-no : sound-task y k (getD ts k d) ≡ false → sound-tasks y k (drop k ts) ≡ false
-  unfolding sound-tasks
-  tasks-no e = rw (drop-cons ts k d h, e)
-
-pub tasks-end : (y : Machine) (ts : List Task) (k : ℕ) → length ts ≤ k → sound-tasks y k (drop k ts) ≡ true
-unfolding sound-tasks
-tasks-end y ts k h = rw (drop-of-length-le ts h)
 
 -- by `ap` and not by `rw`: the record is to stay as it is where its field is rewritten
 pub task-runs : (y : Machine) (k : ℕ) (c : Task) → c .running ≡ true → sound-task y k c ≡ sound-running y k c

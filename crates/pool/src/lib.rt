@@ -1,8 +1,6 @@
 // The words of both pools. Here: a node's words read, one word written, a record's words written over. `buckets` has a bucket by its
-// number, `soundness` the test of state and pools that goes before every entry. Every function takes any words and numbers: a read
-// past the end gives 0, and a write past the end changes nothing.
+// number. Every function takes any words and numbers: a read past the end gives 0, and a write past the end changes nothing.
 pub mod buckets;
-pub mod soundness;
 
 ghost use mathlib.Core.Path.{_≡_};
 ghost use lib.ListN.{getD, set};

@@ -1,78 +1,48 @@
 // A second implementation of the yard set of paper 01, to be compared word by word with the first.
-// Its shape: a step decodes all that its line can see into one plain value, the scene (scene.rt); what the line does is a table, written column by
-// column as pure functions of the scene (columns.rt, writes.rt); then the records that changed are encoded back, whole. Spoilt memory is found by
-// counting faults (faults.rt), held records by spreading flags until nothing changes (held.rt), listed tags by asking of each tag which
-// bucket decides on it (listing.rt).
+// Its shape: a step reads all that its line can see into plain numbers, the scene (scene.rt); what the line does is a table, written column by
+// column as pure functions of the scene (columns.rt, writes.rt); then every word that may change is written. Spoilt memory is found by
+// counting faults (faults.rt), held records by spreading flags (flags.rt); sets of tags are gone through upwards, and listed tags found by
+// asking of each tag which bucket decides on it (tags.rt).
 // No function has a requirement: any words, numbers and lengths may be lent.
+//
+// The state is 110 words: T, H, B, head, last node, last bucket, then eight tasks of 13 words: running, call, tag, line, i, own steps, t, s, b,
+// m, n, new node, new bucket. The reply is the three words after them, and words lent to a list come after these.
 mod columns;
-mod faults;
-mod flags;
-mod held;
-mod listing;
-mod records;
 mod scene;
-mod tags;
-mod words;
 mod writes;
 
 use columns::answer;
-use columns::needs_65;
 use columns::next_line;
-use columns::no_room;
-use columns::past_size;
-use columns::through_empty;
-use columns::unlisted_size;
-use faults::faults;
-use listing::listed_tags;
-use listing::write;
-use records::Task;
-use records::bucket_at;
-use records::idle;
-use records::put_bucket;
-use records::put_node;
-use records::task_of;
-use records::with_task;
-use scene::Scene;
+use columns::refusal;
+use reference_words::faults::faults;
+use reference_words::tags::listed;
+use reference_words::words::bucket;
+use reference_words::words::copy;
+use reference_words::words::get;
+use reference_words::words::one_more;
+use reference_words::words::part;
+use reference_words::words::reset;
+use scene::Around;
+use scene::Task;
 use scene::scene_of;
-use words::clear;
-use words::one_more;
-use words::put;
+use scene::task_of;
 use writes::bucket_after;
 use writes::bucket_target;
-use writes::header_after;
-use writes::node_after;
-use writes::node_target;
 use writes::own_after;
-use writes::record_after;
+use writes::write_bucket;
+use writes::write_node;
+use writes::write_state;
 
-// kind 0: the task is at line `value` (an opening: 0; a list: the count). 1: the call ended with answer `value` (1 yes, 2 no, 3 full, 4 done,
-// 5 lost, 6 limit) and own steps `own`. 2: refused with number `value`.
-// The state is T, H, B, head, last node, last bucket, then eight tasks of 13 words: running, call, tag, line, i, own steps, t, s, b, m, n, new node,
-// new bucket.
-pub struct Reply {
-    pub kind: u32,
-    pub value: u32,
-    pub own: u32,
-    pub state: [u32; 110],
+// Kind 0: the task is at line `value` (an opening: 0; a list: the count). 1: the call ended with answer `value` (1 yes, 2 no, 3 full, 4 done, 5
+// lost, 6 limit) and own steps `own`. 2: refused with number `value`.
+struct Reply {
+    kind: u32,
+    value: u32,
+    own: u32,
 }
 
-fn went(value: u32, state: [u32; 110]) -> Reply {
-    Reply {
-        kind: 0,
-        value,
-        own: 0,
-        state,
-    }
-}
-
-// "A refusal gives only its number; state and slices keep every word."
-fn refused(value: u32, state: [u32; 110]) -> Reply {
-    Reply {
-        kind: 2,
-        value,
-        own: 0,
-        state,
-    }
+fn answered(kind: u32, value: u32, own: u32) -> Reply {
+    Reply { kind, value, own }
 }
 
 // How many records of `width` words make up `len` words; 0 where none from 1 to `most` does.
@@ -84,149 +54,197 @@ fn records_in(len: usize, width: usize, most: u32) -> u32 {
     if n <= (most as usize) { n as u32 } else { 0 }
 }
 
-// "Opening zeroes both pools, puts changeable empty bucket 0 into node 0 of size 1, makes it head, and sets both "last taken" to 0; no task runs."
 // "1 T outside its bounds; 2 node slice not 34 × H words for an H within bounds; 3 bucket slice not 66 × B words for a B within bounds."
-pub fn open(t: u32, nodes: &mut [u32], buckets: &mut [u32]) -> Reply {
-    let mut state = [0u32; 110];
+fn opening_refusal(t: u32, h: u32, b: u32) -> u32 {
     if t < 1 || 8 < t {
-        return refused(1, state);
+        return 1;
     }
-    let h = records_in(nodes.len(), 34, 64);
     if h == 0 {
-        return refused(2, state);
+        return 2;
     }
-    let b = records_in(buckets.len(), 66, 1024);
-    if b == 0 {
-        return refused(3, state);
-    }
-    clear(nodes);
-    clear(buckets);
-    // node 0: size 1, and bucket 0 in its place 0; bucket 0: may change
-    put(nodes, 0, 1);
-    put(nodes, 2, 1);
-    put(buckets, 0, 1);
-    state[0] = t;
-    state[1] = h;
-    state[2] = b;
-    went(0, state)
+    if b == 0 { 3 } else { 0 }
 }
 
-// The first line of a call, 0 for no call.
+// "Opening zeroes both pools, puts changeable empty bucket 0 into node 0 of size 1, makes it head, and sets both "last taken" to 0; no task runs."
+// "A refused opening gives a state of all zeros."
+fn open(state: &mut [u32], t: u32, nodes: &mut [u32], buckets: &mut [u32]) -> Reply {
+    let h = records_in(nodes.len(), 34, 64);
+    let b = records_in(buckets.len(), 66, 1024);
+    let why = opening_refusal(t, h, b);
+    copy(state, 0, &[0u32; 110]);
+    if why != 0 {
+        return answered(2, why, 0);
+    }
+    write_opening(state, &[t, h, b], nodes, buckets);
+    answered(0, 0, 0)
+}
+
+fn write_opening(state: &mut [u32], sizes: &[u32], nodes: &mut [u32], buckets: &mut [u32]) {
+    copy(state, 0, sizes);
+    reset(nodes, &[1, 0, 1]);
+    reset(buckets, &[1]);
+}
+
+// "Start: 8, 4, 5. Step: 8, 4, 6": the refusal of a task that must run, or must not; 0 for none.
+fn turned_away(state: &[u32], task: u32, runs: bool, nodes: &[u32], buckets: &[u32]) -> u32 {
+    if faults(state, nodes, buckets) != 0 {
+        return 8;
+    }
+    if get(state, 0) <= task {
+        return 4;
+    }
+    if (get(state, (task as usize) * 13 + 6) != 0) == runs {
+        return 0;
+    }
+    if runs { 6 } else { 5 }
+}
+
+// The first line of a call.
 fn first_line(call: u32) -> u32 {
     match call {
-        1 | 2 => 32,
         3 => 12,
         4 | 5 => 20,
-        _ => 0,
+        _ => 32,
     }
 }
 
 // "A start sets the call, the tag (0 for a resize) and the first line (12, 32 or 20), and leaves the rest so."
-fn begun(call: u32, tag: u32) -> Task {
-    let mut c = idle();
-    c.running = 1;
-    c.call = call;
-    c.tag = if call < 4 { tag } else { 0 };
-    c.line = first_line(call);
-    c
-}
-
-// "Start: 8, 4, 5." A `call` that is none of 1 to 5 is not in the paper: refused with 0.
-pub fn start(
-    state: [u32; 110],
+fn start(
+    state: &mut [u32],
     task: u32,
     call: u32,
     tag: u32,
     nodes: &[u32],
     buckets: &[u32],
 ) -> Reply {
-    if faults(state, nodes, buckets) != 0 {
-        return refused(8, state);
-    }
-    if state[0] <= task {
-        return refused(4, state);
-    }
-    let c = task_of(state, task);
-    if c.running != 0 {
-        return refused(5, state);
-    }
+    let why = turned_away(state, task, false, nodes, buckets);
     let line = first_line(call);
-    if line == 0 {
-        return refused(0, state);
+    let kept = if call < 4 { tag } else { 0 };
+    if why != 0 {
+        return answered(2, why, 0);
     }
-    went(line, with_task(state, task, begun(call, tag)))
-}
-
-// "8 of the step, 7", or 0 for none.
-fn step_refusal(w: Scene) -> u32 {
-    if through_empty(w) || past_size(w) || needs_65(w) || unlisted_size(w) {
-        8
-    } else if no_room(w) {
-        7
-    } else {
-        0
-    }
-}
-
-// The reply to an accepted step: the call ends and its task is idle, or the task stands at its next line.
-fn moved(w: Scene, state: [u32; 110], task: u32) -> Reply {
-    let after = header_after(w, state);
-    let line = next_line(w);
-    if line == 0 {
-        Reply {
-            kind: 1,
-            value: answer(w),
-            own: own_after(w),
-            state: with_task(after, task, idle()),
-        }
-    } else {
-        went(line, with_task(after, task, record_after(w)))
-    }
+    copy(state, (task as usize) * 13 + 6, &[1, call, kept, line]);
+    answered(0, line, 0)
 }
 
 // "Step: 8, 4, 6, 8 of the step, 7."
-pub fn step(state: [u32; 110], task: u32, nodes: &mut [u32], buckets: &mut [u32]) -> Reply {
-    if faults(state, nodes, buckets) != 0 {
-        return refused(8, state);
-    }
-    if state[0] <= task {
-        return refused(4, state);
+fn step(state: &mut [u32], task: u32, nodes: &mut [u32], buckets: &mut [u32]) -> Reply {
+    let why = turned_away(state, task, true, nodes, buckets);
+    if why != 0 {
+        return answered(2, why, 0);
     }
     let c = task_of(state, task);
-    if c.running == 0 {
-        return refused(6, state);
-    }
-    let w = scene_of(state, c, nodes, buckets);
-    let why = step_refusal(w);
+    let x = scene_of(state, c, nodes, buckets);
+    go(state, task, c, x, nodes, buckets)
+}
+
+fn go(
+    state: &mut [u32],
+    task: u32,
+    c: Task,
+    x: Around,
+    nodes: &mut [u32],
+    buckets: &mut [u32],
+) -> Reply {
+    let made = bucket_after(c, x, buckets);
+    let why = refusal(c, x, made[1]);
     if why != 0 {
-        return refused(why, state);
+        return answered(2, why, 0);
     }
-    put_node(nodes, node_target(w), node_after(w));
-    put_bucket(buckets, bucket_target(w), bucket_after(w));
-    moved(w, state, task)
+    write_state(state, c, x, task);
+    write_pools(c, x, &made, nodes, buckets);
+    moved(c, x)
 }
 
-// "List: 8, 9; it writes the tags ascending, gives their number, and keeps later words."
-pub fn list(state: [u32; 110], nodes: &[u32], buckets: &[u32], out: &mut [u32]) -> Reply {
-    if faults(state, nodes, buckets) != 0 {
-        return refused(8, state);
-    }
-    let l = listed_tags(state, nodes, buckets);
-    if 64 < l.count {
-        return refused(8, state);
-    }
-    if out.len() < 64 {
-        return refused(9, state);
-    }
-    write(l, out);
-    went(l.count, state)
+fn write_pools(c: Task, x: Around, made: &[u32], nodes: &mut [u32], buckets: &mut [u32]) {
+    write_node(nodes, c, x);
+    write_bucket(buckets, bucket_target(c, x), made);
 }
 
-// How many tags are shown of bucket k: "a bad number or spoilt memory gives an empty part".
-pub fn show_count(state: [u32; 110], nodes: &[u32], buckets: &[u32], k: u32) -> u32 {
-    if faults(state, nodes, buckets) != 0 || state[2] <= k {
-        return 0;
+// The call ends, or the task stands at its next line.
+fn moved(c: Task, x: Around) -> Reply {
+    let line = next_line(c, x);
+    if line == 0 {
+        return answered(1, answer(c, x), own_after(c));
     }
-    let x = bucket_at(buckets, one_more(k, 1024));
-    x.count
+    answered(0, line, 0)
+}
+
+// "List: 8, 9; it writes the tags ascending, gives their number, and keeps later words." The words lent are the first ones after the reply.
+fn list(w: &mut [u32], nodes: &[u32], buckets: &[u32], room: u32) -> Reply {
+    if faults(w, nodes, buckets) != 0 {
+        return answered(2, 8, 0);
+    }
+    let tags = listed(w, nodes, buckets);
+    let count = tags[64];
+    if 64 < count {
+        return answered(2, 8, 0);
+    }
+    if room < 64 {
+        return answered(2, 9, 0);
+    }
+    copy(w, 113, part(&tags, 0, count as usize));
+    answered(0, count, 0)
+}
+
+// "Showing a bucket gives back the part of the lent words that holds its tags; a bad number or spoilt memory gives an empty part." The tags
+// are copied to the words after the reply.
+fn show(w: &mut [u32], nodes: &[u32], buckets: &[u32], k: u32) -> Reply {
+    if faults(w, nodes, buckets) != 0 || get(w, 2) <= k {
+        return answered(0, 0, 0);
+    }
+    let x = bucket(buckets, one_more(k, 1024));
+    let count = get(x, 1);
+    copy(w, 113, part(x, 2, count as usize + 2));
+    answered(0, count, 0)
+}
+
+// A start or a step.
+fn event(
+    w: &mut [u32],
+    nodes: &mut [u32],
+    buckets: &mut [u32],
+    what: u32,
+    k: u32,
+    tag: u32,
+) -> Reply {
+    if what == 0 {
+        return step(w, k, nodes, buckets);
+    }
+    start(w, k, what, tag, nodes, buckets)
+}
+
+// A list or a show.
+fn look(w: &mut [u32], nodes: &[u32], buckets: &[u32], what: u32, k: u32) -> Reply {
+    if what == 6 {
+        return list(w, nodes, buckets, k);
+    }
+    show(w, nodes, buckets, k)
+}
+
+fn acted(
+    w: &mut [u32],
+    nodes: &mut [u32],
+    buckets: &mut [u32],
+    what: u32,
+    k: u32,
+    tag: u32,
+) -> Reply {
+    if what < 6 {
+        return event(w, nodes, buckets, what, k, tag);
+    }
+    if what < 8 {
+        return look(w, nodes, buckets, what, k);
+    }
+    open(w, k, nodes, buckets)
+}
+
+// A step of task k (0), the start of a call (1 insert, 2 remove, 3 contains, 4 grow, 5 shrink), a list into k words (6), a show of bucket k (7),
+// an opening with k tasks (8); nothing for other numbers.
+pub fn act(w: &mut [u32], nodes: &mut [u32], buckets: &mut [u32], what: u32, k: u32, tag: u32) {
+    if 8 < what {
+        return;
+    }
+    let r = acted(w, nodes, buckets, what, k, tag);
+    copy(w, 110, &[r.kind, r.value, r.own]);
 }

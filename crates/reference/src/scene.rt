@@ -1,89 +1,114 @@
-// The scene of a step: all that its line can see, read out of the words before anything is written.
-use super::held::free_bucket;
-use super::held::free_node;
-use super::listing::listed_tags;
-use super::records::Bucket;
-use super::records::Node;
-use super::records::Task;
-use super::records::bucket_at;
-use super::records::node_at;
-use super::tags::fresh;
-use super::tags::joined;
-use super::tags::split;
+// The scene of a step: all that its line can see, as plain numbers, read out of the words before anything is written: the task's record and
+// what is around it.
+use reference_words::flags::free_record;
+use reference_words::tags::has;
+use reference_words::tags::listed;
+use reference_words::words::bucket;
+use reference_words::words::get;
+use reference_words::words::node;
+use reference_words::words::one_more;
+use reference_words::words::part;
+use reference_words::words::rest;
 
-pub struct Scene {
-    // the task's record
-    pub me: Task,
-    // the head's place, and the head
+// A task's record.
+pub struct Task {
+    pub running: u32,
+    pub call: u32,
+    pub tag: u32,
+    pub line: u32,
+    pub i: u32,
+    pub own: u32,
+    pub t: u32,
+    pub s: u32,
+    pub b: u32,
+    pub m: u32,
+    pub n: u32,
+    pub new_node: u32,
+    pub new_bucket: u32,
+}
+
+pub fn task_of(state: &[u32], k: u32) -> Task {
+    let at = (k as usize) * 13 + 6;
+    let c = part(state, at, at + 13);
+    Task {
+        running: get(c, 0),
+        call: get(c, 1),
+        tag: get(c, 2),
+        line: get(c, 3),
+        i: get(c, 4),
+        own: get(c, 5),
+        t: get(c, 6),
+        s: get(c, 7),
+        b: get(c, 8),
+        m: get(c, 9),
+        n: get(c, 10),
+        new_node: get(c, 11),
+        new_bucket: get(c, 12),
+    }
+}
+
+pub struct Around {
+    // the head's place and size
     pub head: u32,
-    pub h: Node,
-    // the nodes in t and s, and t's predecessor
-    pub t: Node,
-    pub s: Node,
-    pub p: Node,
-    // the buckets in b, m and n
-    pub b: Bucket,
-    pub m: Bucket,
-    pub n: Bucket,
-    // line 36 alone: how many tags are listed
+    pub head_size: u32,
+    // of t: the size, the predecessor and its size, the place for the tag, the place i
+    pub t_size: u32,
+    pub pred: u32,
+    pub pred_size: u32,
+    pub t_home: u32,
+    pub t_at_i: u32,
+    // of s: the size, the place for the tag, the places i mod (the size), i, and i + t's size
+    pub s_size: u32,
+    pub s_home: u32,
+    pub s_mod: u32,
+    pub s_at_i: u32,
+    pub s_past: u32,
+    // whether b may change and has the tag
+    pub b_open: bool,
+    pub b_has: bool,
+    // line 36 alone: how many tags are listed, from 65 on as 65
     pub listed: u32,
-    // line 27 alone: the place of the node that would be taken, 0 where every node is held
-    pub free_node: u32,
-    // line 49 alone: the place of the bucket that would be taken, 0 where every bucket is held, and what would be put there
-    pub free_bucket: u32,
-    pub made: Bucket,
+    // lines 27 and 49 alone: the place of the node or bucket that would be taken, 0 where every one is held
+    pub free: u32,
 }
 
-// "49 takes a new changeable bucket: m's tags with tag mod (t's size) = i, or with n filled the union of m and n."
-fn filling(me: Task, size: u32, m: Bucket, n: Bucket) -> Bucket {
-    if me.n == 0 {
-        split(m, size, me.i)
-    } else {
-        let first = joined(fresh(), m);
-        joined(first, n)
+// Place i + j of a node.
+fn place(x: &[u32], i: u32, j: u32) -> u32 {
+    get(x, i as usize + j as usize + 2)
+}
+
+fn listed_at(line: u32, state: &[u32], nodes: &[u32], buckets: &[u32]) -> u32 {
+    if line != 36 {
+        return 0;
     }
+    let tags = listed(state, nodes, buckets);
+    tags[64]
 }
 
-fn listed_at(line: u32, state: [u32; 110], nodes: &[u32], buckets: &[u32]) -> u32 {
-    if line == 36 {
-        let l = listed_tags(state, nodes, buckets);
-        l.count
-    } else {
-        0
-    }
-}
-
-pub fn scene_of(state: [u32; 110], me: Task, nodes: &[u32], buckets: &[u32]) -> Scene {
-    let line = me.line;
-    let head = if state[3] < 64 { state[3] + 1 } else { 0 };
-    let t = node_at(nodes, me.t);
-    let m = bucket_at(buckets, me.m);
-    let n = bucket_at(buckets, me.n);
-    Scene {
-        me,
+pub fn scene_of(state: &[u32], c: Task, nodes: &[u32], buckets: &[u32]) -> Around {
+    let head = one_more(get(state, 3), 64);
+    let t = node(nodes, c.t);
+    let s = node(nodes, c.s);
+    let b = bucket(buckets, c.b);
+    let t_size = get(t, 0);
+    let s_size = get(s, 0);
+    let pred = get(t, 1);
+    Around {
         head,
-        h: node_at(nodes, head),
-        t,
-        s: node_at(nodes, me.s),
-        p: node_at(nodes, t.pred),
-        b: bucket_at(buckets, me.b),
-        m,
-        n,
-        listed: listed_at(line, state, nodes, buckets),
-        free_node: if line == 27 {
-            free_node(state, nodes)
-        } else {
-            0
-        },
-        free_bucket: if line == 49 {
-            free_bucket(state, nodes)
-        } else {
-            0
-        },
-        made: if line == 49 {
-            filling(me, t.size, m, n)
-        } else {
-            fresh()
-        },
+        head_size: get(node(nodes, head), 0),
+        t_size,
+        pred,
+        pred_size: get(node(nodes, pred), 0),
+        t_home: place(t, rest(c.tag, t_size), 0),
+        t_at_i: place(t, c.i, 0),
+        s_size,
+        s_home: place(s, rest(c.tag, s_size), 0),
+        s_mod: place(s, rest(c.i, s_size), 0),
+        s_at_i: place(s, c.i, 0),
+        s_past: place(s, c.i, t_size),
+        b_open: get(b, 0) != 0,
+        b_has: has(b, c.tag),
+        listed: listed_at(c.line, state, nodes, buckets),
+        free: free_record(c.line, state, nodes),
     }
 }

@@ -2,247 +2,282 @@
 // state that it rewrites. No line stores in more than one node and one bucket.
 // Line 36 is met here only with b frozen, where the call goes on, or, of a bucket, where the call changes it.
 use super::columns::answer;
-use super::columns::home;
 use super::columns::is_resize;
-use super::columns::new_size;
 use super::columns::next_line;
-use super::records::Bucket;
-use super::records::Node;
-use super::records::Task;
-use super::records::place_of;
-use super::scene::Scene;
-use super::tags::frozen;
-use super::tags::with_tag;
-use super::tags::without_tag;
-use super::words::number;
-use super::words::one_more;
-use super::words::rest;
+use super::scene::Around;
+use super::scene::Task;
+use reference_words::tags::NONE;
+use reference_words::tags::smallest;
+use reference_words::words::bucket;
+use reference_words::words::copy;
+use reference_words::words::get;
+use reference_words::words::number;
+use reference_words::words::one_more;
+use reference_words::words::part;
+use reference_words::words::put;
+use reference_words::words::rest;
 
 // Column i: 0 at 20 and 36; at 33 "else i is that place's number"; at 51 "a resize adds 1 to i".
-fn i_after(w: Scene) -> u32 {
-    let c = w.me;
-    let t = w.t;
+fn i_after(c: Task, x: Around) -> u32 {
     let line = c.line;
-    match line {
-        20 | 36 => 0,
-        33 => if home(t, c.tag) == 0 {
-            rest(c.tag, t.size)
-        } else {
-            c.i
-        },
-        51 => if is_resize(c) { one_more(c.i, 32) } else { c.i },
-        _ => c.i,
+    if line == 20 || line == 36 {
+        return 0;
     }
+    if line == 33 && x.t_home == 0 {
+        return rest(c.tag, x.t_size);
+    }
+    if line == 51 && is_resize(c) {
+        return one_more(c.i, 32);
+    }
+    c.i
 }
 
 // Column t: the head at 12, 20 and 32; emptied at 36.
-fn t_after(w: Scene) -> u32 {
-    let c = w.me;
+fn t_after(c: Task, x: Around) -> u32 {
     let line = c.line;
     match line {
-        12 | 20 | 32 => w.head,
+        12 | 20 | 32 => x.head,
         36 => 0,
         _ => c.t,
     }
 }
 
 // Column s: t's predecessor at 15 and 40; emptied at 36 and 51.
-fn s_after(w: Scene) -> u32 {
-    let c = w.me;
-    let t = w.t;
+fn s_after(c: Task, x: Around) -> u32 {
     let line = c.line;
     match line {
-        15 | 40 => t.pred,
+        15 | 40 => x.pred,
         36 | 51 => 0,
         _ => c.s,
     }
 }
 
 // Column b: t's place for the tag at 13, 17 and 33, s's at 16; t's place i at 39, and at 51 of insert and remove; emptied at 36, and at 51 of a resize.
-fn b_after(w: Scene) -> u32 {
-    let c = w.me;
-    let t = w.t;
+fn b_after(c: Task, x: Around) -> u32 {
     let line = c.line;
+    if line == 51 && is_resize(c) {
+        return 0;
+    }
     match line {
-        13 | 17 | 33 => home(t, c.tag),
-        16 => home(w.s, c.tag),
+        13 | 17 | 33 => x.t_home,
+        16 => x.s_home,
         36 => 0,
-        39 => place_of(t, c.i as usize),
-        51 => if is_resize(c) {
-            0
-        } else {
-            place_of(t, c.i as usize)
-        },
+        39 | 51 => x.t_at_i,
         _ => c.b,
     }
 }
 
-// Column m: s's place i mod (s's size) at 43, s's place i at 46; emptied at 36 and 51.
-fn m_after(w: Scene) -> u32 {
-    let c = w.me;
-    let s = w.s;
+// Column m: s's place i mod (s's size) at 43, s's place i at 46. Column n: s's place i + t's size at 47. Both are emptied at 36 and 51.
+fn m_after(c: Task, x: Around) -> u32 {
     let line = c.line;
     match line {
-        43 => place_of(s, rest(c.i, s.size) as usize),
-        46 => place_of(s, c.i as usize),
+        43 => x.s_mod,
+        46 => x.s_at_i,
         36 | 51 => 0,
         _ => c.m,
     }
 }
 
-// Column n: s's place i + t's size at 47; emptied at 36 and 51.
-fn n_after(w: Scene) -> u32 {
-    let c = w.me;
-    let t = w.t;
-    let s = w.s;
+fn n_after(c: Task, x: Around) -> u32 {
     let line = c.line;
     match line {
-        47 => place_of(s, (c.i as usize) + (t.size as usize)),
+        47 => x.s_past,
         36 | 51 => 0,
         _ => c.n,
     }
 }
 
-// Column new node: taken at 27; emptied at 36.
-fn new_node_after(w: Scene) -> u32 {
-    let c = w.me;
+// Column new node: taken at 27; emptied at 36. Column new bucket: taken at 49; emptied at 36 and 51.
+fn new_node_after(c: Task, x: Around) -> u32 {
     let line = c.line;
     match line {
-        27 => w.free_node,
+        27 => x.free,
         36 => 0,
         _ => c.new_node,
     }
 }
 
-// Column new bucket: taken at 49; emptied at 36 and 51.
-fn new_bucket_after(w: Scene) -> u32 {
-    let c = w.me;
+fn new_bucket_after(c: Task, x: Around) -> u32 {
     let line = c.line;
     match line {
-        49 => w.free_bucket,
+        49 => x.free,
         36 | 51 => 0,
         _ => c.new_bucket,
     }
 }
 
 // "Own steps count accepted steps of the call, staying at 65,535."
-pub fn own_after(w: Scene) -> u32 {
-    let c = w.me;
+pub fn own_after(c: Task) -> u32 {
     one_more(c.own, 65535)
 }
 
-// The task's record after a line that goes on.
-pub fn record_after(w: Scene) -> Task {
-    let c = w.me;
-    Task {
-        running: c.running,
-        call: c.call,
-        tag: c.tag,
-        line: next_line(w),
-        i: i_after(w),
-        own: own_after(w),
-        t: t_after(w),
-        s: s_after(w),
-        b: b_after(w),
-        m: m_after(w),
-        n: n_after(w),
-        new_node: new_node_after(w),
-        new_bucket: new_bucket_after(w),
+// Word j of the task's record. "A task that runs nothing has a record of zeros and empty places."
+fn task_word_after(c: Task, x: Around, j: u32) -> u32 {
+    let line = next_line(c, x);
+    if line == 0 {
+        return 0;
+    }
+    match j {
+        0 => c.running,
+        1 => c.call,
+        2 => c.tag,
+        3 => line,
+        4 => i_after(c, x),
+        5 => own_after(c),
+        6 => t_after(c, x),
+        7 => s_after(c, x),
+        8 => b_after(c, x),
+        9 => m_after(c, x),
+        10 => n_after(c, x),
+        11 => new_node_after(c, x),
+        _ => new_bucket_after(c, x),
     }
 }
 
-// Column: the place of the node that is rewritten, 0 for none. "50 puts it in t's place i if still empty."
-pub fn node_target(w: Scene) -> u32 {
-    let c = w.me;
+// Word j of the state, which is `old` now. "28: if the head is t the new node becomes head".
+fn word_after(c: Task, x: Around, task: u32, j: u32, old: u32) -> u32 {
+    if j == 3 && c.line == 28 && x.head == c.t {
+        return number(c.new_node);
+    }
+    if (j == 4 && c.line == 27) || (j == 5 && c.line == 49) {
+        return number(x.free);
+    }
+    if j < 6 || (j - 6) / 13 != task {
+        return old;
+    }
+    task_word_after(c, x, (j - 6) % 13)
+}
+
+pub fn write_state(state: &mut [u32], c: Task, x: Around, task: u32) {
+    let mut j: u32 = 0;
+    while j < 110 {
+        let v = word_after(c, x, task, j, get(state, j as usize));
+        put(state, j as usize, v);
+        j += 1;
+    }
+}
+
+// Column: the place of the node that is rewritten, 0 for none.
+fn node_target(c: Task, x: Around) -> u32 {
     let line = c.line;
     match line {
-        24 => c.t,
-        27 => w.free_node,
-        50 => if place_of(w.t, c.i as usize) == 0 {
-            c.t
-        } else {
-            0
-        },
+        24 | 50 => c.t,
+        27 => x.free,
         _ => 0,
     }
 }
 
-// Column: what that node then is. "24 t's predecessor becomes none. 27 takes a new node of twice or half the size, predecessor t, all places empty."
-pub fn node_after(w: Scene) -> Node {
-    let c = w.me;
-    let t = w.t;
-    let mut places = t.places;
+// Twice or half the size, of a listed size that is not at the limit.
+fn new_size(call: u32, size: u32) -> u32 {
+    if call != 4 {
+        return size / 2;
+    }
+    if size <= 16 { size * 2 } else { 0 }
+}
+
+// Word j of that node, which is `old` now. "24 t's predecessor becomes none. 27 takes a new node of twice or half the size, predecessor t, all
+// places empty." "50 puts it in t's place i if still empty."
+fn node_word_after(c: Task, x: Around, j: u32, old: u32) -> u32 {
     if c.line == 24 {
-        return Node {
-            size: t.size,
-            pred: 0,
-            places,
-        };
+        return if j == 1 { 0 } else { old };
     }
     if c.line == 27 {
-        return Node {
-            size: new_size(c.call, t.size),
-            pred: c.t,
-            places: [0u32; 32],
+        return match j {
+            0 => new_size(c.call, x.t_size),
+            1 => c.t,
+            _ => 0,
         };
     }
-    let k = c.i as usize;
-    if k < 32 {
-        places[k] = c.new_bucket;
+    if old == 0 && 2 <= j && j - 2 == c.i {
+        c.new_bucket
+    } else {
+        old
     }
-    Node {
-        size: t.size,
-        pred: t.pred,
-        places,
+}
+
+pub fn write_node(nodes: &mut [u32], c: Task, x: Around) {
+    let target = node_target(c, x);
+    let at = (number(target) as usize) * 34;
+    if target == 0 {
+        return;
+    }
+    let mut j: u32 = 0;
+    while j < 34 {
+        let v = node_word_after(c, x, j, get(nodes, at + j as usize));
+        put(nodes, at + j as usize, v);
+        j += 1;
     }
 }
 
 // Column: the place of the bucket that is rewritten, 0 for none. An insert or remove rewrites b where it may change and the answer is yes.
-pub fn bucket_target(w: Scene) -> u32 {
-    let c = w.me;
-    let b = w.b;
+pub fn bucket_target(c: Task, x: Around) -> u32 {
     let line = c.line;
-    match line {
-        36 => if b.open != 0 && answer(w) == 1 {
+    if line == 36 {
+        return if x.b_open && answer(c, x) == 1 {
             c.b
         } else {
             0
-        },
+        };
+    }
+    match line {
         44 | 48 => c.m,
-        49 => w.free_bucket,
+        49 => x.free,
         52 => c.n,
         _ => 0,
     }
 }
 
-// Column: what that bucket then is.
-pub fn bucket_after(w: Scene) -> Bucket {
-    let c = w.me;
-    let line = c.line;
-    match line {
-        36 => if c.call == 1 {
-            with_tag(w.b, c.tag)
-        } else {
-            without_tag(w.b, c.tag)
-        },
-        44 | 48 => frozen(w.m),
-        52 => frozen(w.n),
-        _ => w.made,
+// "49 takes a new changeable bucket: m's tags with tag mod (t's size) = i, or with n filled the union of m and n."
+fn poured(c: Task, x: Around, m: &[u32], n: &[u32], from: u64) -> u64 {
+    if c.n == 0 {
+        return smallest(m, x.t_size, c.i, from);
     }
+    lower(smallest(m, 1, 0, from), smallest(n, 1, 0, from))
 }
 
-// Columns: the head, the node and the bucket last taken. "28: if the head is t the new node becomes head".
-pub fn header_after(w: Scene, state: [u32; 110]) -> [u32; 110] {
-    let c = w.me;
-    let mut after = state;
-    if c.line == 28 && w.head == c.t {
-        after[3] = number(c.new_node);
-    }
-    if c.line == 27 {
-        after[4] = number(w.free_node);
-    }
+// The smallest tag from `from` on of what that bucket then is. An insert has its tag too, a remove has it not.
+fn tag_after(c: Task, x: Around, buckets: &[u32], from: u64) -> u64 {
+    let tag = c.tag as u64;
     if c.line == 49 {
-        after[5] = number(w.free_bucket);
+        return poured(c, x, bucket(buckets, c.m), bucket(buckets, c.n), from);
     }
-    after
+    let next = smallest(bucket(buckets, bucket_target(c, x)), 1, 0, from);
+    if c.line == 36 && c.call == 1 && from <= tag {
+        return lower(next, tag);
+    }
+    if c.line == 36 && next == tag {
+        return smallest(bucket(buckets, c.b), 1, 0, next % NONE + 1);
+    }
+    next
+}
+
+fn lower(a: u64, b: u64) -> u64 {
+    if a < b { a } else { b }
+}
+
+// What that bucket then is. A count of 65 says that a 65th tag would be needed; no such bucket is ever stored. 44, 48 and 52 freeze.
+pub fn bucket_after(c: Task, x: Around, buckets: &[u32]) -> [u32; 67] {
+    let mut made = [0u32; 67];
+    let mut from: u64 = 0;
+    let mut n: usize = 0;
+    if c.line == 36 || c.line == 49 {
+        made[0] = 1;
+    }
+    while n < 65 {
+        let tag = tag_after(c, x, buckets, from);
+        if NONE <= tag {
+            return made;
+        }
+        made[n + 2] = tag as u32;
+        from = tag + 1;
+        n += 1;
+        made[1] = n as u32;
+    }
+    made
+}
+
+pub fn write_bucket(buckets: &mut [u32], target: u32, made: &[u32]) {
+    if target != 0 {
+        copy(buckets, (number(target) as usize) * 66, part(made, 0, 66));
+    }
 }

@@ -9,8 +9,6 @@ use borrow.Author.Tests.{eq-eqb, ne-eqb, ltb-false}
 use lib.Dec.{eqb, leb, ltb}
 use lib.ListN.{length, getD, take, drop, length-append, take-append-drop}
 use lib.Seq.{length-take-le, take-at, drop-append-add, getD-drop, drop-drop}
-use Rattle.spec.specs.declared.Output.{Output}
-use Rattle.spec.specs.declared.Output.the-variants.{At, End, Refuse}
 use Rattle.spec.specs.declared.Listing.{Listing}
 use Rattle.spec.specs.declared.Listing.the-variants.{Refused}
 use Rattle.spec.specs.Lists.{concat-map}
@@ -22,12 +20,9 @@ use Rattle.spec.specs.Listed.{listed}
 use Rattle.spec.specs.Entries.{Opened, opening, not-opened, pool-fits, Reply, Written, list}
 use Rattle.laws.specs.Tests.{choose, or-none}
 use Rattle.spec.specs.Schedule.{Event, event, run, run-opened, schedule}
-use Rattle.schedule.specs.Encoding.{event-of, events-of, room-for, decoded, list-opened, run-words, listing-number}
-
-pub three : (o : Output) → length (output-words o) ≡ 3
-three (At line) = refl
-three (End a own) = refl
-three (Refuse r) = refl
+use Rattle.schedule_words.specs.Events.{event-of, events-of, listing-number}
+use Rattle.schedule_words.proofs.Laws.{three}
+use Rattle.schedule.specs.Encoding.{room-for, decoded, list-opened, run-words}
 
 -- ---- words written one after the other
 

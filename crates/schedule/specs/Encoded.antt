@@ -9,7 +9,8 @@ use Rattle.spec.specs.declared.Call.the-variants.{Insert, Remove, Contains, Gro
 use Rattle.spec.specs.Lists.{concat-map}
 use Rattle.spec.specs.Numbers.{call-number}
 use Rattle.spec.specs.Schedule.{Event, starts, steps}
-use Rattle.schedule.specs.Encoding.{event-of, events-of, room-for, decoded}
+use Rattle.schedule_words.specs.Events.{event-of, events-of}
+use Rattle.schedule.specs.Encoding.{room-for, decoded}
 
 -- the words of an event
 unfoldable pub event-words : Event → List ℕ

@@ -1,36 +1,21 @@
--- A whole schedule as words, for callers outside Rattle: what the words of its events mean, and what is left of every slice.
+-- A whole schedule as words, for callers outside Rattle: which of its events are run, and what is left of every slice.
 -- Assumes nothing.
-use Prim.Native.Nat.{ℕ, zero, suc, _+_, _/_, min}
-use mathlib.Core.List.{List, [], _∷_}
+use Prim.Native.Nat.{ℕ, _/_, min}
+use mathlib.Core.List.{List}
 use lib.Dec.{eqb}
-use lib.ListN.{length, getD, drop}
-use Rattle.spec.specs.declared.Call.the-variants.{Insert, Remove, Contains, Grow, Shrink}
+use lib.ListN.{length}
 use Rattle.spec.specs.declared.Listing.{Listing}
-use Rattle.spec.specs.declared.Listing.the-variants.{Count, Refused}
+use Rattle.spec.specs.declared.Listing.the-variants.{Refused}
 use Rattle.spec.specs.Lists.{if_then_else_, concat-map}
-use Rattle.spec.specs.Numbers.{call-number, output-words}
+use Rattle.spec.specs.Numbers.{output-words}
 use Rattle.spec.specs.Machine.{Machine, machine-of}
 use Rattle.spec.specs.Words.{overwrite}
 use Rattle.spec.specs.Entries.{opening, Written, list}
-use Rattle.spec.specs.Schedule.{Event, starts, steps, schedule}
+use Rattle.spec.specs.Schedule.{Event, schedule}
+use Rattle.schedule_words.specs.Events.{events-of, listing-number}
 use Rattle.schedule.specs.declared.Outcome.{Outcome}
 
--- ---- events, four words each: a kind, a task, a tag, and one that is not read
-
--- the kind of a start is its call's number; every other kind, 0 or above 5, is a step
-unfoldable pub event-of : ℕ → ℕ → ℕ → Event
-event-of kind task tag =
-    if eqb kind (call-number Insert) then starts task Insert tag
-    else if eqb kind (call-number Remove) then starts task Remove tag
-    else if eqb kind (call-number Contains) then starts task Contains tag
-    else if eqb kind (call-number Grow) then starts task Grow tag
-    else if eqb kind (call-number Shrink) then starts task Shrink tag
-    else steps task
-
--- the first n events of the words
-unfoldable pub events-of : ℕ → List ℕ → List Event
-events-of zero w = []
-events-of (suc n) w = event-of (getD w 0 0) (getD w 1 0) (getD w 2 0) ∷ events-of n (drop 4 w)
+-- ---- the events that are run
 
 -- as many as there are whole events, and as have room for their outputs, three words each
 unfoldable pub room-for : List ℕ → List ℕ → ℕ
@@ -85,10 +70,6 @@ result-of r ns bs outs tags =
     }
 
 -- ---- the same for C, where the answer is one number: of tags listed, or 256 and the refusal's
-
-abbrev pub listing-number : Listing → ℕ
-listing-number (Count n) = n
-listing-number (Refused r) = 256 + r
 
 pub record CResult : Type 0 where
   pub number : ℕ

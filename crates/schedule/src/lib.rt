@@ -1,22 +1,20 @@
 // A whole schedule in one call: the opening, then starts and steps given as words, then the list.
 use lines::Moved;
-use spec::Answer;
-use spec::Call;
+use schedule_words::Asked;
 use spec::Listing;
-use spec::Output;
 use spec::State;
 ghost use mathlib.Core.Path.{_≡_};
-ghost use mathlib.Core.List.{List};
-ghost use Prim.Native.Nat.{ℕ, _*_, _+_, _≤_, _/_, _<_, min};
+ghost use Prim.Native.Nat.{_*_, _≤_};
 ghost use lib.ListN.{length};
 ghost use Rattle.spec.specs.Lists.{concat-map};
-ghost use Rattle.spec.specs.Numbers.{answer-number, output-words};
+ghost use Rattle.spec.specs.Numbers.{output-words};
 ghost use Rattle.spec.specs.Machine.{machine-of};
 ghost use Rattle.spec.specs.Words.{overwrite};
 ghost use Rattle.spec.specs.Schedule.{event, run};
 ghost use Rattle.spec.specs.Linearizable.{Linearizable};
 ghost use Rattle.lines.specs.Reply.{moved-reply};
-ghost use Rattle.schedule.specs.Encoding.{event-of, events-of, decoded, run-words, result-of, listing-number, c-result, c-result-of};
+ghost use Rattle.schedule_words.specs.Events.{event-of, events-of};
+ghost use Rattle.schedule.specs.Encoding.{decoded, run-words, result-of, c-result, c-result-of};
 
 // What a run gives: the opening's refusal, or 0; the number of events run; the state; the list's answer, in whose place the refusal
 // of an opening stands.
@@ -31,46 +29,10 @@ pub struct Outcome {
 fn one(s: State, kind: u32, task: u32, tag: u32, ns: &mut [u32], bs: &mut [u32]) -> Moved
     ensures { λ r. ⌜ moved-reply s task r (now (ns .exit)) (now (bs .exit)) ≡ event (machine-of s (now (ns .entry)) (now (bs .entry))) (event-of kind task tag) ⌝ }
 {
-    match kind {
-        1 => hashset::moved_by_start(s, task, Call::Insert, tag, ns, bs),
-        2 => hashset::moved_by_start(s, task, Call::Remove, tag, ns, bs),
-        3 => hashset::moved_by_start(s, task, Call::Contains, tag, ns, bs),
-        4 => hashset::moved_by_start(s, task, Call::Grow, tag, ns, bs),
-        5 => hashset::moved_by_start(s, task, Call::Shrink, tag, ns, bs),
-        _ => hashset::moved_by_step(s, task, ns, bs),
+    match schedule_words::asked_by(kind) {
+        Asked::Start(call) => hashset::moved_by_start(s, task, call, tag, ns, bs),
+        Asked::Step => hashset::moved_by_step(s, task, ns, bs),
     }
-}
-
-fn answer_number(a: Answer) -> u32
-    ensures { λ r. ⌜ r ≡ answer-number a ⌝ }
-{
-    match a {
-        Answer::Yes => 1,
-        Answer::No => 2,
-        Answer::Full => 3,
-        Answer::Done => 4,
-        Answer::Lost => 5,
-        Answer::Limit => 6,
-    }
-}
-
-fn output_words(out: Output) -> [u32; 3]
-    ensures { λ r. ⌜ r ≡ output-words out ⌝ }
-{
-    match out {
-        Output::At(line) => [0, line, 0],
-        Output::End(a, own) => [1, answer_number(a), own as u32],
-        Output::Refuse(why) => [2, why, 0],
-    }
-}
-
-// Writes an output's three words from this one on.
-fn write_output(outs: &mut [u32], at: usize, out: Output)
-    requires { ⌜ at + 3 ≤ length (now outs) ⌝ }
-    ensures { λ _. ⌜ now (outs .exit) ≡ overwrite (now (outs .entry)) at (output-words out) ⌝ }
-{
-    let w = output_words(out);
-    pool::write_over(&mut outs[at..], &w)
 }
 
 // Runs the first n events and writes their outputs. The state is changed in place, as `settle` of lines has it.
@@ -94,7 +56,7 @@ fn run_events(
         let k = events[at + 1];
         let m = one(t, events[at], k, events[at + 2], ns, bs);
         let out = m.out;
-        write_output(outs, 3 * i, out);
+        schedule_words::write_output(outs, i, out);
         if lines::changes(out, k) {
             t.head = m.head;
             t.last_node = m.last_node;
@@ -106,15 +68,6 @@ fn run_events(
         i = next;
     }
     t
-}
-
-// The number of events that are run: so many words of events, so many for outputs.
-fn number_of_events(events: usize, outs: usize) -> usize
-    ensures { λ r. ⌜ r ≡ min (events / 4) (outs / 3) ⌝ }
-{
-    let a = events / 4;
-    let b = outs / 3;
-    if a < b { a } else { b }
 }
 
 // Opens, runs the events that have room for their outputs, and lists.
@@ -130,7 +83,7 @@ pub fn run(
         ≡ run-words tasks (now (ns .entry)) (now (bs .entry)) (now (events .entry)) (now (outs .entry)) (now (tags .entry)) ⌝ }
     ensures linearizable { λ r. ⌜ (r .refusal ≡ 0 → Linearizable tasks (now (ns .entry)) (now (bs .entry)) (decoded (now (events .entry)) (now (outs .entry)))) ⌝ }
 {
-    let o = hashset::open(tasks, ns, bs);
+    let o = opening::open(tasks, ns, bs);
     let refusal = o.refusal;
     let s = o.state;
     if refusal != 0 {
@@ -141,24 +94,14 @@ pub fn run(
             listing: Listing::Refused(refusal),
         };
     }
-    let n = number_of_events(events.len(), outs.len());
+    let n = schedule_words::number_of_events(events.len(), outs.len());
     let t = run_events(s, n, events, ns, bs, outs);
-    let l = hashset::list(t, ns, bs, tags);
+    let l = queries::list(t, ns, bs, tags);
     Outcome {
         refusal: 0,
         ran: n,
         state: t,
         listing: l,
-    }
-}
-
-fn listing_number(l: Listing) -> u32
-    requires { ⌜ listing-number l ≤ 265 ⌝ }
-    ensures { λ r. ⌜ r ≡ listing-number l ⌝ }
-{
-    match l {
-        Listing::Count(n) => n,
-        Listing::Refused(why) => 256 + why,
     }
 }
 
@@ -177,5 +120,5 @@ pub extern "C" fn schedule_run(
 {
     let o = run(tasks, ns, bs, events, outs, tags);
     let l = o.listing;
-    listing_number(l)
+    schedule_words::listing_number(l)
 }

@@ -1,7 +1,5 @@
-// The lines of a session: `parse` reads them, `print` writes them. specs/ has the grammar, the printed lines and, in
-// Transcript, the whole output for a whole input.
-pub mod parse;
-pub mod print;
+// The lines of a session: what is read of them. specs/ has the grammar, the printed lines and, in Transcript, the whole output for a
+// whole input.
 
 use spec::Call;
 

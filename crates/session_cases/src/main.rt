@@ -26,8 +26,8 @@ fn load(name: &[u8], ending: &[u8], buf: &mut [u8]) -> usize
     ensures { λ r. ⌜ Counts r (now (buf .exit)) ⌝ }
 {
     let mut path = io::buffer();
-    let a = session::print::all_bytes(&mut path, 0, name);
-    let n = session::print::all_bytes(&mut path, a, ending);
+    let a = session_bytes::all_bytes(&mut path, 0, name);
+    let n = session_bytes::all_bytes(&mut path, a, ending);
     let fd = os::open_read(&path[..n]);
     if fd < 0 {
         return 0;

@@ -1,15 +1,14 @@
--- Laws that the proofs of the functions cite, over plain lists and numbers: the extent of a pool's part, an entry's machine put
--- back into the lent pools, the opening and the final listing over such parts. Assumes nothing.
+-- Laws that the proofs of the functions cite, over plain lists and numbers: a start or a step over the session's part of the pools,
+-- the final listing over it. Assumes nothing.
 use mathlib.Core.Path.{_≡_, refl, sym, ap, subst, _∙_}
-use mathlib.Core.List.{List, [], _++_}
+use mathlib.Core.List.{List, _++_}
 use mathlib.Core.Bool.{Bool, true, false, not, _||_}
 use lib.Dec.{ltb, leb}
-use Prim.Native.Nat.{ℕ, _+_, _-_, _*_, _<_, _≤_}
+use Prim.Native.Nat.{ℕ, _+_, _-_, _≤_}
 use native.Mathlib.Omega.{arith}
-use borrow.Author.Tests.{eq-eqb, ne-eqb, le-leb, lt-leb, ltb-false}
-use lib.ListN.{length, getD, take, drop, List·getD-eq-default, take-append-drop}
+use borrow.Author.Tests.{ltb-false}
+use lib.ListN.{length, take, drop, take-append-drop}
 use lib.Seq.{take-at}
-use Rattle.spec.specs.declared.State.{State}
 use Rattle.spec.specs.declared.Listing.{Listing}
 use Rattle.spec.specs.declared.Listing.the-variants.{Count, Refused}
 use Rattle.spec.specs.Lists.{if_then_else_}
@@ -18,82 +17,23 @@ use Rattle.spec.specs.Words.{size}
 use Rattle.spec.specs.Listed.{listed, head-of, size-of}
 use Rattle.spec.specs.Sound.{sound}
 use Rattle.spec.specs.Entries as entries
-use Rattle.spec.specs.Entries.{opening, list}
+use Rattle.spec.specs.Entries.{list}
 use Rattle.lines.specs.declared.Stepped.{Stepped}
 use Rattle.lines.specs.Reply.{reply-of}
 use Rattle.session.specs.Grammar.{InputLine}
 use Rattle.session.specs.Print.{refusal-line, output-line, listing-lines}
 use Rattle.session.specs.Transcript.{final-listing}
 use Rattle.session.specs.Buffer.{Buffer, buffer, append}
-use Rattle.session_lines.specs.declared.Phase.{Phase}
-use Rattle.session_lines.specs.declared.Phase.the-variants.{Events, Stopped}
-use Rattle.session_lines.specs.declared.Session.{Session}
-use Rattle.session_lines.specs.declared.Handled.{Handled}
-use Rattle.session_lines.specs.Handling.{session, SessionEffect, SessionHandled, LineHandled, pools-kept, extent, node-extent, bucket-extent, node-part, bucket-part, session-machine, with-machine, opened-effect, open-effect, reply-effect, phase-effect, line-effect, phase-end, end-output, phase-unclosed, unclosed-output}
+use Rattle.session_state.specs.declared.Phase.{Phase}
+use Rattle.session_state.specs.declared.Phase.the-variants.{Events, Stopped}
+use Rattle.session_state.specs.declared.Session.{Session}
+use Rattle.session_state.specs.declared.Handled.{Handled}
+use Rattle.session_state.specs.Handling.{session, LineHandled, pools-kept, node-extent, bucket-extent, node-part, session-machine, reply-effect, phase-effect, line-effect, phase-end, end-output}
+use Rattle.session_state.proofs.Laws.{handled, nothing-appended, puts-back, same-machine}
 
-abbrev pub handled : Session → ℕ → Handled
-handled s n = record { session = s; printed = n }
-
--- ---- the extent of a part
-
-module _ (width most n words : ℕ) where
-  pub extent-low : n < 1 → extent width most n words ≡ 0
-  unfolding extent
-  extent-low h = rw (lt-leb _ _ h)
-
-  pub extent-high : 1 ≤ n → most < n → extent width most n words ≡ 0
-  unfolding extent
-  extent-high l h = rw (le-leb _ _ l, lt-leb _ _ h)
-
-  pub extent-fits : 1 ≤ n → n ≤ most → width * n ≤ words → extent width most n words ≡ width * n
-  unfolding extent
-  extent-fits l h f = rw (le-leb _ _ l, le-leb _ _ h, le-leb _ _ f)
-
-  pub extent-short : 1 ≤ n → n ≤ most → words < width * n → extent width most n words ≡ 0
-  unfolding extent
-  extent-short l h f = rw (le-leb _ _ l, le-leb _ _ h, lt-leb _ _ f)
-
--- a node's size, past the pool's end too
-pub size-in : (ns : List ℕ) (k : ℕ) → getD ns (34 * k) 0 ≡ size ns k
-unfolding size
-size-in ns k = refl
-
-pub size-past : (ns : List ℕ) (k : ℕ) → length ns ≤ 34 * k → 0 ≡ size ns k
-unfolding size
-size-past ns k h = sym (List·getD-eq-default ns 0 h)
-
--- ---- nothing is printed; no word is changed
-
-pub nothing-appended : (t : Buffer) → t ≡ append [] t
-unfolding append
-nothing-appended t = refl
-
-pub keeps : (d : SessionEffect) (r : Handled) (ns bs before after : List ℕ) → SessionHandled d r before after
-    → LineHandled (pools-kept d ns bs) r ns bs before after
-unfolding pools-kept
-keeps d r ns bs before after h = record { next = h .next; nodes = refl; buckets = refl; wrote = h .wrote }
-
--- ---- an entry over the session's part of the pools
+-- ---- a start or a step over the session's part of the pools
 
 module _ (s : Session) (ns bs : List ℕ) (a b : ℕ) (ea : a ≡ node-extent s ns) (eb : b ≡ bucket-extent s bs) where
-  -- the entry's machine put back
-  puts-back : (phase : Phase) (prints : List ℕ) (y : Machine) (m : State) (n' b' : List ℕ) (count : ℕ) (before after : List ℕ)
-      → machine-of m n' b' ≡ y → buffer after count ≡ append prints (buffer before 0)
-      → LineHandled (with-machine phase prints y s ns bs) (handled (session phase (s .tasks) (s .nodes) (s .buckets) m) count) (n' ++ drop a ns) (b' ++ drop b bs) before after
-  unfolding with-machine
-  puts-back phase prints y m n' b' count before after e t =
-      record {
-        next = ap (λ (x : Machine). session phase (s .tasks) (s .nodes) (s .buckets) (x .state)) e;
-        nodes = ap (λ (x : Machine). x .nodes ++ drop a ns) e ∙ ap (λ (n : ℕ). y .nodes ++ drop n ns) ea;
-        buckets = ap (λ (x : Machine). x .buckets ++ drop b bs) e ∙ ap (λ (n : ℕ). y .buckets ++ drop n bs) eb;
-        wrote = t;
-      }
-
-  pub same-machine : machine-of (s .state) (take a ns) (take b bs) ≡ session-machine s ns bs
-  same-machine =
-      ap (λ (n : ℕ). machine-of (s .state) (take n ns) (take b bs)) ea
-      ∙ ap (λ (n : ℕ). machine-of (s .state) (take (node-extent s ns) ns) (take n bs)) eb
-
   -- a start or a step f of task k, and its printed line
   pub replies : (k : ℕ) (f : Machine → entries.Reply) (r : Stepped) (n' b' : List ℕ) (count : ℕ) (before after : List ℕ)
       → reply-of r n' b' ≡ f (machine-of (s .state) (take a ns) (take b bs))
@@ -101,9 +41,9 @@ module _ (s : Session) (ns bs : List ℕ) (a b : ℕ) (ea : a ≡ node-extent s 
       → LineHandled (reply-effect k (f (session-machine s ns bs)) s ns bs) (handled (session Events (s .tasks) (s .nodes) (s .buckets) (r .state)) count) (n' ++ drop a ns) (b' ++ drop b bs) before after
   unfolding reply-effect
   replies k f r n' b' count before after h t =
-      let g : reply-of r n' b' ≡ f (session-machine s ns bs) = h ∙ ap f same-machine in
+      let g : reply-of r n' b' ≡ f (session-machine s ns bs) = h ∙ ap f (same-machine s ns bs a b ea eb) in
       let m = f (session-machine s ns bs) in
-      puts-back Events (output-line k (m .out)) (m .machine) (r .state) n' b' count before after
+      puts-back s ns bs a b ea eb Events (output-line k (m .out)) (m .machine) (r .state) n' b' count before after
       (ap (λ (v : entries.Reply). v .machine) g)
       (t ∙ ap (λ (v : entries.Reply). append (output-line k (v .out)) (buffer before 0)) g)
 
@@ -120,39 +60,6 @@ module _ (s : Session) (ns bs : List ℕ) (a b : ℕ) (ea : a ≡ node-extent s 
         buckets = sym (take-append-drop b bs) ∙ d .buckets;
         wrote = d .wrote;
       }
-
-  -- the opening: its refusal, and what it leaves
-  module _ (m : State) (n' b' : List ℕ) (refusal : ℕ)
-      (hr : refusal ≡ opening (s .tasks) (take a ns) (take b bs) .refusal)
-      (hm : machine-of m n' b' ≡ opening (s .tasks) (take a ns) (take b bs) .machine) where
-    same-opening : opening (s .tasks) (take a ns) (take b bs) ≡ opening (s .tasks) (node-part s ns) (bucket-part s bs)
-    same-opening =
-        ap (λ (n : ℕ). opening (s .tasks) (take n ns) (take b bs)) ea
-        ∙ ap (λ (n : ℕ). opening (s .tasks) (node-part s ns) (take n bs)) eb
-
-    refusal-is : refusal ≡ opening (s .tasks) (node-part s ns) (bucket-part s bs) .refusal
-    refusal-is = hr ∙ ap (λ (o : entries.Opened). o .refusal) same-opening
-
-    machine-is : machine-of m n' b' ≡ opening (s .tasks) (node-part s ns) (bucket-part s bs) .machine
-    machine-is = hm ∙ ap (λ (o : entries.Opened). o .machine) same-opening
-
-    pub opens : (before : List ℕ) → refusal ≡ 0
-        → LineHandled (open-effect s ns bs) (handled (session Events (s .tasks) (s .nodes) (s .buckets) m) 0) (n' ++ drop a ns) (b' ++ drop b bs) before before
-    unfolding open-effect opened-effect
-    opens before z =
-        let o = opening (s .tasks) (node-part s ns) (bucket-part s bs) in
-        rw (eq-eqb (o .refusal) 0 (sym refusal-is ∙ z))
-        (puts-back Events [] (o .machine) m n' b' 0 before before machine-is (nothing-appended (buffer before 0)))
-
-    pub refuses : (count : ℕ) (before after : List ℕ) → (refusal ≡ 0 → ⊥)
-        → buffer after count ≡ append (refusal-line refusal) (buffer before 0)
-        → LineHandled (open-effect s ns bs) (handled (session Stopped (s .tasks) (s .nodes) (s .buckets) m) count) (n' ++ drop a ns) (b' ++ drop b bs) before after
-    unfolding open-effect opened-effect
-    refuses count before after n t =
-        let o = opening (s .tasks) (node-part s ns) (bucket-part s bs) in
-        rw (ne-eqb (o .refusal) 0 (λ e. n (refusal-is ∙ e)))
-        (puts-back Stopped (refusal-line (o .refusal)) (o .machine) m n' b' count before after machine-is
-        (t ∙ ap (λ (x : ℕ). append (refusal-line x) (buffer before 0)) refusal-is))
 
 -- ---- the final listing
 
@@ -227,10 +134,6 @@ module _ (s : Session) (p : Phase) (e : s .phase ≡ p) where
   pub ends : (ns bs : List ℕ) (t u : Buffer) → u ≡ append (phase-end p (session-machine s ns bs)) t → u ≡ append (end-output s ns bs) t
   unfolding end-output
   ends ns bs t u h = h ∙ ap (λ (q : Phase). append (phase-end q (session-machine s ns bs)) t) (sym e)
-
-  pub ends-unclosed : (t u : Buffer) → u ≡ append (phase-unclosed p) t → u ≡ append (unclosed-output s) t
-  unfolding unclosed-output
-  ends-unclosed t u h = h ∙ ap (λ (q : Phase). append (phase-unclosed q) t) (sym e)
 
 -- nothing is done once the session has stopped
 pub does-nothing : (s : Session) (ns bs : List ℕ) (l : InputLine) (before : List ℕ)

@@ -1,4 +1,3 @@
-pub mod Handling
 pub mod PoolLengths
 pub mod Openings
 pub mod PrintsTranscript

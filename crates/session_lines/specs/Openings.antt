@@ -16,9 +16,9 @@ use Rattle.spec.specs.Entries.{Opened, opening, pool-fits, not-opened, fresh-ma
 use Rattle.laws.specs.Tests.{and-right}
 use Rattle.laws.specs.OpeningSound.{OpeningOutcome, refused, accepted, opening-outcome}
 use Rattle.session.specs.Transcript.{pool-words}
-use Rattle.session_lines.specs.declared.Phase.{Phase}
-use Rattle.session_lines.specs.declared.Session.{Session}
-use Rattle.session_lines.specs.Handling.{extent, node-extent, bucket-extent, session-machine, with-machine}
+use Rattle.session_state.specs.declared.Phase.{Phase}
+use Rattle.session_state.specs.declared.Session.{Session}
+use Rattle.session_state.specs.Handling.{extent, node-extent, bucket-extent, session-machine, with-machine}
 
 -- ---- the part of a pool
 

@@ -20,8 +20,8 @@ use Rattle.session.specs.Keys.{tasks-key, nodes-key, buckets-key}
 use Rattle.session.specs.Grammar.{InputLine, parse-header-line, parse-event-line}
 use Rattle.session.specs.Print.{refusal-line, output-line}
 use Rattle.session.specs.Transcript.{add-event, events, is-event, all-events, task-in, output-lines, end-lines, ran-lines, event-lines, pool-words, session-opening, opened-lines, header-of, read-header, header-lines, lines-transcript}
-use Rattle.session_lines.specs.declared.Phase.the-variants.{Tasks, Nodes, Buckets, Events, Stopped}
-use Rattle.session_lines.specs.Handling.{session, new-session, pools-kept, stopped, tasks-effect, nodes-effect, node-extent, bucket-extent, node-part, bucket-part, session-machine, with-machine, opened-effect, open-effect, buckets-effect, reply-effect, event-effect, phase-effect, line-effect, phase-end, end-output, lines-output}
+use Rattle.session_state.specs.declared.Phase.the-variants.{Tasks, Nodes, Buckets, Events, Stopped}
+use Rattle.session_state.specs.Handling.{session, new-session, pools-kept, stopped, tasks-effect, nodes-effect, node-extent, bucket-extent, node-part, bucket-part, session-machine, with-machine, opened-effect, open-effect, buckets-effect, reply-effect, event-effect, phase-effect, line-effect, phase-end, end-output, lines-output}
 use Rattle.session_lines.specs.PoolLengths.{event-lengths}
 use Rattle.session_lines.specs.Openings.{part-length, part-words, machine-back, Alike, opening-same, opening-lengths}
 

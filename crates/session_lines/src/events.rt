@@ -5,11 +5,11 @@ ghost use Rattle.session.specs.Grammar.{closed-line, parse-event-line};
 ghost use Rattle.session.specs.Buffer.{buffer, append};
 ghost use Rattle.session.specs.Transcript.{final-listing};
 ghost use Rattle.spec.specs.Entries.{start as start-of, step as step-of, list as list-of};
-ghost use Rattle.session_lines.specs.Handling.{session-machine, reply-effect, event-effect, LineHandled};
-use crate::Handled;
-use crate::Phase;
-use crate::Session;
+ghost use Rattle.session_state.specs.Handling.{session-machine, reply-effect, event-effect, LineHandled};
 use session::EventLine;
+use session_state::Handled;
+use session_state::Phase;
+use session_state::Session;
 use spec::Call;
 use spec::Listing;
 
@@ -25,13 +25,13 @@ fn start_task(
 ) -> Handled
     ensures { λ r. ⌜ LineHandled (reply-effect k (start-of (session-machine s (now (ns .entry)) (now (bs .entry))) k call tag) s (now (ns .entry)) (now (bs .entry))) r (now (ns .entry)) (now (bs .entry)) (now (out .entry)) (now (out .exit)) ⌝ }
 {
-    let a = crate::pools::node_extent(s.nodes, ns.len());
-    let b = crate::pools::bucket_extent(s.buckets, bs.len());
+    let a = session_state::pools::node_extent(s.nodes, ns.len());
+    let b = session_state::pools::bucket_extent(s.buckets, bs.len());
     let before = s.state;
     let d = lent::begin(before, k, call, tag, &ns[..a], &bs[..b]);
     let answered = d.out;
     let m = d.state;
-    let c = session::print::output(out, 0, k, answered);
+    let c = session_print::output(out, 0, k, answered);
     let next = Session {
         phase: Phase::Events,
         tasks: s.tasks,
@@ -49,13 +49,13 @@ fn start_task(
 fn step_task(s: Session, k: u32, ns: &mut [u32], bs: &mut [u32], out: &mut [u8]) -> Handled
     ensures { λ r. ⌜ LineHandled (reply-effect k (step-of (session-machine s (now (ns .entry)) (now (bs .entry))) k) s (now (ns .entry)) (now (bs .entry))) r (now (ns .exit)) (now (bs .exit)) (now (out .entry)) (now (out .exit)) ⌝ }
 {
-    let a = crate::pools::node_extent(s.nodes, ns.len());
-    let b = crate::pools::bucket_extent(s.buckets, bs.len());
+    let a = session_state::pools::node_extent(s.nodes, ns.len());
+    let b = session_state::pools::bucket_extent(s.buckets, bs.len());
     let before = s.state;
     let d = lent::turn(before, k, &mut ns[..a], &mut bs[..b]);
     let answered = d.out;
     let m = d.state;
-    let c = session::print::output(out, 0, k, answered);
+    let c = session_print::output(out, 0, k, answered);
     let next = Session {
         phase: Phase::Events,
         tasks: s.tasks,
@@ -78,10 +78,10 @@ pub fn event_line(
 ) -> Handled
     ensures { λ r. ⌜ LineHandled (event-effect s (parse-event-line (closed-line (now (line .entry)))) (now (ns .entry)) (now (bs .entry))) r (now (ns .exit)) (now (bs .exit)) (now (out .entry)) (now (out .exit)) ⌝ }
 {
-    match session::parse::event_line(line) {
+    match session_parse::event_line(line) {
         EventLine::Start(k, call, tag) => start_task(s, k, call, tag, ns, bs, out),
         EventLine::Step(k) => step_task(s, k, ns, bs, out),
-        EventLine::Outside => crate::stop(s, 10, out),
+        EventLine::Outside => session_state::stop(s, out),
     }
 }
 
@@ -89,18 +89,18 @@ pub fn event_line(
 pub fn listing(s: Session, ns: &[u32], bs: &[u32], out: &mut [u8]) -> usize
     ensures { λ r. ⌜ buffer (now (out .exit)) r ≡ append (final-listing (session-machine s (now (ns .entry)) (now (bs .entry))) (list-of (session-machine s (now (ns .entry)) (now (bs .entry))) (replicate 64 0) .says)) (buffer (now (out .entry)) 0) ⌝ }
 {
-    let a = crate::pools::node_extent(s.nodes, ns.len());
-    let b = crate::pools::bucket_extent(s.buckets, bs.len());
+    let a = session_state::pools::node_extent(s.nodes, ns.len());
+    let b = session_state::pools::bucket_extent(s.buckets, bs.len());
     let m = s.state;
     let head = m.head;
-    let size = crate::pools::node_size(&ns[..a], head);
+    let size = session_state::pools::node_size(&ns[..a], head);
     let mut w = [0u32; 64];
-    let listed = hashset::list(m, &ns[..a], &bs[..b], &mut w);
+    let listed = queries::list(m, &ns[..a], &bs[..b], &mut w);
     match listed {
         Listing::Count(n) => {
             let e = n as usize;
-            session::print::listing(out, 0, size, &w[..e])
+            session_print::listing(out, 0, size, &w[..e])
         }
-        Listing::Refused(r) => session::print::refusal(out, 0, r),
+        Listing::Refused(r) => session_bytes::refusal(out, 0, r),
     }
 }

@@ -1,4 +1,4 @@
--- Laws of a line that is not closed yet and of a session's progress, over plain lists and numbers, that the proofs of the
+-- Laws of a session's progress, over plain lists and numbers, that the proofs of the
 -- functions cite. Assumes nothing.
 use mathlib.Core.Path.{_≡_, refl, sym, ap, subst, _∙_}
 use mathlib.Core.List.{List, [], _∷_, _++_, append-nil}
@@ -6,7 +6,7 @@ use mathlib.Core.Bool.{Bool, true, false}
 use Prim.Native.Nat.{ℕ, _+_, _-_, _≤_, _<_}
 use native.Mathlib.Numerals.{add-one}
 use native.Mathlib.Omega.{arith}
-use borrow.Author.Tests.{eq-eqb, ne-eqb, lt-ltb, le-ltb}
+use borrow.Author.Tests.{eq-eqb, ne-eqb}
 use lib.Dec.{eqb}
 use lib.ListN.{length, getD, take, drop, set, length-append, length-drop, drop-of-length-le}
 use lib.Seq.{take-all, take-suc, length-take-le}
@@ -16,29 +16,17 @@ use Rattle.session.specs.Grammar.{closed-line}
 use Rattle.session.specs.Buffer.{Buffer, buffer, append, Written}
 use Rattle.session.specs.BufferLaws.{append-both, behind, append-rest, append-written, append-within}
 use Rattle.session.specs.Transcript.{transcript}
-use Rattle.session_lines.specs.declared.Session.{Session}
-use Rattle.session_lines.specs.declared.Handled.{Handled}
-use Rattle.session_lines.specs.Handling.{LineEffect, new-session, line-effect, end-output, unclosed-output, LineHandled}
-use Rattle.session_stream.specs.declared.PartialLine.{PartialLine}
+use Rattle.session_state.specs.declared.Session.{Session}
+use Rattle.session_state.specs.declared.Handled.{Handled}
+use Rattle.session_state.specs.PartialLines.{partial, empty-line, line-bytes, pushed}
+use Rattle.session_state.specs.Handling.{LineEffect, new-session, line-effect, end-output, unclosed-output, LineHandled}
+use Rattle.session_state.specs.declared.partial_line.PartialLine.{PartialLine}
 use Rattle.session_stream.specs.declared.Fed.{Fed}
-use Rattle.session_stream.specs.Stream.{partial, empty-line, line-bytes, pushed, Progress, begin, handled, kept, feed, feeds, stream-end, stream-output, streamed, FedAs, EndedAs}
+use Rattle.session_stream.specs.Stream.{Progress, begin, handled, kept, feed, feeds, stream-end, stream-output, streamed, FedAs, EndedAs}
 use Rattle.session_stream.specs.PrintsTranscript.{stream-prints-transcript}
 
 abbrev pub fed : Session → PartialLine → ℕ → Fed
 fed s h n = record { session = s; line = h; printed = n }
-
--- ---- a line that is not closed yet
-
-pub all-kept : (b : List ℕ) (n : ℕ) → length b ≡ 41 → 41 ≤ n → take 41 b ≡ take n b
-all-kept b n e h = take-all 41 b (omega arith) ∙ sym (take-all n b (omega arith))
-
-pub push-in : (h : PartialLine) (x : ℕ) → h .len < 41 → partial (set (h .bytes) (h .len) x) (h .len + 1) ≡ pushed h x
-unfolding pushed
-push-in h x l = rw (lt-ltb _ _ l)
-
-pub push-full : (h : PartialLine) (x : ℕ) → 41 ≤ h .len → h ≡ pushed h x
-unfolding pushed
-push-full h x l = rw (le-ltb _ _ l)
 
 -- ---- one byte
 
@@ -47,20 +35,20 @@ unfolding append
 nothing-appended t = refl
 
 module _ (s : Session) (h : PartialLine) (ns bs : List ℕ) where
-  pub feeds-line : (x n : ℕ) (r : Handled) (n' b' before after : List ℕ) → x ≡ 10 → take n (h .bytes) ≡ line-bytes h
+  pub feeds-line : (x n : ℕ) (r : Handled) (n' b' before after : List ℕ) → eqb x newline ≡ true → take n (h .bytes) ≡ line-bytes h
       → LineHandled (line-effect s ns bs (closed-line (take n (h .bytes)))) r n' b' before after
       → FedAs (feed (begin s h ns bs) x) (fed (r .session) (partial (h .bytes) 0) (r .printed)) n' b' before after
   unfolding feed handled
   feeds-line x n r n' b' before after z e d =
       let f : LineHandled (line-effect s ns bs (closed-line (line-bytes h))) r n' b' before after =
       subst (λ (w : List ℕ). LineHandled (line-effect s ns bs (closed-line w)) r n' b' before after) e d in
-      rw (eq-eqb _ _ z) (record { session = f .next; line = refl; nodes = f .nodes; buckets = f .buckets; wrote = f .wrote })
+      rw z (record { session = f .next; line = refl; nodes = f .nodes; buckets = f .buckets; wrote = f .wrote })
 
-  pub feeds-byte : (x : ℕ) (q : PartialLine) (before : List ℕ) → (x ≡ 10 → ⊥) → q ≡ pushed h x
+  pub feeds-byte : (x : ℕ) (q : PartialLine) (before : List ℕ) → eqb x newline ≡ false → q ≡ pushed h x
       → FedAs (feed (begin s h ns bs) x) (fed s q 0) ns bs before before
   unfolding feed kept
   feeds-byte x q before z e =
-      rw (ne-eqb _ _ z) (record { session = refl; line = e; nodes = refl; buckets = refl; wrote = nothing-appended (buffer before 0) })
+      rw z (record { session = refl; line = e; nodes = refl; buckets = refl; wrote = nothing-appended (buffer before 0) })
 
   module _ (n : ℕ) (t u : Buffer) (e : length (h .bytes) ≡ 41) (l : n ≤ 41) (f : take n (h .bytes) ≡ line-bytes h) where
     bytes-count : length (line-bytes h) ≡ n

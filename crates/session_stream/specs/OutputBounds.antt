@@ -23,11 +23,12 @@ use Rattle.session.specs.Grammar.{InputLine, closed-line}
 use Rattle.session.specs.Print.{refusal-line}
 use Rattle.session.specs.Transcript.{final-listing, transcript}
 use Rattle.session.specs.OutputLengths.{refusal-length, output-length, listing-length}
-use Rattle.session_lines.specs.declared.Phase.{Phase}
-use Rattle.session_lines.specs.declared.Phase.the-variants.{Tasks, Nodes, Buckets, Events, Stopped}
-use Rattle.session_lines.specs.declared.Session.{Session}
-use Rattle.session_lines.specs.Handling.{new-session, session, session-machine, pools-kept, stopped, tasks-effect, nodes-effect, with-machine, opened-effect, open-effect, buckets-effect, reply-effect, event-effect, phase-effect, line-effect, phase-end, end-output, phase-unclosed, unclosed-output}
-use Rattle.session_stream.specs.Stream.{empty-line, line-bytes, Progress, begin, handled, kept, feed, feeds, stream-end, stream-output, streamed}
+use Rattle.session_state.specs.declared.Phase.{Phase}
+use Rattle.session_state.specs.declared.Phase.the-variants.{Tasks, Nodes, Buckets, Events, Stopped}
+use Rattle.session_state.specs.declared.Session.{Session}
+use Rattle.session_state.specs.PartialLines.{empty-line, line-bytes}
+use Rattle.session_state.specs.Handling.{new-session, session, session-machine, pools-kept, stopped, tasks-effect, nodes-effect, with-machine, opened-effect, open-effect, buckets-effect, reply-effect, event-effect, phase-effect, line-effect, phase-end, end-output, phase-unclosed, unclosed-output}
+use Rattle.session_stream.specs.Stream.{Progress, begin, handled, kept, feed, feeds, stream-end, stream-output, streamed}
 use Rattle.session_stream.specs.PrintsTranscript.{stream-prints-transcript}
 
 -- ---- a line

@@ -16,13 +16,14 @@ use Rattle.session.specs.declared.EventLine.{EventLine}
 use Rattle.session.specs.Keys.{newline, tasks-key, nodes-key, buckets-key}
 use Rattle.session.specs.Grammar.{InputLine, closed-line, open-line, split-lines, input-lines, admissible, parse-header-line, parse-event-line}
 use Rattle.session.specs.Transcript.{transcript}
-use Rattle.session_lines.specs.declared.Phase.{Phase}
-use Rattle.session_lines.specs.declared.Phase.the-variants.{Tasks, Nodes, Buckets, Events, Stopped}
-use Rattle.session_lines.specs.declared.Session.{Session}
-use Rattle.session_lines.specs.Handling.{LineEffect, new-session, session-machine, pools-kept, stopped, tasks-effect, nodes-effect, buckets-effect, event-effect, phase-effect, line-effect, phase-end, end-output, phase-unclosed, unclosed-output, lines-output}
+use Rattle.session_state.specs.declared.Phase.{Phase}
+use Rattle.session_state.specs.declared.Phase.the-variants.{Tasks, Nodes, Buckets, Events, Stopped}
+use Rattle.session_state.specs.declared.Session.{Session}
+use Rattle.session_state.specs.PartialLines.{partial, empty-line, line-bytes, pushed}
+use Rattle.session_state.specs.Handling.{LineEffect, new-session, session-machine, pools-kept, stopped, tasks-effect, nodes-effect, buckets-effect, event-effect, phase-effect, line-effect, phase-end, end-output, phase-unclosed, unclosed-output, lines-output}
 use Rattle.session_lines.specs.PrintsTranscript.{lines-print-transcript}
-use Rattle.session_stream.specs.declared.PartialLine.{PartialLine}
-use Rattle.session_stream.specs.Stream.{partial, empty-line, line-bytes, pushed, Progress, begin, handled, kept, feed, feeds, stream-end, stream-output, streamed}
+use Rattle.session_state.specs.declared.partial_line.PartialLine.{PartialLine}
+use Rattle.session_stream.specs.Stream.{Progress, begin, handled, kept, feed, feeds, stream-end, stream-output, streamed}
 
 -- ---- 41 bytes of a line say as much as all of it
 

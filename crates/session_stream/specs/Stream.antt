@@ -1,34 +1,19 @@
 -- A session, one byte of its input at a time, with at most 41 bytes of a line kept: the definitions that the code is held to.
 -- That they print the paper's transcript is shown in PrintsTranscript. Assumes nothing.
-use Prim.Native.Nat.{ℕ, _+_}
+use Prim.Native.Nat.{ℕ}
 use mathlib.Core.Path.{_≡_}
 use mathlib.Core.List.{List, [], _∷_, _++_}
-use lib.Dec.{ltb, eqb}
-use lib.ListN.{length, take, set, replicate}
+use lib.Dec.{eqb}
+use lib.ListN.{length}
 use Rattle.spec.specs.Lists.{if_then_else_}
 use Rattle.session.specs.Keys.{newline}
 use Rattle.session.specs.Grammar.{closed-line}
 use Rattle.session.specs.Buffer.{buffer, append, Written}
-use Rattle.session_lines.specs.declared.Session.{Session}
-use Rattle.session_lines.specs.Handling.{LineEffect, new-session, line-effect, end-output, unclosed-output}
-use Rattle.session_stream.specs.declared.PartialLine.{PartialLine}
+use Rattle.session_state.specs.declared.Session.{Session}
+use Rattle.session_state.specs.Handling.{LineEffect, new-session, line-effect, end-output, unclosed-output}
+use Rattle.session_state.specs.declared.partial_line.PartialLine.{PartialLine}
+use Rattle.session_state.specs.PartialLines.{partial, empty-line, line-bytes, pushed}
 use Rattle.session_stream.specs.declared.Fed.{Fed}
-
--- ---- a line that is not closed yet
-
-abbrev pub partial : List ℕ → ℕ → PartialLine
-partial bytes len = record { bytes = bytes; len = len }
-
-unfoldable pub empty-line : PartialLine
-empty-line = partial (replicate 41 0) 0
-
--- the line's bytes so far
-abbrev pub line-bytes : PartialLine → List ℕ
-line-bytes h = take (h .len) (h .bytes)
-
--- one byte more. A line of 41 bytes is too long however it goes on
-unfoldable pub pushed : PartialLine → ℕ → PartialLine
-pushed h x = if ltb (h .len) 41 then partial (set (h .bytes) (h .len) x) (h .len + 1) else h
 
 -- ---- a session in the middle of its input
 

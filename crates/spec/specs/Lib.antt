@@ -13,5 +13,5 @@ pub mod Schedule
 pub mod History
 pub mod Linearizable
 pub mod Everything
-pub mod Cases
+pub mod Rows
 pub mod OurCases

@@ -3,6 +3,7 @@
 use Prim.Native.Nat.{ℕ, _*_}
 use mathlib.Core.Path.{_≡_, refl}
 use mathlib.Core.List.{List, [], _∷_, _++_, map}
+use mathlib.Core.Bool.{true, false}
 use lib.ListN.{replicate}
 use Rattle.spec.specs.declared.Answer.the-variants.{Yes, No, Full, Done, Lost}
 use Rattle.spec.specs.declared.Call.the-variants.{Insert, Remove, Contains, Grow, Shrink}
@@ -10,14 +11,14 @@ use Rattle.spec.specs.declared.Output.{Output}
 use Rattle.spec.specs.declared.Output.the-variants.{At, End, Refuse}
 use Rattle.spec.specs.declared.Listing.{Listing}
 use Rattle.spec.specs.declared.Listing.the-variants.{Count, Refused}
-use Rattle.spec.specs.Lists.{range}
 use Rattle.spec.specs.Machine.{Machine, with-own, set-task, task-of}
+use Rattle.spec.specs.Plain.{insert-answer}
 use Rattle.spec.specs.Entries.{opening, list, show, step}
 use Rattle.spec.specs.Schedule.{Event, run}
 use Rattle.spec.specs.Everything.{everything}
-use Rattle.spec.specs.Cases.{Case, expected, observed, stepping, calling, inserting, times, in-three, filling, first-grow, grow-to-24, grow-filling}
+use Rattle.spec.specs.Rows.{Case, expected, observed, stepping, calling, times, in-three, filling, first-grow, grow-to-24, grow-filling}
 
--- ---- openings: T, the pools' words, and the refusal
+-- ---- openings: T, the pools' words, and the refusal (the bounds of the bucket pool, 67,584 words and more, are in `cases`)
 
 pub record Sized : Type 0 where
   pub tasks : ℕ
@@ -35,7 +36,7 @@ unfoldable pub openings : List Sized
 openings =
     sized 0 34 66 1 ∷ sized 9 34 66 1 ∷ sized 8 34 66 0
     ∷ sized 1 (34 * 64) 66 0 ∷ sized 1 (34 * 65) 66 2 ∷ sized 1 0 66 2 ∷ sized 1 35 66 2
-    ∷ sized 1 34 (66 * 1024) 0 ∷ sized 1 34 (66 * 1025) 3 ∷ sized 1 34 0 3 ∷ sized 1 34 65 3 ∷ []
+    ∷ sized 1 34 (66 * 2) 0 ∷ sized 1 34 0 3 ∷ sized 1 34 65 3 ∷ []
 
 pub openings-hold : map refusal-of openings ≡ map (λ s. s .refusal) openings
 unfolding everything refusal-of openings
@@ -49,6 +50,12 @@ listing n = list (opening 1 (replicate 34 7) (replicate 66 7) .machine) (replica
 pub listings : map listing (64 ∷ 63 ∷ []) ≡ Count 0 ∷ Refused 9 ∷ []
 unfolding everything listing
 listings = refl
+
+-- ---- full from 64 tags on, whether the tag is there or not
+
+pub full-from-64 : map (λ n. insert-answer n false) (63 ∷ 64 ∷ []) ++ map (λ n. insert-answer n true) (63 ∷ 64 ∷ []) ≡ Yes ∷ Full ∷ No ∷ Full ∷ []
+unfolding insert-answer
+full-from-64 = refl
 
 -- ---- schedules
 
@@ -190,18 +197,6 @@ ours =
       tags = 5 ∷ [];
     }
     ∷
-    -- with 64 tags an insert of a tag that is there ends full too
-    record {
-      tasks = 1;
-      nodes = 1;
-      buckets = 1;
-      events = inserting 1 64 ++ calling 0 Insert 1 3;
-      outs = times 64 (in-three (End Yes 3)) ++ in-three (End Full 3);
-      head = 0;
-      size = 1;
-      tags = range 1 64;
-    }
-    ∷
     -- the head's predecessor is held, besides task 0's node
     record {
       tasks = 2;
@@ -228,7 +223,7 @@ ours =
     ∷ []
 
 pub ours-hold : map observed ours ≡ map expected ours
-unfolding everything expected observed stepping calling inserting times in-three filling first-grow grow-to-24 grow-filling insert-to-49 insert-filling grow-to-28 ours
+unfolding everything expected observed stepping calling times in-three filling first-grow grow-to-24 grow-filling insert-to-49 insert-filling grow-to-28 ours
 ours-hold = refl
 
 -- ---- single words of the state

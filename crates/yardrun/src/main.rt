@@ -2,8 +2,8 @@
 // and the two pools.
 ghost use mathlib.Core.Path.{_≡_};
 ghost use lib.ListN.{length};
-use session_lines::Session;
-use session_stream::PartialLine;
+use session_state::Session;
+use session_state::partial_line::PartialLine;
 
 // 64 nodes of 34 words. The `ensures` gives the length, which lending the array needs.
 fn node_words() -> [u32; 2176]
@@ -75,8 +75,8 @@ fn finish(s: Session, h: PartialLine, ns: &[u32], bs: &[u32]) {
 // Reads until the input ends. A proved loop has to end, and nothing says that an input does, so the reads are counted down from a
 // number that no run uses up.
 fn run(ns: &mut [u32], bs: &mut [u32]) {
-    let mut s = session_lines::new_session();
-    let mut h = session_stream::empty_line();
+    let mut s = session_state::new_session();
+    let mut h = session_state::partial_line::empty_line();
     let mut left: u64 = 18446744073709551615;
     while 0 < left {
         let k = read_some(s, h, ns, bs);

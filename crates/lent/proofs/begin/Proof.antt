@@ -62,10 +62,10 @@ use Rattle.lent.proofs.start as start
 use Rattle.lent.proofs.start.Symbol as start-def
 use Rattle.lent.proofs.start.Symbol.{name as #lent·start}
 use Rattle.lent.proofs.start.Met as start-thm
-use Rattle.lent.proofs.stepped as stepped
-use Rattle.lent.proofs.stepped.Symbol as stepped-def
-use Rattle.lent.proofs.stepped.Symbol.{name as #lent·stepped}
-use Rattle.lent.proofs.stepped.Met as stepped-thm
+use Rattle.lent_parts.proofs.stepped as stepped
+use Rattle.lent_parts.proofs.stepped.Symbol as stepped-def
+use Rattle.lent_parts.proofs.stepped.Symbol.{name as #lent-parts·stepped}
+use Rattle.lent_parts.proofs.stepped.Met as stepped-thm
 use Rattle.lent.proofs.begin.Key.{name as #lent·begin}
 use Rattle.lent.proofs.begin as begin
 use Rattle.lent.proofs.begin.Statement as stated
@@ -148,7 +148,7 @@ module _ {M : Type 1} (𝓤 : URA M) (H : Heap 𝓤) (A : Atoms 𝓤) (W : Given
   answers : (d : Stepped) (p : Output) (t : State) → Did p t → (d .out ≡ p) × (d .state ≡ t) → Answers d
   answers d p t e e₁ = (λ i. answered (e₁ .0 i) (e₁ .1 i) ys zs) ∙ e
 
-  module _ (C : Calls 𝓤 H) (Λ : Loops 𝓤 H) (fm : FmC 𝓤 H (W .laws) C) (known-start : Triple 𝓤 (C #lent·start) (StartC 𝓤 H A mm run)) (known-stepped : Triple 𝓤 (C #lent·stepped) (SteppedC 𝓤 H A mm run)) where
+  module _ (C : Calls 𝓤 H) (Λ : Loops 𝓤 H) (fm : FmC 𝓤 H (W .laws) C) (known-start : Triple 𝓤 (C #lent·start) (StartC 𝓤 H A mm run)) (known-stepped : Triple 𝓤 (C #lent-parts·stepped) (SteppedC 𝓤 H A mm run)) where
     walk : Is S.the-row h (machine-value h ∷ []) → Room u32 (length ys) → Room u32 (length zs) → ent 𝓤 (onEntry 𝓤 H A begin.signature (κ₁, (κ₂, tt)) (q₁, (q₂, tt)) a at) (WpFn 𝓤 H C Λ code.function (machine-value h ∷ vint w32 k ∷ call-value call ∷ vint w32 tag ∷ s₁ ∷ s₂ ∷ []) Post)
     unfolding partOf
     walk is room₁ room₂ =
@@ -195,7 +195,7 @@ module _ {M : Type 1} (𝓤 : URA M) (H : Heap 𝓤) (A : Atoms 𝓤) (W : Given
         keep ! (0 ∷ 1 ∷ 2 ∷ 3 ∷ []) $ by ! (exits is d w (answers d p (ws .0) e e₁))))))))))))))))))))))))))
 
 module _ {M : Type 1} (𝓤 : URA M) (H : Heap 𝓤) (A : Atoms 𝓤) (W : Given 𝓤 H A) (mm : Memory → SProp 𝓤) (run : Routine → Fun 𝓤) where
-  begin-walks : (C : Calls 𝓤 H) (Λ : Loops 𝓤 H) → FmC 𝓤 H (W .laws) C → Triple 𝓤 (C #lent·start) (StartC 𝓤 H A mm run) → Triple 𝓤 (C #lent·stepped) (SteppedC 𝓤 H A mm run)
+  begin-walks : (C : Calls 𝓤 H) (Λ : Loops 𝓤 H) → FmC 𝓤 H (W .laws) C → Triple 𝓤 (C #lent·start) (StartC 𝓤 H A mm run) → Triple 𝓤 (C #lent-parts·stepped) (SteppedC 𝓤 H A mm run)
       → Walks 𝓤 H A begin.ended stayed (WpFn 𝓤 H C Λ code.function) (begin.clauses 𝓤 H A mm run)
   begin-walks C Λ fm known-start known-stepped = walked 𝓤 H A begin.ended stayed (begin.clauses 𝓤 H A mm run) (WpFn 𝓤 H C Λ code.function)
       (λ κs. (Struct.vals S.the-type S′.the-laws, (uint-vals w32, (Enum.vals K.the-type K′.the-laws, (uint-vals w32, (slice-vals, (slice-vals, tt)))))))
@@ -208,7 +208,7 @@ module _ {M : Type 1} (𝓤 : URA M) (H : Heap 𝓤) (A : Atoms 𝓤) (W : Given
   goes = (goes-none 𝓤 H A W 2 (λ _. S.the-row) yes (λ κs x f. refl), (goes-none 𝓤 H A W 2 (λ _. u32) yes (λ κs x f. refl), (goes-none 𝓤 H A W 2 (λ _. K.the-row) yes (λ κs x f. refl), (goes-none 𝓤 H A W 2 (λ _. u32) yes (λ κs x f. refl), (goes-none-slice 𝓤 H A W 2 (0 ∷ []) tt (plain (λ _. u32)) yes, (goes-none-slice 𝓤 H A W 2 (1 ∷ []) tt (plain (λ _. u32)) yes, tt))))))
 
 begin-meets : {M : Type 1} (𝓤 : URA M) (H : Heap 𝓤) (A : Atoms 𝓤) → Given 𝓤 H A → (mm : Memory → SProp 𝓤) (run : Routine → Fun 𝓤) (𝓣 : Tables 𝓤 H)
-    → Triple 𝓤 (𝓣 .C #lent·start) (StartC 𝓤 H A mm run) → Triple 𝓤 (𝓣 .C #lent·stepped) (SteppedC 𝓤 H A mm run)
+    → Triple 𝓤 (𝓣 .C #lent·start) (StartC 𝓤 H A mm run) → Triple 𝓤 (𝓣 .C #lent-parts·stepped) (SteppedC 𝓤 H A mm run)
     → Meets 𝓤 H A begin.signature (WpFn 𝓤 H (𝓣 .C) (𝓣 .Λ) code.function) (begin.spec 𝓤 H A mm run)
 begin-meets 𝓤 H A W mm run 𝓣 known-start known-stepped = walk-meets 𝓤 H A begin.ended stayed W (goes 𝓤 H A W mm run) (begin.clauses 𝓤 H A mm run) (WpFn 𝓤 H (𝓣 .C) (𝓣 .Λ) code.function) (WpFn-mono 𝓤 H (W .laws) 𝓣 code.function)
     (begin-walks 𝓤 H A W mm run (𝓣 .C) (𝓣 .Λ) (fmOf 𝓤 H (W .laws) 𝓣) known-start known-stepped)
@@ -220,4 +220,4 @@ begin-spec 𝓤 H 𝓜 𝓖 𝓡 =
     (tables 𝓤 H 𝓜 𝓡 code.env .C) (tables 𝓤 H 𝓜 𝓡 code.env .Λ) #lent·begin code.function (code.unfolded 𝓤 H 𝓜 𝓡)
     (begin-meets 𝓤 H (𝓖 .A) (givenOf 𝓤 H 𝓜 𝓖) (𝓜 .mem) (𝓡 .run) (tablesOf 𝓤 H 𝓜 (tables 𝓤 H 𝓜 𝓡 code.env))
     (cited 𝓤 H (StartC 𝓤 H (𝓖 .A) (𝓜 .mem) (𝓡 .run)) 𝓜 𝓡 code.env #lent·start start-def.routine code.calls-lent·start (start-thm.met 𝓤 H 𝓜 𝓖 𝓡))
-    (cited 𝓤 H (SteppedC 𝓤 H (𝓖 .A) (𝓜 .mem) (𝓡 .run)) 𝓜 𝓡 code.env #lent·stepped stepped-def.routine code.calls-lent·stepped (stepped-thm.met 𝓤 H 𝓜 𝓖 𝓡)))
+    (cited 𝓤 H (SteppedC 𝓤 H (𝓖 .A) (𝓜 .mem) (𝓡 .run)) 𝓜 𝓡 code.env #lent-parts·stepped stepped-def.routine code.calls-lent-parts·stepped (stepped-thm.met 𝓤 H 𝓜 𝓖 𝓡)))

@@ -62,14 +62,14 @@ use Rattle.hashset.proofs.start.Symbol as core-def
 use Rattle.hashset.proofs.start.Symbol.{name as #hashset·start}
 use Rattle.hashset.proofs.start.Met as core-thm
 use Rattle.lent.proofs.Parts.{local, machine-value, call-value, StateC, OutC, state-said, out-said, to-state, goes-state, to-out, goes-out, state-typed, stepped-typed, out-typed, call-typed}
-use Rattle.lent.proofs.state_of as state-of
-use Rattle.lent.proofs.state_of.Symbol as state-of-def
-use Rattle.lent.proofs.state_of.Symbol.{name as #lent·state-of}
-use Rattle.lent.proofs.state_of.Met as state-of-thm
-use Rattle.lent.proofs.out_of as out-of
-use Rattle.lent.proofs.out_of.Symbol as out-of-def
-use Rattle.lent.proofs.out_of.Symbol.{name as #lent·out-of}
-use Rattle.lent.proofs.out_of.Met as out-of-thm
+use Rattle.lent_parts.proofs.state_of as state-of
+use Rattle.lent_parts.proofs.state_of.Symbol as state-of-def
+use Rattle.lent_parts.proofs.state_of.Symbol.{name as #lent-parts·state-of}
+use Rattle.lent_parts.proofs.state_of.Met as state-of-thm
+use Rattle.lent_parts.proofs.out_of as out-of
+use Rattle.lent_parts.proofs.out_of.Symbol as out-of-def
+use Rattle.lent_parts.proofs.out_of.Symbol.{name as #lent-parts·out-of}
+use Rattle.lent_parts.proofs.out_of.Met as out-of-thm
 use Rattle.lent.proofs.start.Key.{name as #lent·start}
 use Rattle.lent.proofs.start as start
 use Rattle.lent.proofs.start.Statement as stated
@@ -156,7 +156,7 @@ module _ {M : Type 1} (𝓤 : URA M) (H : Heap 𝓤) (A : Atoms 𝓤) (W : Given
   answers : (d : Stepped) (p : Output) (t : State) → Did d → t ≡ d .state → p ≡ d .out → Answers p t
   answers d p t e e₁ e₂ = (λ i. answered (e₂ i) (e₁ i) ys zs) ∙ e
 
-  module _ (C : Calls 𝓤 H) (Λ : Loops 𝓤 H) (fm : FmC 𝓤 H (W .laws) C) (known-core : Triple 𝓤 (C #hashset·start) (CoreC 𝓤 H A mm run)) (known-state : Triple 𝓤 (C #lent·state-of) (StateC 𝓤 H A mm run)) (known-out : Triple 𝓤 (C #lent·out-of) (OutC 𝓤 H A mm run)) where
+  module _ (C : Calls 𝓤 H) (Λ : Loops 𝓤 H) (fm : FmC 𝓤 H (W .laws) C) (known-core : Triple 𝓤 (C #hashset·start) (CoreC 𝓤 H A mm run)) (known-state : Triple 𝓤 (C #lent-parts·state-of) (StateC 𝓤 H A mm run)) (known-out : Triple 𝓤 (C #lent-parts·out-of) (OutC 𝓤 H A mm run)) where
     walk : Room u32 (length ys) → Room u32 (length zs) → ent 𝓤 (onEntry 𝓤 H A start.signature κs (q, (q₁, (q₂, tt))) a at) (WpFn 𝓤 H C Λ code.function (vptr b o ∷ vint w32 k ∷ call-value call ∷ vint w32 tag ∷ s₁ ∷ s₂ ∷ []) Post)
     walk room₁ room₂ =
         -- A line in brackets says what the context holds there, in order: _i is the cell of local i, with what frees it after it; obs is
@@ -204,7 +204,7 @@ module _ {M : Type 1} (𝓤 : URA M) (H : Heap 𝓤) (A : Atoms 𝓤) (W : Given
         keep ! (0 ∷ 1 ∷ 2 ∷ 3 ∷ 4 ∷ 5 ∷ 6 ∷ []) $ by ! (exits p u t (answers d p t e e₁ e₂)))))))))))))))))))))))))))
 
 module _ {M : Type 1} (𝓤 : URA M) (H : Heap 𝓤) (A : Atoms 𝓤) (W : Given 𝓤 H A) (mm : Memory → SProp 𝓤) (run : Routine → Fun 𝓤) where
-  start-walks : (C : Calls 𝓤 H) (Λ : Loops 𝓤 H) → FmC 𝓤 H (W .laws) C → Triple 𝓤 (C #hashset·start) (CoreC 𝓤 H A mm run) → Triple 𝓤 (C #lent·state-of) (StateC 𝓤 H A mm run) → Triple 𝓤 (C #lent·out-of) (OutC 𝓤 H A mm run)
+  start-walks : (C : Calls 𝓤 H) (Λ : Loops 𝓤 H) → FmC 𝓤 H (W .laws) C → Triple 𝓤 (C #hashset·start) (CoreC 𝓤 H A mm run) → Triple 𝓤 (C #lent-parts·state-of) (StateC 𝓤 H A mm run) → Triple 𝓤 (C #lent-parts·out-of) (OutC 𝓤 H A mm run)
       → Walks 𝓤 H A start.ended stayed (WpFn 𝓤 H C Λ code.function) (start.clauses 𝓤 H A mm run)
   start-walks C Λ fm known-core known-state known-out = walked 𝓤 H A start.ended stayed (start.clauses 𝓤 H A mm run) (WpFn 𝓤 H C Λ code.function)
       (λ κs. (ptr-vals, (uint-vals w32, (Enum.vals K.the-type K′.the-laws, (uint-vals w32, (slice-vals, (slice-vals, tt)))))))
@@ -217,7 +217,7 @@ module _ {M : Type 1} (𝓤 : URA M) (H : Heap 𝓤) (A : Atoms 𝓤) (W : Given
   goes = (goes-ref 𝓤 H A W 3 0 tt (plain (λ _. S.the-row)), (goes-none 𝓤 H A W 3 (λ _. u32) yes (λ κs x f. refl), (goes-none 𝓤 H A W 3 (λ _. K.the-row) yes (λ κs x f. refl), (goes-none 𝓤 H A W 3 (λ _. u32) yes (λ κs x f. refl), (goes-none-slice 𝓤 H A W 3 (1 ∷ []) tt (plain (λ _. u32)) yes, (goes-none-slice 𝓤 H A W 3 (2 ∷ []) tt (plain (λ _. u32)) yes, tt))))))
 
 start-meets : {M : Type 1} (𝓤 : URA M) (H : Heap 𝓤) (A : Atoms 𝓤) → Given 𝓤 H A → (mm : Memory → SProp 𝓤) (run : Routine → Fun 𝓤) (𝓣 : Tables 𝓤 H)
-    → Triple 𝓤 (𝓣 .C #hashset·start) (CoreC 𝓤 H A mm run) → Triple 𝓤 (𝓣 .C #lent·state-of) (StateC 𝓤 H A mm run) → Triple 𝓤 (𝓣 .C #lent·out-of) (OutC 𝓤 H A mm run)
+    → Triple 𝓤 (𝓣 .C #hashset·start) (CoreC 𝓤 H A mm run) → Triple 𝓤 (𝓣 .C #lent-parts·state-of) (StateC 𝓤 H A mm run) → Triple 𝓤 (𝓣 .C #lent-parts·out-of) (OutC 𝓤 H A mm run)
     → Meets 𝓤 H A start.signature (WpFn 𝓤 H (𝓣 .C) (𝓣 .Λ) code.function) (start.spec 𝓤 H A mm run)
 start-meets 𝓤 H A W mm run 𝓣 known-core known-state known-out = walk-meets 𝓤 H A start.ended stayed W (goes 𝓤 H A W mm run) (start.clauses 𝓤 H A mm run) (WpFn 𝓤 H (𝓣 .C) (𝓣 .Λ) code.function) (WpFn-mono 𝓤 H (W .laws) 𝓣 code.function)
     (start-walks 𝓤 H A W mm run (𝓣 .C) (𝓣 .Λ) (fmOf 𝓤 H (W .laws) 𝓣) known-core known-state known-out)
@@ -229,5 +229,5 @@ start-spec 𝓤 H 𝓜 𝓖 𝓡 =
     (tables 𝓤 H 𝓜 𝓡 code.env .C) (tables 𝓤 H 𝓜 𝓡 code.env .Λ) #lent·start code.function (code.unfolded 𝓤 H 𝓜 𝓡)
     (start-meets 𝓤 H (𝓖 .A) (givenOf 𝓤 H 𝓜 𝓖) (𝓜 .mem) (𝓡 .run) (tablesOf 𝓤 H 𝓜 (tables 𝓤 H 𝓜 𝓡 code.env))
     (cited 𝓤 H (CoreC 𝓤 H (𝓖 .A) (𝓜 .mem) (𝓡 .run)) 𝓜 𝓡 code.env #hashset·start core-def.routine code.calls-hashset·start (core-thm.met 𝓤 H 𝓜 𝓖 𝓡))
-    (cited 𝓤 H (StateC 𝓤 H (𝓖 .A) (𝓜 .mem) (𝓡 .run)) 𝓜 𝓡 code.env #lent·state-of state-of-def.routine code.calls-lent·state-of (state-of-thm.met 𝓤 H 𝓜 𝓖 𝓡))
-    (cited 𝓤 H (OutC 𝓤 H (𝓖 .A) (𝓜 .mem) (𝓡 .run)) 𝓜 𝓡 code.env #lent·out-of out-of-def.routine code.calls-lent·out-of (out-of-thm.met 𝓤 H 𝓜 𝓖 𝓡)))
+    (cited 𝓤 H (StateC 𝓤 H (𝓖 .A) (𝓜 .mem) (𝓡 .run)) 𝓜 𝓡 code.env #lent-parts·state-of state-of-def.routine code.calls-lent-parts·state-of (state-of-thm.met 𝓤 H 𝓜 𝓖 𝓡))
+    (cited 𝓤 H (OutC 𝓤 H (𝓖 .A) (𝓜 .mem) (𝓡 .run)) 𝓜 𝓡 code.env #lent-parts·out-of out-of-def.routine code.calls-lent-parts·out-of (out-of-thm.met 𝓤 H 𝓜 𝓖 𝓡)))

@@ -59,10 +59,10 @@ use Rattle.lent.proofs.step as step
 use Rattle.lent.proofs.step.Symbol as step-def
 use Rattle.lent.proofs.step.Symbol.{name as #lent·step}
 use Rattle.lent.proofs.step.Met as step-thm
-use Rattle.lent.proofs.stepped as stepped
-use Rattle.lent.proofs.stepped.Symbol as stepped-def
-use Rattle.lent.proofs.stepped.Symbol.{name as #lent·stepped}
-use Rattle.lent.proofs.stepped.Met as stepped-thm
+use Rattle.lent_parts.proofs.stepped as stepped
+use Rattle.lent_parts.proofs.stepped.Symbol as stepped-def
+use Rattle.lent_parts.proofs.stepped.Symbol.{name as #lent-parts·stepped}
+use Rattle.lent_parts.proofs.stepped.Met as stepped-thm
 use Rattle.lent.proofs.turn.Key.{name as #lent·turn}
 use Rattle.lent.proofs.turn as turn
 use Rattle.lent.proofs.turn.Statement as stated
@@ -135,7 +135,7 @@ module _ {M : Type 1} (𝓤 : URA M) (H : Heap 𝓤) (A : Atoms 𝓤) (W : Given
   answers : (d : Stepped) (p : Output) (t : State) (us vs : List ℕ) → Did p t us vs → (d .out ≡ p) × (d .state ≡ t) → Answers d us vs
   answers d p t us vs e e₁ = (λ i. answered (e₁ .0 i) (e₁ .1 i) us vs) ∙ e
 
-  module _ (C : Calls 𝓤 H) (Λ : Loops 𝓤 H) (fm : FmC 𝓤 H (W .laws) C) (known-step : Triple 𝓤 (C #lent·step) (StepC 𝓤 H A mm run)) (known-stepped : Triple 𝓤 (C #lent·stepped) (SteppedC 𝓤 H A mm run)) where
+  module _ (C : Calls 𝓤 H) (Λ : Loops 𝓤 H) (fm : FmC 𝓤 H (W .laws) C) (known-step : Triple 𝓤 (C #lent·step) (StepC 𝓤 H A mm run)) (known-stepped : Triple 𝓤 (C #lent-parts·stepped) (SteppedC 𝓤 H A mm run)) where
     walk : Is S.the-row h (machine-value h ∷ []) → Room u32 (length ys) → Room u32 (length zs) → ent 𝓤 (onEntry 𝓤 H A turn.signature (κ₁, (κ₂, tt)) (q₁, (q₂, tt)) a at) (WpFn 𝓤 H C Λ code.function (machine-value h ∷ vint w32 k ∷ s₁ ∷ s₂ ∷ []) Post)
     unfolding partOf
     walk is room₁ room₂ =
@@ -184,7 +184,7 @@ module _ {M : Type 1} (𝓤 : URA M) (H : Heap 𝓤) (A : Atoms 𝓤) (W : Given
         keep ! (0 ∷ 1 ∷ 4 ∷ 2 ∷ []) $ by ! (exits is d w (ws .1 .1 .0) (ws .1 .1 .1 .0) (answers d p (ws .0) (ws .1 .1 .0) (ws .1 .1 .1 .0) e e₁) m₁ m₂)))))))))))))))))))))))))))))
 
 module _ {M : Type 1} (𝓤 : URA M) (H : Heap 𝓤) (A : Atoms 𝓤) (W : Given 𝓤 H A) (mm : Memory → SProp 𝓤) (run : Routine → Fun 𝓤) where
-  turn-walks : (C : Calls 𝓤 H) (Λ : Loops 𝓤 H) → FmC 𝓤 H (W .laws) C → Triple 𝓤 (C #lent·step) (StepC 𝓤 H A mm run) → Triple 𝓤 (C #lent·stepped) (SteppedC 𝓤 H A mm run)
+  turn-walks : (C : Calls 𝓤 H) (Λ : Loops 𝓤 H) → FmC 𝓤 H (W .laws) C → Triple 𝓤 (C #lent·step) (StepC 𝓤 H A mm run) → Triple 𝓤 (C #lent-parts·stepped) (SteppedC 𝓤 H A mm run)
       → Walks 𝓤 H A turn.ended stayed (WpFn 𝓤 H C Λ code.function) (turn.clauses 𝓤 H A mm run)
   turn-walks C Λ fm known-step known-stepped = walked 𝓤 H A turn.ended stayed (turn.clauses 𝓤 H A mm run) (WpFn 𝓤 H C Λ code.function)
       (λ κs. (Struct.vals S.the-type S′.the-laws, (uint-vals w32, (slice-vals, (slice-vals, tt))))) (λ κs. (Struct.tells S.the-type S′.the-laws, (uint-tells w32, (mut-slice-tells (named 0) (κs .0) u32, (mut-slice-tells (named 1) (κs .1 .0) u32, tt)))))
@@ -196,7 +196,7 @@ module _ {M : Type 1} (𝓤 : URA M) (H : Heap 𝓤) (A : Atoms 𝓤) (W : Given
   goes = (goes-none 𝓤 H A W 2 (λ _. S.the-row) yes (λ κs x f. refl), (goes-none 𝓤 H A W 2 (λ _. u32) yes (λ κs x f. refl), (goes-gave-slice 𝓤 H A W 2 0 tt (plain (λ _. u32)), (goes-gave-slice 𝓤 H A W 2 1 tt (plain (λ _. u32)), tt))))
 
 turn-meets : {M : Type 1} (𝓤 : URA M) (H : Heap 𝓤) (A : Atoms 𝓤) → Given 𝓤 H A → (mm : Memory → SProp 𝓤) (run : Routine → Fun 𝓤) (𝓣 : Tables 𝓤 H)
-    → Triple 𝓤 (𝓣 .C #lent·step) (StepC 𝓤 H A mm run) → Triple 𝓤 (𝓣 .C #lent·stepped) (SteppedC 𝓤 H A mm run)
+    → Triple 𝓤 (𝓣 .C #lent·step) (StepC 𝓤 H A mm run) → Triple 𝓤 (𝓣 .C #lent-parts·stepped) (SteppedC 𝓤 H A mm run)
     → Meets 𝓤 H A turn.signature (WpFn 𝓤 H (𝓣 .C) (𝓣 .Λ) code.function) (turn.spec 𝓤 H A mm run)
 turn-meets 𝓤 H A W mm run 𝓣 known-step known-stepped = walk-meets 𝓤 H A turn.ended stayed W (goes 𝓤 H A W mm run) (turn.clauses 𝓤 H A mm run) (WpFn 𝓤 H (𝓣 .C) (𝓣 .Λ) code.function) (WpFn-mono 𝓤 H (W .laws) 𝓣 code.function)
     (turn-walks 𝓤 H A W mm run (𝓣 .C) (𝓣 .Λ) (fmOf 𝓤 H (W .laws) 𝓣) known-step known-stepped)
@@ -208,4 +208,4 @@ turn-spec 𝓤 H 𝓜 𝓖 𝓡 =
     (tables 𝓤 H 𝓜 𝓡 code.env .C) (tables 𝓤 H 𝓜 𝓡 code.env .Λ) #lent·turn code.function (code.unfolded 𝓤 H 𝓜 𝓡)
     (turn-meets 𝓤 H (𝓖 .A) (givenOf 𝓤 H 𝓜 𝓖) (𝓜 .mem) (𝓡 .run) (tablesOf 𝓤 H 𝓜 (tables 𝓤 H 𝓜 𝓡 code.env))
     (cited 𝓤 H (StepC 𝓤 H (𝓖 .A) (𝓜 .mem) (𝓡 .run)) 𝓜 𝓡 code.env #lent·step step-def.routine code.calls-lent·step (step-thm.met 𝓤 H 𝓜 𝓖 𝓡))
-    (cited 𝓤 H (SteppedC 𝓤 H (𝓖 .A) (𝓜 .mem) (𝓡 .run)) 𝓜 𝓡 code.env #lent·stepped stepped-def.routine code.calls-lent·stepped (stepped-thm.met 𝓤 H 𝓜 𝓖 𝓡)))
+    (cited 𝓤 H (SteppedC 𝓤 H (𝓖 .A) (𝓜 .mem) (𝓡 .run)) 𝓜 𝓡 code.env #lent-parts·stepped stepped-def.routine code.calls-lent-parts·stepped (stepped-thm.met 𝓤 H 𝓜 𝓖 𝓡)))

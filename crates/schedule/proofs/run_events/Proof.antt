@@ -7,7 +7,7 @@ use mathlib.Core.Path.{_≡_, refl, sym, _∙_}
 use lib.ListN.{length, drop, getD}
 use Rattle.spec.specs.Machine.{machine-of, state-head, state-last-node, state-last-bucket, state-task}
 use Rattle.lines.proofs.Settling.{changes-below, moved-on, moved-off}
-use Rattle.schedule.specs.Encoding.{events-of}
+use Rattle.schedule_words.specs.Events.{events-of}
 use Rattle.schedule.proofs.Laws.{Rest, rest-start, turn, finished}
 use native.Mathlib.Omega.{arith}
 use borrow.Author.Needs.{needs}
@@ -59,9 +59,6 @@ shared-slice-read-one-2 c = search needs
 
 one-requires : tie.Need-one-requires Inv-loop μ-loop
 one-requires c κs = search needs
-
-mul-write-output : tie.Need-mul-write-output Inv-loop μ-loop
-mul-write-output c = search needs
 
 write-output-requires : tie.Need-write-output-requires Inv-loop μ-loop
 write-output-requires c κs = search needs
@@ -160,7 +157,6 @@ run-events-spec =
     mul-one-2
     shared-slice-read-one-2
     one-requires
-    mul-write-output
     write-output-requires
     changes-requires
     cast-j

@@ -3,7 +3,8 @@
 use Prim.Native.Nat.{ℕ}
 use mathlib.Core.Path.{ap, _∙_}
 use denote.Ref.{now}
-use Rattle.schedule.specs.Encoding.{Result, listing-number, c-result, c-result-of}
+use Rattle.schedule_words.specs.Events.{listing-number}
+use Rattle.schedule.specs.Encoding.{Result, c-result, c-result-of}
 use Rattle.schedule.proofs.Laws.{number-small}
 use native.Mathlib.Omega.{arith}
 use borrow.Author.Needs.{needs}

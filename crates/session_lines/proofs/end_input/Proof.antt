@@ -1,7 +1,8 @@
 -- `session_lines::end_input` meets its contract. The five phases, each as `phase-end` says. Assumes nothing.
-use Rattle.session_lines.proofs.Laws.{ends, nothing-appended}
-use Rattle.session_lines.specs.declared.Phase.the-variants.{Tasks, Nodes, Buckets, Events, Stopped}
-use Rattle.session_lines.specs.Handling.{phase-end}
+use Rattle.session_state.proofs.Laws.{nothing-appended}
+use Rattle.session_lines.proofs.Laws.{ends}
+use Rattle.session_state.specs.declared.Phase.the-variants.{Tasks, Nodes, Buckets, Events, Stopped}
+use Rattle.session_state.specs.Handling.{phase-end}
 use borrow.Author.Needs.{needs}
 use Rattle.session_lines.proofs.end_input.Statement.{statement}
 use Rattle.session_lines.proofs.end_input.Tie as tie

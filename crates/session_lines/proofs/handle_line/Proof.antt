@@ -1,7 +1,8 @@
 -- `session_lines::handle_line` meets its contract. The five phases, each by the function of that phase. Assumes nothing.
-use Rattle.session_lines.proofs.Laws.{keeps, handles, does-nothing}
-use Rattle.session_lines.specs.declared.Phase.the-variants.{Tasks, Nodes, Buckets, Events, Stopped}
-use Rattle.session_lines.specs.Handling.{phase-effect}
+use Rattle.session_state.proofs.Laws.{keeps}
+use Rattle.session_lines.proofs.Laws.{handles, does-nothing}
+use Rattle.session_state.specs.declared.Phase.the-variants.{Tasks, Nodes, Buckets, Events, Stopped}
+use Rattle.session_state.specs.Handling.{phase-effect}
 use borrow.Author.Needs.{needs}
 use Rattle.session_lines.proofs.handle_line.Statement.{statement}
 use Rattle.session_lines.proofs.handle_line.Tie as tie

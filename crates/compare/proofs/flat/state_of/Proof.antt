@@ -5,25 +5,22 @@ use Rattle.compare.proofs.flat.state_of.Statement.{statement}
 use Rattle.compare.proofs.flat.state_of.Tie as tie
 
 abbrev Inv-loop : tie.InvT-loop
-Inv-loop w ts₀ k₀ ts k = k ≤ 8
+Inv-loop w ts₀ k₀ ts k = (k ≤ 8)
 
 abbrev μ-loop : tie.MeasureT-loop
 μ-loop w ts₀ k₀ ts k = 8 - k
 
-idle-requires : tie.Need-idle-requires Inv-loop μ-loop
-idle-requires c κs = search needs
+task-at-requires : tie.Need-task-at-requires Inv-loop μ-loop
+task-at-requires c κs = search needs
 
 loop-holds : tie.Need-loop-holds Inv-loop μ-loop
 loop-holds c = search needs
 
-mul-task-at : tie.Need-mul-task-at Inv-loop μ-loop
-mul-task-at c = search needs
+task-at-requires-2 : tie.Need-task-at-requires-2 Inv-loop μ-loop
+task-at-requires-2 c κs = search needs
 
-add-task-at : tie.Need-add-task-at Inv-loop μ-loop
-add-task-at c = search needs
-
-task-at-requires : tie.Need-task-at-requires Inv-loop μ-loop
-task-at-requires c κs = search needs
+cast-ts : tie.Need-cast-ts Inv-loop μ-loop
+cast-ts c = search needs
 
 mul-ts : tie.Need-mul-ts Inv-loop μ-loop
 mul-ts c = search needs
@@ -40,23 +37,23 @@ loop-less c = search needs
 loop-again : tie.Need-loop-again Inv-loop μ-loop
 loop-again c = search needs
 
-array-read-t15 : tie.Need-array-read-t15 Inv-loop μ-loop
-array-read-t15 c = search needs
+get-requires : tie.Need-get-requires Inv-loop μ-loop
+get-requires c κs = search needs
 
-array-read-t18 : tie.Need-array-read-t18 Inv-loop μ-loop
-array-read-t18 c = search needs
+get-requires-2 : tie.Need-get-requires-2 Inv-loop μ-loop
+get-requires-2 c κs = search needs
 
-array-read-t21 : tie.Need-array-read-t21 Inv-loop μ-loop
-array-read-t21 c = search needs
+get-requires-3 : tie.Need-get-requires-3 Inv-loop μ-loop
+get-requires-3 c κs = search needs
 
-array-read-t24 : tie.Need-array-read-t24 Inv-loop μ-loop
-array-read-t24 c = search needs
+get-requires-4 : tie.Need-get-requires-4 Inv-loop μ-loop
+get-requires-4 c κs = search needs
 
-array-read-t27 : tie.Need-array-read-t27 Inv-loop μ-loop
-array-read-t27 c = search needs
+get-requires-5 : tie.Need-get-requires-5 Inv-loop μ-loop
+get-requires-5 c κs = search needs
 
-array-read-t30 : tie.Need-array-read-t30 Inv-loop μ-loop
-array-read-t30 c = search needs
+get-requires-6 : tie.Need-get-requires-6 Inv-loop μ-loop
+get-requires-6 c κs = search needs
 
 returns : tie.Need-returns Inv-loop μ-loop
 returns c = search needs
@@ -67,20 +64,19 @@ state-of-spec =
     (tie.spec
     Inv-loop
     μ-loop
-    idle-requires
-    loop-holds
-    mul-task-at
-    add-task-at
     task-at-requires
+    loop-holds
+    task-at-requires-2
+    cast-ts
     mul-ts
     array-set-from-ts
     add-k
     loop-less
     loop-again
-    array-read-t15
-    array-read-t18
-    array-read-t21
-    array-read-t24
-    array-read-t27
-    array-read-t30
+    get-requires
+    get-requires-2
+    get-requires-3
+    get-requires-4
+    get-requires-5
+    get-requires-6
     returns)

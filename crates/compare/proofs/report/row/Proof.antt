@@ -5,7 +5,7 @@ use Rattle.compare.proofs.report.row.Statement.{statement}
 use Rattle.compare.proofs.report.row.Tie as tie
 
 abbrev Inv-loop : tie.InvT-loop
-Inv-loop name c a n i₀ t6 i = i ≤ n
+Inv-loop name c a n i₀ t6 i = (i ≤ n)
 
 abbrev μ-loop : tie.MeasureT-loop
 μ-loop name c a n i₀ t6 i = n - i
@@ -16,8 +16,17 @@ text-requires c κs = search needs
 loop-holds : tie.Need-loop-holds Inv-loop μ-loop
 loop-holds c = search needs
 
-placed-requires : tie.Need-placed-requires Inv-loop μ-loop
-placed-requires c κs = search needs
+cast-get : tie.Need-cast-get Inv-loop μ-loop
+cast-get c = search needs
+
+add-get : tie.Need-add-get Inv-loop μ-loop
+add-get c = search needs
+
+get-requires : tie.Need-get-requires Inv-loop μ-loop
+get-requires c κs = search needs
+
+cell-requires : tie.Need-cell-requires Inv-loop μ-loop
+cell-requires c κs = search needs
 
 add-i : tie.Need-add-i Inv-loop μ-loop
 add-i c = search needs
@@ -45,7 +54,10 @@ row-spec =
     μ-loop
     text-requires
     loop-holds
-    placed-requires
+    cast-get
+    add-get
+    get-requires
+    cell-requires
     add-i
     loop-less
     loop-again

@@ -1,7 +1,7 @@
 -- `session_lines::events::event_line` meets its contract. The three cases of the line, as `event-effect` says. Assumes nothing.
 use mathlib.Core.Path.{sym, _∙_}
-use Rattle.session_lines.proofs.Laws.{keeps}
-use Rattle.session_lines.specs.Handling.{event-effect}
+use Rattle.session_state.proofs.Laws.{keeps}
+use Rattle.session_state.specs.Handling.{event-effect}
 use borrow.Author.Needs.{needs}
 use Rattle.session_lines.proofs.events.event_line.Statement.{statement}
 use Rattle.session_lines.proofs.events.event_line.Tie as tie

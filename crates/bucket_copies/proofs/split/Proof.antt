@@ -1,0 +1,139 @@
+-- `bucket_copies::split` meets its contract: the words so far are the tags passed that belong to the place, then zeros; the count goes in last.
+-- Assumes nothing.
+use mathlib.Core.Path.{_≡_, refl, sym, ap, _∙_}
+use mathlib.Core.List.{List, [], _∷_, _++_}
+use mathlib.Core.Bool.{Bool}
+use mathlib.Core.Logic.{⊎-elim}
+use Prim.Native.Nat.{ℕ, _≤_, _<_, _-_, _+_}
+use lib.Dec.{eqb}
+use lib.ListN.{length, length-append, set, getD, drop}
+use borrow.Author.Tests.{eq-eqb, ne-eqb}
+use Rattle.spec.specs.Lists.{filter}
+use Rattle.spec.specs.Words.{bucket-of}
+use Rattle.spec.specs.Listed.{slot}
+use Rattle.bucket.specs.declared.Bucket.{Bucket}
+use Rattle.bucket.specs.Bucket.{tags-in}
+use Rattle.bucket_copies.specs.Copies.{split-of}
+use Rattle.bucket.proofs.Laws.{tag-at}
+use Rattle.bucket.proofs.Pad.{padded, pad-push}
+use Rattle.bucket_copies.proofs.Laws.{filter-yes, filter-no, filter-end, counted}
+use native.Mathlib.Omega.{arith}
+use borrow.Author.Needs.{needs}
+use Rattle.bucket_copies.proofs.split.Statement.{statement}
+use Rattle.bucket_copies.proofs.split.Tie as tie
+
+abbrev bucket-with : List ℕ → Bucket
+bucket-with w = record { words = w }
+
+abbrev mine : ℕ → ℕ → ℕ → Bool
+mine sz i = λ k. eqb (slot k sz) i
+
+abbrev Inv-loop : tie.InvT-loop
+Inv-loop size i n w out₀ len₀ j₀ out len j =
+    (acc : List ℕ) × (j ≤ n) × (len ≤ j) × (out ≡ padded (1 ∷ 0 ∷ acc)) × (length acc ≡ len) × (acc ++ filter (mine size i) (drop j (tags-in w)) ≡ filter (mine size i) (tags-in w))
+
+abbrev μ-loop : tie.MeasureT-loop
+μ-loop size i n w out₀ len₀ j₀ out len j = n - j
+
+count-requires : tie.Need-count-requires Inv-loop μ-loop
+count-requires c κs = search needs
+
+array-write-out : tie.Need-array-write-out Inv-loop μ-loop
+array-write-out c = search needs
+
+loop-holds : tie.Need-loop-holds Inv-loop μ-loop
+unfolding padded
+loop-holds c = ([], omega arith, omega arith, refl, refl, refl)
+
+add-t : tie.Need-add-t Inv-loop μ-loop
+add-t c = search needs
+
+mul-t : tie.Need-mul-t Inv-loop μ-loop
+mul-t c = search needs
+
+array-read-t : tie.Need-array-read-t Inv-loop μ-loop
+array-read-t c = search needs
+
+slot-requires : tie.Need-slot-requires Inv-loop μ-loop
+slot-requires c κs = search needs
+
+add-out : tie.Need-add-out Inv-loop μ-loop
+add-out c = search needs
+
+mul-out : tie.Need-mul-out Inv-loop μ-loop
+mul-out c = search needs
+
+array-write-out-2 : tie.Need-array-write-out-2 Inv-loop μ-loop
+array-write-out-2 c = search needs
+
+add-len : tie.Need-add-len Inv-loop μ-loop
+add-len c = search needs
+
+add-j : tie.Need-add-j Inv-loop μ-loop
+add-j c = search needs
+
+loop-less : tie.Need-loop-less Inv-loop μ-loop
+loop-less c = search needs
+
+loop-again : tie.Need-loop-again Inv-loop μ-loop
+loop-again c =
+    let a = c .before .before .before .before .before .before .args in
+    let l = c .before .before .before .loop in
+    let ws = a .m .words in
+    let acc = l .inv .0 in
+    let t = getD ws (2 + l .j) 0 in
+    let in′ : l .j < length (tags-in ws) = omega arith in
+    let e : getD (tags-in ws) (l .j) 0 ≡ t = tag-at ws (l .j) in′ in
+    let s : c .before .slot .result ≡ slot t (a .size) = c .before .slot .ensures in
+    let test = ap (λ (k : ℕ). eqb k (a .i)) (sym s) in
+    let n : length (acc ++ (t ∷ [])) ≡ l .len + 1 = rw (length-append acc (t ∷ [])) (omega arith) in
+    ⊎-elim
+    (λ y. (
+      acc ++ (t ∷ []),
+      omega arith,
+      omega arith,
+      y .1 ∙ ap (λ (o : List ℕ). set o (2 + l .len) t) (l .inv .3) ∙ pad-push (1 ∷ 0 ∷ acc) t (2 + l .len) (omega arith) (omega arith),
+      n ∙ sym (y .2),
+      sym (filter-yes (mine (a .size) (a .i)) (tags-in ws) acc (l .j) t in′ e (test ∙ eq-eqb _ _ (y .0 .taken))) ∙ l .inv .5,
+    ))
+    (λ y. (acc, omega arith, omega arith, y .1 ∙ l .inv .3, omega arith, sym (filter-no (mine (a .size) (a .i)) (tags-in ws) acc (l .j) t in′ e (test ∙ ne-eqb _ _ (y .0 .left))) ∙ l .inv .5))
+    (c .if1 .came)
+
+cast-out : tie.Need-cast-out Inv-loop μ-loop
+cast-out c = search needs
+
+array-write-out-3 : tie.Need-array-write-out-3 Inv-loop μ-loop
+array-write-out-3 c = search needs
+
+returns : tie.Need-returns Inv-loop μ-loop
+unfolding split-of
+returns c =
+    let a = c .before .before .before .before .args in
+    let l = c .before .loop in
+    let ts = tags-in (a .m .words) in
+    ap bucket-with (counted (l .inv .0) (l .out) (l .len) (l .inv .3) (l .inv .4)
+    ∙ ap (λ (x : List ℕ). bucket-of 1 x) (sym (filter-end (mine (a .size) (a .i)) ts (l .inv .0) (l .j) (omega arith)) ∙ l .inv .5))
+
+pub split-spec : {M : Type 1} → statement M
+split-spec =
+    tie.close
+    (tie.spec
+    Inv-loop
+    μ-loop
+    count-requires
+    array-write-out
+    loop-holds
+    add-t
+    mul-t
+    array-read-t
+    slot-requires
+    add-out
+    mul-out
+    array-write-out-2
+    add-len
+    add-j
+    loop-less
+    loop-again
+    cast-out
+    array-write-out-3
+    returns)

@@ -1,0 +1,64 @@
+-- `compare::flat::put_tasks` is safe and ends: counters stay within their bounds, and lent slices keep their lengths. Assumes nothing.
+use Prim.Native.Nat.{_≤_, _-_}
+use borrow.Author.Needs.{needs}
+use mathlib.Core.Path.{_≡_}
+use lib.ListN.{length}
+use Rattle.compare.proofs.flat.put_tasks.Statement.{statement}
+use Rattle.compare.proofs.flat.put_tasks.Tie as tie
+
+abbrev Inv-loop : tie.InvT-loop
+Inv-loop w₀ ts k₀ w k = (k ≤ 8) × (length w ≡ length w₀)
+
+abbrev μ-loop : tie.MeasureT-loop
+μ-loop w₀ ts k₀ w k = 8 - k
+
+loop-holds : tie.Need-loop-holds Inv-loop μ-loop
+loop-holds c = search needs
+
+mul-put-task : tie.Need-mul-put-task Inv-loop μ-loop
+mul-put-task c = search needs
+
+add-put-task : tie.Need-add-put-task Inv-loop μ-loop
+add-put-task c = search needs
+
+mul-put-task-2 : tie.Need-mul-put-task-2 Inv-loop μ-loop
+mul-put-task-2 c = search needs
+
+array-copy-out-put-task : tie.Need-array-copy-out-put-task Inv-loop μ-loop
+array-copy-out-put-task c = search needs
+
+put-task-requires : tie.Need-put-task-requires Inv-loop μ-loop
+put-task-requires c κs = search needs
+
+add-k : tie.Need-add-k Inv-loop μ-loop
+add-k c = search needs
+
+loop-less : tie.Need-loop-less Inv-loop μ-loop
+loop-less c = search needs
+
+loop-again : tie.Need-loop-again Inv-loop μ-loop
+loop-again c = search needs
+
+same-length : tie.Need-same-length Inv-loop μ-loop
+same-length c = search needs
+
+returns : tie.Need-returns Inv-loop μ-loop
+returns c = search needs
+
+pub put-tasks-spec : {M : Type 1} → statement M
+put-tasks-spec =
+    tie.close
+    (tie.spec
+    Inv-loop
+    μ-loop
+    loop-holds
+    mul-put-task
+    add-put-task
+    mul-put-task-2
+    array-copy-out-put-task
+    put-task-requires
+    add-k
+    loop-less
+    loop-again
+    same-length
+    returns)

@@ -1,0 +1,105 @@
+// APPLY, lines 32 to 36 of Figure 2, for insert and remove. Line 35's call of INITBUCKET is lines 39 to 51.
+use bucket::Response;
+use lines::Moved;
+use spec::Answer;
+use spec::State;
+use spec::Task;
+ghost use mathlib.Core.Path.{_≡_};
+ghost use mathlib.Core.List.{List};
+ghost use mathlib.Core.Bool.{true};
+ghost use Prim.Native.Nat.{ℕ, _≤_, _<_};
+ghost use Rattle.spec.specs.Sound.{sound};
+ghost use Rattle.spec.specs.Machine.{machine-of};
+ghost use Rattle.spec.specs.Entries.{step-running};
+ghost use Rattle.lines.specs.Reply.{moved-reply};
+ghost use Rattle.lines.specs.Running.{Runs, apply-lines};
+
+// t <- head
+pub fn line32(s: State, k: usize, c: Task) -> Moved
+    requires { ⌜ (k < 8) × (c .line ≡ 32) × (s .head < 64) ⌝ }
+    ensures { λ r. ⌜ ((ns bs : List ℕ) → moved-reply s k r ns bs ≡ step-running (machine-of s ns bs) k c) ⌝ }
+{
+    let mut x = c;
+    x.t = s.head + 1;
+    lines::go(s, k, x, 33)
+}
+
+// b <- t.buckets[k mod t.size]; if b = nil (line 34) INITBUCKET
+pub fn line33(s: State, k: usize, c: Task, ns: &[u32]) -> Moved
+    requires { ⌜ (k < 8) × (c .line ≡ 33) ⌝ }
+    ensures { λ r. ⌜ ((bs : List ℕ) → moved-reply s k r (now (ns .entry)) bs ≡ step-running (machine-of s (now (ns .entry)) bs) k c) ⌝ }
+{
+    let t = c.t;
+    if t == 0 {
+        return lines::refused(s, 8);
+    }
+    let b = pool::place_for(ns, t, c.tag);
+    let z = pool::size_of(ns, t);
+    let i = bucket::slot(c.tag, z);
+    let mut x = c;
+    x.b = b;
+    if b == 0 {
+        x.i = i;
+        return lines::go(s, k, x, 39);
+    }
+    lines::go(s, k, x, 36)
+}
+
+// INVOKE(b, op): a frozen bucket sends the task back to line 32
+pub fn line36(s: State, k: usize, c: Task, ns: &[u32], bs: &mut [u32]) -> Moved
+    requires { ⌜ (k < 8) × (c .line ≡ 36) × (sound (machine-of s (now ns) (now bs)) ≡ true) × (c .b ≤ s .buckets) ⌝ }
+    ensures { λ r. ⌜ moved-reply s k r (now (ns .entry)) (now (bs .exit)) ≡ step-running (machine-of s (now (ns .entry)) (now (bs .entry))) k c ⌝ }
+{
+    let b = c.b;
+    if b == 0 {
+        return lines::refused(s, 8);
+    }
+    let j = b as usize - 1;
+    let f = pool::word(bs, 66 * j);
+    if f == 0 {
+        let mut x = c;
+        x.i = 0;
+        x.t = 0;
+        x.s = 0;
+        x.b = 0;
+        x.m = 0;
+        x.n = 0;
+        x.new_node = 0;
+        x.new_bucket = 0;
+        return lines::go(s, k, x, 32);
+    }
+    let call = c.call;
+    if call == 1 {
+        let n = listing::count(s, ns, bs);
+        if 64 <= n {
+            return lines::end(s, k, c, Answer::Full);
+        }
+        let d = pool::buckets::add_at(bs, j, c.tag);
+        return match d {
+            Response::Yes => lines::end(s, k, c, Answer::Yes),
+            Response::No => lines::end(s, k, c, Answer::No),
+            Response::Frozen => lines::refused(s, 8),
+            Response::Full => lines::refused(s, 8),
+        };
+    }
+    let d = pool::buckets::remove_at(bs, j, c.tag);
+    match d {
+        Response::Yes => lines::end(s, k, c, Answer::Yes),
+        Response::No => lines::end(s, k, c, Answer::No),
+        Response::Frozen => lines::refused(s, 8),
+        Response::Full => lines::refused(s, 8),
+    }
+}
+
+// The line at which task k stands.
+pub fn step(s: State, k: usize, c: Task, ns: &[u32], bs: &mut [u32]) -> Moved
+    requires { ⌜ Runs (machine-of s (now ns) (now bs)) k c apply-lines ⌝ }
+    ensures { λ r. ⌜ moved-reply s k r (now (ns .entry)) (now (bs .exit)) ≡ step-running (machine-of s (now (ns .entry)) (now (bs .entry))) k c ⌝ }
+{
+    let line = c.line;
+    match line {
+        32 => line32(s, k, c),
+        33 => line33(s, k, c, ns),
+        _ => line36(s, k, c, ns, bs),
+    }
+}

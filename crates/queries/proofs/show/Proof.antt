@@ -1,0 +1,160 @@
+-- `queries::show` meets its contract: each early return is an empty part; the last is the tags of bucket k, where they stand.
+-- Assumes nothing.
+use mathlib.Core.Path.{_≡_, sym, ap, _∙_}
+use Prim.Native.Nat.{ℕ, _≤_, _-_, _+_, _*_}
+use denote.Ref.{now}
+use lib.ListN.{take, drop}
+use borrow.Author.Tests.{not-true, not-false, lt-ltb, le-ltb}
+use Rattle.spec.specs.Machine.{Machine, machine-of}
+use Rattle.spec.specs.Words.{tags, count}
+use Rattle.spec.specs.Sound.{sound}
+use Rattle.spec.specs.Entries.{show}
+use Rattle.pool.proofs.Facts.{numbers-of, bucket-fact}
+use Rattle.pool.proofs.At.{few}
+use native.Mathlib.Omega.{arith}
+use borrow.Author.Needs.{needs}
+use Rattle.queries.proofs.show.Statement.{statement}
+use Rattle.queries.proofs.show.Tie as tie
+
+sound-requires : tie.Need-sound-requires
+sound-requires c κs = search needs
+
+sub-result : tie.Need-sub-result
+sub-result c = search needs
+
+part-result-start : tie.Need-part-result-start
+part-result-start c = search needs
+
+part-result-end : tie.Need-part-result-end
+part-result-end c = search needs
+
+returns : tie.Need-returns
+unfolding show
+returns c = rw (sym (c .before .before .sound .ensures) ∙ not-true _ (c .before .if1 .taken))
+
+sub-result-2 : tie.Need-sub-result-2
+sub-result-2 c = search needs
+
+part-result-start-2 : tie.Need-part-result-start-2
+part-result-start-2 c = search needs
+
+part-result-end-2 : tie.Need-part-result-end-2
+part-result-end-2 c = search needs
+
+returns-2 : tie.Need-returns-2
+unfolding show
+returns-2 c =
+    let y : Machine = machine-of (c .before .before .before .before .before .before .before .args .s) (now (c .before .before .before .before .before .before .before .args .ns)) (now (c .before .before .before .before .before .before .before .args .bs)) in
+    let s = sym (c .before .before .before .before .sound .ensures) ∙ not-false _ (c .before .before .before .if1 .left) in
+    rw (s, le-ltb _ _ (c .before .if2 .taken))
+
+sub-result-3 : tie.Need-sub-result-3
+sub-result-3 c = search needs
+
+part-result-start-3 : tie.Need-part-result-start-3
+part-result-start-3 c = search needs
+
+part-result-end-3 : tie.Need-part-result-end-3
+part-result-end-3 c = search needs
+
+returns-3 : tie.Need-returns-3
+returns-3 c =
+    let y : Machine = machine-of (c .before .before .before .before .before .before .before .before .args .s) (now (c .before .before .before .before .before .before .before .before .args .ns)) (now (c .before .before .before .before .before .before .before .before .args .bs)) in
+    let s = sym (c .before .before .before .before .before .sound .ensures) ∙ not-false _ (c .before .before .before .before .if1 .left) in
+    let n = numbers-of y s in
+    absurd (omega (arith, c .before .before .if2 .left, c .before .if3 .taken))
+
+mul-a : tie.Need-mul-a
+mul-a c = search needs
+
+add-word : tie.Need-add-word
+add-word c = search needs
+
+word-requires : tie.Need-word-requires
+word-requires c κs = search needs
+
+add-f : tie.Need-add-f
+add-f c = search needs
+
+cast-e : tie.Need-cast-e
+cast-e c = search needs
+
+add-e : tie.Need-add-e
+add-e c = search needs
+
+sub-result-4 : tie.Need-sub-result-4
+sub-result-4 c = search needs
+
+part-result-start-4 : tie.Need-part-result-start-4
+part-result-start-4 c = search needs
+
+part-result-end-4 : tie.Need-part-result-end-4
+part-result-end-4 c = search needs
+
+returns-4 : tie.Need-returns-4
+unfolding count
+returns-4 c =
+    let y : Machine = machine-of (c .before .before .before .before .before .before .before .before .before .before .args .s) (now (c .before .before .before .before .before .before .before .before .before .before .args .ns)) (now (c .before .before .before .before .before .before .before .before .before .before .args .bs)) in
+    let s = sym (c .before .before .before .before .before .before .before .sound .ensures) ∙ not-false _ (c .before .before .before .before .before .before .if1 .left) in
+    let w = now (c .before .before .before .before .before .before .before .before .before .before .args .bs) in
+    let n = numbers-of y s in
+    let m : count w (c .before .before .before .before .before .before .before .before .before .before .args .k) ≤ 64 = few w (c .before .before .before .before .before .before .before .before .before .before .args .k) (bucket-fact y s (c .before .before .before .before .before .before .before .before .before .before .args .k) (c .before .before .before .before .if2 .left)) in
+    let e : c .before .before .word .result ≡ count w (c .before .before .before .before .before .before .before .before .before .before .args .k) = c .before .before .word .ensures in
+    absurd (omega (arith, c .before .if4 .taken, c .before .before .before .before .if2 .left))
+
+mul-result : tie.Need-mul-result
+mul-result c = search needs
+
+sub-result-5 : tie.Need-sub-result-5
+sub-result-5 c = search needs
+
+part-result-start-5 : tie.Need-part-result-start-5
+part-result-start-5 c = search needs
+
+part-result-end-5 : tie.Need-part-result-end-5
+part-result-end-5 c = search needs
+
+returns-5 : tie.Need-returns-5
+unfolding show tags count
+returns-5 c =
+    let y : Machine = machine-of (c .before .before .before .before .before .before .before .before .before .before .args .s) (now (c .before .before .before .before .before .before .before .before .before .before .args .ns)) (now (c .before .before .before .before .before .before .before .before .before .before .args .bs)) in
+    let s = sym (c .before .before .before .before .before .before .before .sound .ensures) ∙ not-false _ (c .before .before .before .before .before .before .if1 .left) in
+    let w = now (c .before .before .before .before .before .before .before .before .before .before .args .bs) in
+    let n = numbers-of y s in
+    let m : count w (c .before .before .before .before .before .before .before .before .before .before .args .k) ≤ 64 = few w (c .before .before .before .before .before .before .before .before .before .before .args .k) (bucket-fact y s (c .before .before .before .before .before .before .before .before .before .before .args .k) (c .before .before .before .before .if2 .left)) in
+    let e : c .before .before .word .result ≡ count w (c .before .before .before .before .before .before .before .before .before .before .args .k) = c .before .before .word .ensures in
+    let q : 66 * c .before .before .before .before .before .before .before .before .before .before .args .k + 2 + c .before .before .word .result - (66 * c .before .before .before .before .before .before .before .before .before .before .args .k + 2) ≡ count w (c .before .before .before .before .before .before .before .before .before .before .args .k) = omega arith in
+    rw (s, lt-ltb _ _ (c .before .before .before .before .if2 .left)) (ap (λ (m : ℕ). take m (drop (66 * c .before .before .before .before .before .before .before .before .before .before .args .k + 2) w)) q)
+
+pub show-spec : {M : Type 1} → statement M
+show-spec =
+    tie.close
+    (tie.spec
+    sound-requires
+    sub-result
+    part-result-start
+    part-result-end
+    returns
+    sub-result-2
+    part-result-start-2
+    part-result-end-2
+    returns-2
+    sub-result-3
+    part-result-start-3
+    part-result-end-3
+    returns-3
+    mul-a
+    add-word
+    word-requires
+    add-f
+    cast-e
+    add-e
+    sub-result-4
+    part-result-start-4
+    part-result-end-4
+    returns-4
+    mul-result
+    sub-result-5
+    part-result-start-5
+    part-result-end-5
+    returns-5)

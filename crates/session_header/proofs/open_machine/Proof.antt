@@ -1,0 +1,98 @@
+-- `session_header::open_machine` meets its contract. The contract of `opening::open` over the session's part of the
+-- pools, put back into the whole of them. Assumes nothing.
+use mathlib.Core.Path.{sym}
+use denote.Ref.{now}
+use Rattle.session_header.proofs.Laws.{opens, refuses}
+use lib.Seq.{length-take-le}
+use borrow.Author.Needs.{needs}
+use Rattle.session_header.proofs.open_machine.Statement.{statement}
+use Rattle.session_header.proofs.open_machine.Tie as tie
+
+node-extent-requires : tie.Need-node-extent-requires
+node-extent-requires c κs = search needs
+
+bucket-extent-requires : tie.Need-bucket-extent-requires
+bucket-extent-requires c κs = search needs
+
+slice-relend-prefix-open : tie.Need-slice-relend-prefix-open
+slice-relend-prefix-open c = search needs
+
+slice-aggregate-open : tie.Need-slice-aggregate-open
+slice-aggregate-open c =
+    let at-node-extent = c .before .before in
+    let entry = at-node-extent .before .before .before .before in
+    sym (length-take-le (at-node-extent .node-extent .result) (now (entry .args .ns)) (at-node-extent .node-extent .ensures .1))
+
+slice-relend-prefix-open-2 : tie.Need-slice-relend-prefix-open-2
+slice-relend-prefix-open-2 c = search needs
+
+slice-aggregate-open-2 : tie.Need-slice-aggregate-open-2
+slice-aggregate-open-2 c =
+    let at-bucket-extent = c .before .before in
+    let entry = at-bucket-extent .before .before .before .before .before in
+    sym
+    (length-take-le (at-bucket-extent .bucket-extent .result) (now (entry .args .bs)) (at-bucket-extent .bucket-extent .ensures .1))
+
+open-requires : tie.Need-open-requires
+open-requires c κs = search needs
+
+same-length : tie.Need-same-length
+same-length c = search needs
+
+same-length-2 : tie.Need-same-length-2
+same-length-2 c = search needs
+
+returns : tie.Need-returns
+returns c =
+    let at-open = c .before .before .before .before .before .before in
+    let at-bucket-extent = at-open .before .before .before in
+    let at-node-extent = at-bucket-extent .before in
+    let entry = at-node-extent .before .before .before .before in
+    opens (entry .args .s) (now (entry .args .ns)) (now (entry .args .bs)) (at-node-extent .node-extent .result)
+    (at-bucket-extent .bucket-extent .result) (at-node-extent .node-extent .ensures .0)
+    (at-bucket-extent .bucket-extent .ensures .0) (at-open .«open» .result .state) _ _ (at-open .«open» .result .refusal)
+    (at-open .«open» .ensures .0) (at-open .«open» .ensures .1) _ (c .if1 .taken)
+
+refusal-requires : tie.Need-refusal-requires
+refusal-requires c κs = search needs
+
+same-length-3 : tie.Need-same-length-3
+same-length-3 c = search needs
+
+same-length-4 : tie.Need-same-length-4
+same-length-4 c = search needs
+
+same-length-5 : tie.Need-same-length-5
+same-length-5 c = search needs
+
+returns-2 : tie.Need-returns-2
+returns-2 c =
+    let at-if1 = c .before .before .before .before in
+    let at-open = at-if1 .before .before .before .before .before .before in
+    let at-bucket-extent = at-open .before .before .before in
+    let at-node-extent = at-bucket-extent .before in
+    let entry = at-node-extent .before .before .before .before in
+    refuses (entry .args .s) (now (entry .args .ns)) (now (entry .args .bs)) (at-node-extent .node-extent .result)
+    (at-bucket-extent .bucket-extent .result) (at-node-extent .node-extent .ensures .0)
+    (at-bucket-extent .bucket-extent .ensures .0) (at-open .«open» .result .state) _ _ (at-open .«open» .result .refusal)
+    (at-open .«open» .ensures .0) (at-open .«open» .ensures .1) _ _ _ (at-if1 .if1 .left) (c .before .before .refusal .ensures)
+
+pub open-machine-spec : {M : Type 1} → statement M
+open-machine-spec =
+    tie.close
+    (tie.spec
+    node-extent-requires
+    bucket-extent-requires
+    slice-relend-prefix-open
+    slice-aggregate-open
+    slice-relend-prefix-open-2
+    slice-aggregate-open-2
+    open-requires
+    same-length
+    same-length-2
+    returns
+    refusal-requires
+    same-length-3
+    same-length-4
+    same-length-5
+    returns-2)

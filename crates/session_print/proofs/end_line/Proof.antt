@@ -1,0 +1,56 @@
+-- `session_print::end_line` meets its contract. Five parts appended one after the other. Assumes nothing.
+use mathlib.Core.List.{[], _∷_, _++_}
+use Rattle.session_print.proofs.Laws.{append-5}
+use Rattle.session.specs.Print.{decimal, output-line, answer-word}
+use Rattle.session.specs.Keys.{end-key}
+use Rattle.session.specs.Buffer.{append}
+use borrow.Author.Needs.{needs}
+use Rattle.session_print.proofs.end_line.Statement.{statement}
+use Rattle.session_print.proofs.end_line.Tie as tie
+
+slice-aggregate-keyed : tie.Need-slice-aggregate-keyed
+slice-aggregate-keyed c = search needs
+
+keyed-requires : tie.Need-keyed-requires
+keyed-requires c κs = search needs
+
+answer-requires : tie.Need-answer-requires
+answer-requires c κs = search needs
+
+one-byte-requires : tie.Need-one-byte-requires
+one-byte-requires c κs = search needs
+
+number-requires : tie.Need-number-requires
+number-requires c κs = search needs
+
+one-byte-requires-2 : tie.Need-one-byte-requires-2
+one-byte-requires-2 c κs = search needs
+
+same-length : tie.Need-same-length
+same-length c = search needs
+
+returns : tie.Need-returns
+unfolding output-line append
+returns c =
+    let at-number = c .before .before .before .before .before .before in
+    let at-one-byte = at-number .before .before .before .before in
+    let at-answer = at-one-byte .before .before .before .before in
+    let at-keyed = at-answer .before .before .before .before in
+    let entry = at-keyed .before .before .before .before in
+    let a = entry .args in
+    append-5 (end-key ++ decimal (a .k) ++ (44 ∷ [])) (answer-word (a .w)) (44 ∷ []) (decimal (a .own)) (10 ∷ []) _ _ _ _ _ _
+    (at-keyed .keyed .ensures) (at-answer .answer .ensures) (at-one-byte .one-byte .ensures) (at-number .number .ensures)
+    (c .before .before .one-byte2 .ensures)
+
+pub end-line-spec : {M : Type 1} → statement M
+end-line-spec =
+    tie.close
+    (tie.spec
+    slice-aggregate-keyed
+    keyed-requires
+    answer-requires
+    one-byte-requires
+    number-requires
+    one-byte-requires-2
+    same-length
+    returns)

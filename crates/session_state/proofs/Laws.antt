@@ -1,0 +1,102 @@
+-- Laws that the proofs of the functions cite, over plain lists and numbers: the extent of a pool's part, an entry's machine put
+-- back into the lent pools, a line that is not closed yet. Assumes nothing.
+use mathlib.Core.Path.{_≡_, refl, sym, ap, _∙_}
+use mathlib.Core.List.{List, [], _++_}
+use Prim.Native.Nat.{ℕ, _+_, _*_, _<_, _≤_}
+use native.Mathlib.Omega.{arith}
+use borrow.Author.Tests.{le-leb, lt-leb, lt-ltb, le-ltb}
+use lib.ListN.{length, getD, take, drop, set, List·getD-eq-default}
+use lib.Seq.{take-all}
+use Rattle.spec.specs.declared.State.{State}
+use Rattle.spec.specs.Machine.{Machine, machine-of}
+use Rattle.spec.specs.Words.{size}
+use Rattle.session.specs.Buffer.{Buffer, buffer, append}
+use Rattle.session_state.specs.declared.Phase.{Phase}
+use Rattle.session_state.specs.declared.Session.{Session}
+use Rattle.session_state.specs.declared.Handled.{Handled}
+use Rattle.session_state.specs.declared.partial_line.PartialLine.{PartialLine}
+use Rattle.session_state.specs.PartialLines.{partial, pushed}
+use Rattle.session_state.specs.Handling.{session, SessionEffect, SessionHandled, LineHandled, pools-kept, extent, node-extent, bucket-extent, session-machine, with-machine, phase-unclosed, unclosed-output}
+
+abbrev pub handled : Session → ℕ → Handled
+handled s n = record { session = s; printed = n }
+
+-- ---- the extent of a part
+
+module _ (width most n words : ℕ) where
+  pub extent-low : n < 1 → extent width most n words ≡ 0
+  unfolding extent
+  extent-low h = rw (lt-leb _ _ h)
+
+  pub extent-high : 1 ≤ n → most < n → extent width most n words ≡ 0
+  unfolding extent
+  extent-high l h = rw (le-leb _ _ l, lt-leb _ _ h)
+
+  pub extent-fits : 1 ≤ n → n ≤ most → width * n ≤ words → extent width most n words ≡ width * n
+  unfolding extent
+  extent-fits l h f = rw (le-leb _ _ l, le-leb _ _ h, le-leb _ _ f)
+
+  pub extent-short : 1 ≤ n → n ≤ most → words < width * n → extent width most n words ≡ 0
+  unfolding extent
+  extent-short l h f = rw (le-leb _ _ l, le-leb _ _ h, lt-leb _ _ f)
+
+-- a node's size, past the pool's end too
+pub size-in : (ns : List ℕ) (k : ℕ) → getD ns (34 * k) 0 ≡ size ns k
+unfolding size
+size-in ns k = refl
+
+pub size-past : (ns : List ℕ) (k : ℕ) → length ns ≤ 34 * k → 0 ≡ size ns k
+unfolding size
+size-past ns k h = sym (List·getD-eq-default ns 0 h)
+
+-- ---- nothing is printed; no word is changed
+
+pub nothing-appended : (t : Buffer) → t ≡ append [] t
+unfolding append
+nothing-appended t = refl
+
+pub keeps : (d : SessionEffect) (r : Handled) (ns bs before after : List ℕ) → SessionHandled d r before after
+    → LineHandled (pools-kept d ns bs) r ns bs before after
+unfolding pools-kept
+keeps d r ns bs before after h = record { next = h .next; nodes = refl; buckets = refl; wrote = h .wrote }
+
+-- ---- an entry over the session's part of the pools
+
+module _ (s : Session) (ns bs : List ℕ) (a b : ℕ) (ea : a ≡ node-extent s ns) (eb : b ≡ bucket-extent s bs) where
+  -- the entry's machine put back
+  pub puts-back : (phase : Phase) (prints : List ℕ) (y : Machine) (m : State) (n' b' : List ℕ) (count : ℕ) (before after : List ℕ)
+      → machine-of m n' b' ≡ y → buffer after count ≡ append prints (buffer before 0)
+      → LineHandled (with-machine phase prints y s ns bs) (handled (session phase (s .tasks) (s .nodes) (s .buckets) m) count) (n' ++ drop a ns) (b' ++ drop b bs) before after
+  unfolding with-machine
+  puts-back phase prints y m n' b' count before after e t =
+      record {
+        next = ap (λ (x : Machine). session phase (s .tasks) (s .nodes) (s .buckets) (x .state)) e;
+        nodes = ap (λ (x : Machine). x .nodes ++ drop a ns) e ∙ ap (λ (n : ℕ). y .nodes ++ drop n ns) ea;
+        buckets = ap (λ (x : Machine). x .buckets ++ drop b bs) e ∙ ap (λ (n : ℕ). y .buckets ++ drop n bs) eb;
+        wrote = t;
+      }
+
+  pub same-machine : machine-of (s .state) (take a ns) (take b bs) ≡ session-machine s ns bs
+  same-machine =
+      ap (λ (n : ℕ). machine-of (s .state) (take n ns) (take b bs)) ea
+      ∙ ap (λ (n : ℕ). machine-of (s .state) (take (node-extent s ns) ns) (take n bs)) eb
+
+-- ---- the end of the input, by where the session stands
+
+module _ (s : Session) (p : Phase) (e : s .phase ≡ p) where
+  pub ends-unclosed : (t u : Buffer) → u ≡ append (phase-unclosed p) t → u ≡ append (unclosed-output s) t
+  unfolding unclosed-output
+  ends-unclosed t u h = h ∙ ap (λ (q : Phase). append (phase-unclosed q) t) (sym e)
+
+-- ---- a line that is not closed yet
+
+pub all-kept : (b : List ℕ) (n : ℕ) → length b ≡ 41 → 41 ≤ n → take 41 b ≡ take n b
+all-kept b n e h = take-all 41 b (omega arith) ∙ sym (take-all n b (omega arith))
+
+pub push-in : (h : PartialLine) (x : ℕ) → h .len < 41 → partial (set (h .bytes) (h .len) x) (h .len + 1) ≡ pushed h x
+unfolding pushed
+push-in h x l = rw (lt-ltb _ _ l)
+
+pub push-full : (h : PartialLine) (x : ℕ) → 41 ≤ h .len → h ≡ pushed h x
+unfolding pushed
+push-full h x l = rw (le-ltb _ _ l)

@@ -1,0 +1,58 @@
+// A line that is not closed yet: its bytes, at most 41 of them, since a line of more than 40 is outside the grammar however it goes
+// on.
+ghost use mathlib.Core.Path.{_≡_};
+ghost use Prim.Native.Nat.{_≤_};
+ghost use lib.Dec.{eqb};
+ghost use lib.ListN.{take};
+ghost use Rattle.session.specs.Keys.{newline};
+ghost use Rattle.session_state.specs.PartialLines.{empty-line, line-bytes, pushed};
+
+// The bytes of a line that is not closed yet, and how many they are.
+pub struct PartialLine {
+    pub bytes: [u8; 41],
+    pub len: usize,
+}
+
+// Whether the byte closes a line.
+pub fn closes(x: u8) -> bool
+    ensures { λ r. ⌜ r ≡ eqb x newline ⌝ }
+{
+    x == 10
+}
+
+// A line of no bytes.
+pub fn empty_line() -> PartialLine
+    ensures { λ r. ⌜ r ≡ empty-line ⌝ }
+{
+    PartialLine {
+        bytes: [0; 41],
+        len: 0,
+    }
+}
+
+// One byte more; a line of 41 bytes stays as it is.
+pub fn push(h: PartialLine, x: u8) -> PartialLine
+    ensures { λ r. ⌜ r ≡ pushed h x ⌝ }
+{
+    let n = h.len;
+    let mut b = h.bytes;
+    if n < 41 {
+        b[n] = x;
+        return PartialLine {
+            bytes: b,
+            len: n + 1,
+        };
+    }
+    h
+}
+
+// How many of the 41 bytes are the line's.
+pub fn line_length(h: PartialLine) -> usize
+    ensures { λ r. ⌜ (r ≤ 41) × (take r (h .bytes) ≡ line-bytes h) ⌝ }
+{
+    let n = h.len;
+    if n < 41 {
+        return n;
+    }
+    41
+}

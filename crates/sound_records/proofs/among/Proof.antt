@@ -1,0 +1,60 @@
+-- `sound_records::among` meets its contract: whether the number is a member of the whole is whether it is one of what is left.
+-- Assumes nothing.
+use mathlib.Core.Path.{_≡_, refl, sym, _∙_}
+use Prim.Native.Nat.{_≤_, _-_}
+use denote.Ref.{now}
+use lib.ListN.{length, drop}
+use Rattle.spec.specs.Lists.{member}
+use Rattle.sound_records.proofs.Laws.{member-here, member-on, member-end}
+use native.Mathlib.Omega.{arith}
+use borrow.Author.Needs.{needs}
+use Rattle.sound_records.proofs.among.Statement.{statement}
+use Rattle.sound_records.proofs.among.Tie as tie
+
+abbrev Inv-loop : tie.InvT-loop
+Inv-loop x s i₀ i = (i ≤ length s) × (member x s ≡ member x (drop i s))
+
+abbrev μ-loop : tie.MeasureT-loop
+μ-loop x s i₀ i = length s - i
+
+loop-holds : tie.Need-loop-holds Inv-loop μ-loop
+loop-holds c = (omega arith, refl)
+
+mul-if1 : tie.Need-mul-if1 Inv-loop μ-loop
+mul-if1 c = search needs
+
+shared-slice-read-if1 : tie.Need-shared-slice-read-if1 Inv-loop μ-loop
+shared-slice-read-if1 c = search needs
+
+returns : tie.Need-returns Inv-loop μ-loop
+returns c =
+    sym (c .before .before .before .loop .inv .1 ∙ member-here (now (c .before .before .before .before .args .s)) (c .before .before .before .loop .i) (omega arith) (c .before .before .before .before .args .x) (c .if1 .taken))
+
+add-i : tie.Need-add-i Inv-loop μ-loop
+add-i c = search needs
+
+loop-less : tie.Need-loop-less Inv-loop μ-loop
+loop-less c = search needs
+
+loop-again : tie.Need-loop-again Inv-loop μ-loop
+loop-again c =
+    (omega arith, c .before .before .before .loop .inv .1 ∙ member-on (now (c .before .before .before .before .args .s)) (c .before .before .before .loop .i) (omega arith) (c .before .before .before .before .args .x) (c .if1 .left))
+
+returns-2 : tie.Need-returns-2 Inv-loop μ-loop
+returns-2 c =
+    sym (c .before .loop .inv .1 ∙ member-end (c .before .before .args .x) (now (c .before .before .args .s)) (c .before .loop .i) (omega arith))
+
+pub among-spec : {M : Type 1} → statement M
+among-spec =
+    tie.close
+    (tie.spec
+    Inv-loop
+    μ-loop
+    loop-holds
+    mul-if1
+    shared-slice-read-if1
+    returns
+    add-i
+    loop-less
+    loop-again
+    returns-2)

@@ -1,0 +1,84 @@
+-- `sound_records::buckets_ok` meets its contract: what is left to test is `sound-buckets` of the words from bucket k on. Assumes
+-- nothing.
+use mathlib.Core.Path.{_≡_, sym, ap, _∙_}
+use Prim.Native.Nat.{_≤_, _-_, _*_}
+use native.Mathlib.Nat.{sub-zero}
+use denote.Ref.{now}
+use lib.ListN.{drop, length-drop}
+use borrow.Author.Tests.{not-true, not-false}
+use Rattle.spec.specs.Sound.{sound-bucket, sound-buckets}
+use Rattle.pool.proofs.Part.{rest}
+use Rattle.sound_records.proofs.Laws.{buckets-on, buckets-no, buckets-end}
+use native.Mathlib.Omega.{arith}
+use borrow.Author.Needs.{needs}
+use Rattle.sound_records.proofs.buckets_ok.Statement.{statement}
+use Rattle.sound_records.proofs.buckets_ok.Tie as tie
+
+abbrev Inv-loop : tie.InvT-loop
+Inv-loop bs n k₀ k = (k ≤ n) × (sound-buckets n bs ≡ sound-buckets (n - k) (drop (66 * k) bs))
+
+abbrev μ-loop : tie.MeasureT-loop
+μ-loop bs n k₀ k = n - k
+
+loop-holds : tie.Need-loop-holds Inv-loop μ-loop
+loop-holds c = (omega arith, rw sub-zero)
+
+mul-a : tie.Need-mul-a Inv-loop μ-loop
+mul-a c = search needs
+
+mul-bucket-ok : tie.Need-mul-bucket-ok Inv-loop μ-loop
+mul-bucket-ok c = search needs
+
+sub-bucket-ok : tie.Need-sub-bucket-ok Inv-loop μ-loop
+sub-bucket-ok c = search needs
+
+part-bucket-ok-start : tie.Need-part-bucket-ok-start Inv-loop μ-loop
+part-bucket-ok-start c = search needs
+
+part-bucket-ok-end : tie.Need-part-bucket-ok-end Inv-loop μ-loop
+part-bucket-ok-end c = search needs
+
+bucket-ok-requires : tie.Need-bucket-ok-requires Inv-loop μ-loop
+bucket-ok-requires c κs =
+    rw (rest (now (c .before .before .before .before .args .bs)) (66 * c .before .before .loop .k), length-drop (66 * c .before .before .loop .k) (now (c .before .before .before .before .args .bs))) (omega arith)
+
+returns : tie.Need-returns Inv-loop μ-loop
+returns c =
+    let w = now (c .before .before .before .before .before .before .args .bs) in
+    let q = ap sound-bucket (sym (rest w (66 * c .before .before .before .before .loop .k))) ∙ sym (c .before .bucket-ok .ensures) ∙ not-true _ (c .if1 .taken) in
+    sym (c .before .before .before .before .loop .inv .1 ∙ buckets-no w (c .before .before .before .before .before .before .args .n) (c .before .before .before .before .loop .k) (c .before .before .before .loop-test .taken) q)
+
+add-k : tie.Need-add-k Inv-loop μ-loop
+add-k c = search needs
+
+loop-less : tie.Need-loop-less Inv-loop μ-loop
+loop-less c = search needs
+
+loop-again : tie.Need-loop-again Inv-loop μ-loop
+loop-again c =
+    let w = now (c .before .before .before .before .before .before .args .bs) in
+    let q = ap sound-bucket (sym (rest w (66 * c .before .before .before .before .loop .k))) ∙ sym (c .before .bucket-ok .ensures) ∙ not-false _ (c .if1 .left) in
+    (omega arith, c .before .before .before .before .loop .inv .1 ∙ buckets-on w (c .before .before .before .before .before .before .args .n) (c .before .before .before .before .loop .k) (c .before .before .before .loop-test .taken) q)
+
+returns-2 : tie.Need-returns-2 Inv-loop μ-loop
+returns-2 c =
+    sym (c .before .loop .inv .1 ∙ buckets-end (drop (66 * c .before .loop .k) (now (c .before .before .before .args .bs))) (c .before .before .before .args .n) (c .before .loop .k) (c .loop-test .left))
+
+pub buckets-ok-spec : {M : Type 1} → statement M
+buckets-ok-spec =
+    tie.close
+    (tie.spec
+    Inv-loop
+    μ-loop
+    loop-holds
+    mul-a
+    mul-bucket-ok
+    sub-bucket-ok
+    part-bucket-ok-start
+    part-bucket-ok-end
+    bucket-ok-requires
+    returns
+    add-k
+    loop-less
+    loop-again
+    returns-2)

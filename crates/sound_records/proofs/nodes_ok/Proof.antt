@@ -1,0 +1,90 @@
+-- `sound_records::nodes_ok` meets its contract: what is left to test is `sound-nodes` of the words from node k on. Assumes
+-- nothing.
+use mathlib.Core.Path.{_≡_, sym, ap, _∙_}
+use Prim.Native.Nat.{_≤_, _-_, _*_}
+use native.Mathlib.Nat.{sub-zero}
+use denote.Ref.{now}
+use lib.ListN.{drop, length-drop}
+use borrow.Author.Tests.{not-true, not-false}
+use Rattle.spec.specs.Machine.{Machine}
+use Rattle.spec.specs.Sound.{sound-node, sound-nodes}
+use Rattle.pool.proofs.Part.{rest}
+use Rattle.sound_records.proofs.Laws.{nodes-on, nodes-no, nodes-end}
+use native.Mathlib.Omega.{arith}
+use borrow.Author.Needs.{needs}
+use Rattle.sound_records.proofs.nodes_ok.Statement.{statement}
+use Rattle.sound_records.proofs.nodes_ok.Tie as tie
+
+abbrev Inv-loop : tie.InvT-loop
+Inv-loop ns h b n k₀ k =
+    (k ≤ h) × ((y : Machine) → y .nodes ≡ ns → y .state .nodes ≡ h → y .state .buckets ≡ b → sound-nodes y h ns ≡ sound-nodes y (h - k) (drop (34 * k) ns))
+
+abbrev μ-loop : tie.MeasureT-loop
+μ-loop ns h b n k₀ k = h - k
+
+loop-holds : tie.Need-loop-holds Inv-loop μ-loop
+loop-holds c = (omega arith, λ y e h d. rw sub-zero)
+
+mul-a : tie.Need-mul-a Inv-loop μ-loop
+mul-a c = search needs
+
+mul-node-ok : tie.Need-mul-node-ok Inv-loop μ-loop
+mul-node-ok c = search needs
+
+sub-node-ok : tie.Need-sub-node-ok Inv-loop μ-loop
+sub-node-ok c = search needs
+
+part-node-ok-start : tie.Need-part-node-ok-start Inv-loop μ-loop
+part-node-ok-start c = search needs
+
+part-node-ok-end : tie.Need-part-node-ok-end Inv-loop μ-loop
+part-node-ok-end c = search needs
+
+node-ok-requires : tie.Need-node-ok-requires Inv-loop μ-loop
+node-ok-requires c κs =
+    rw (rest (now (c .before .before .before .before .args .ns)) (34 * c .before .before .loop .k), length-drop (34 * c .before .before .loop .k) (now (c .before .before .before .before .args .ns))) (omega arith)
+
+returns : tie.Need-returns Inv-loop μ-loop
+returns c =
+    λ y e h d.
+    let w = now (c .before .before .before .before .before .before .args .ns) in
+    let q = ap (sound-node y) (sym (rest w (34 * c .before .before .before .before .loop .k))) ∙ sym (c .before .node-ok .ensures y e h d) ∙ not-true _ (c .if1 .taken) in
+    sym (c .before .before .before .before .loop .inv .1 y e h d ∙ nodes-no w (c .before .before .before .before .before .before .args .h) (c .before .before .before .before .loop .k) (c .before .before .before .loop-test .taken) y q)
+
+add-k : tie.Need-add-k Inv-loop μ-loop
+add-k c = search needs
+
+loop-less : tie.Need-loop-less Inv-loop μ-loop
+loop-less c = search needs
+
+loop-again : tie.Need-loop-again Inv-loop μ-loop
+loop-again c = (
+  omega arith,
+  λ y e h d.
+      let w = now (c .before .before .before .before .before .before .args .ns) in
+      let q = ap (sound-node y) (sym (rest w (34 * c .before .before .before .before .loop .k))) ∙ sym (c .before .node-ok .ensures y e h d) ∙ not-false _ (c .if1 .left) in
+      c .before .before .before .before .loop .inv .1 y e h d ∙ nodes-on w (c .before .before .before .before .before .before .args .h) (c .before .before .before .before .loop .k) (c .before .before .before .loop-test .taken) y q,
+)
+
+returns-2 : tie.Need-returns-2 Inv-loop μ-loop
+returns-2 c =
+    λ y e h d. sym (c .before .loop .inv .1 y e h d ∙ nodes-end (drop (34 * c .before .loop .k) (now (c .before .before .before .args .ns))) (c .before .before .before .args .h) (c .before .loop .k) (c .loop-test .left) y)
+
+pub nodes-ok-spec : {M : Type 1} → statement M
+nodes-ok-spec =
+    tie.close
+    (tie.spec
+    Inv-loop
+    μ-loop
+    loop-holds
+    mul-a
+    mul-node-ok
+    sub-node-ok
+    part-node-ok-start
+    part-node-ok-end
+    node-ok-requires
+    returns
+    add-k
+    loop-less
+    loop-again
+    returns-2)

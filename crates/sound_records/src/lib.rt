@@ -1,0 +1,176 @@
+// The records of both pools, tested for soundness: a node, a bucket, and a scan of each pool, which ends with the first record that
+// is not sound.
+ghost use mathlib.Core.Path.{_≡_};
+ghost use mathlib.Core.Bool.{_||_};
+ghost use Prim.Native.Nat.{_+_, _*_, _≤_};
+ghost use lib.ListN.{length, drop};
+ghost use lib.Dec.{leb, eqb};
+ghost use Rattle.spec.specs.Lists.{member, every, ascending};
+ghost use Rattle.spec.specs.Machine.{Machine};
+ghost use Rattle.spec.specs.Sound.{zeros, listed-size, node-link, sound-node, sound-nodes, sound-bucket, sound-buckets};
+
+pub fn among(x: u32, s: &[u32]) -> bool
+    ensures { λ r. ⌜ r ≡ member x (now (s .entry)) ⌝ }
+{
+    let mut i = 0;
+    while i < s.len() {
+        if x == s[i] {
+            return true;
+        }
+        i += 1;
+    }
+    false
+}
+
+// The n words from this one on are 0: their bitwise or is. Here and in the two loops below, which count the words that fail, there is
+// no exit on the way, so that the loop is compiled to vector instructions; a scan exits between records.
+pub fn zero_words(w: &[u32], first: usize, n: usize) -> bool
+    requires { ⌜ first + n ≤ length (now w) ⌝ }
+    ensures { λ r. ⌜ r ≡ zeros n (drop first (now (w .entry))) ⌝ }
+{
+    let mut all: u32 = 0;
+    let mut j: usize = 0;
+    while j < n {
+        all = all | w[first + j];
+        j += 1;
+    }
+    all == 0
+}
+
+pub fn is_listed_size(n: u32) -> bool
+    ensures { λ r. ⌜ r ≡ listed-size n ⌝ }
+{
+    let w: [u32; 6] = [1, 2, 4, 8, 16, 32];
+    among(n, &w)
+}
+
+fn size_ok(n: u32) -> bool
+    ensures { λ r. ⌜ r ≡ (eqb n 0 || listed-size n) ⌝ }
+{
+    if n == 0 {
+        return true;
+    }
+    is_listed_size(n)
+}
+
+// None, or a node of the pool of h nodes that has a size.
+pub fn link_ok(ns: &[u32], h: u32, l: u32) -> bool
+    ensures { λ r. ⌜ ((y : Machine) → y .nodes ≡ now (ns .entry) → y .state .nodes ≡ h → r ≡ node-link y l) ⌝ }
+{
+    if h < l {
+        return false;
+    }
+    if l == 0 {
+        return true;
+    }
+    let z = pool::size_of(ns, l);
+    if z == 0 {
+        return false;
+    }
+    true
+}
+
+pub fn all_within(s: &[u32], b: u32) -> bool
+    requires { ⌜ length (now s) ≤ 64 ⌝ }
+    ensures { λ r. ⌜ r ≡ every (λ l. leb l b) (now (s .entry)) ⌝ }
+{
+    let mut bad: u32 = 0;
+    let mut i = 0;
+    while i < s.len() {
+        if b < s[i] {
+            bad += 1;
+        }
+        i += 1;
+    }
+    bad == 0
+}
+
+fn is_ascending(s: &[u32]) -> bool
+    requires { ⌜ length (now s) ≤ 64 ⌝ }
+    ensures { λ r. ⌜ r ≡ ascending (now (s .entry)) ⌝ }
+{
+    let mut bad: u32 = 0;
+    let mut i = 1;
+    while i < s.len() {
+        if s[i] <= s[i - 1] {
+            bad += 1;
+        }
+        i += 1;
+    }
+    bad == 0
+}
+
+// The node whose first word is the part's.
+fn node_ok(w: &[u32], ns: &[u32], h: u32, b: u32) -> bool
+    requires { ⌜ 34 ≤ length (now w) ⌝ }
+    ensures { λ r. ⌜ ((y : Machine) → y .nodes ≡ now (ns .entry) → y .state .nodes ≡ h → y .state .buckets ≡ b → r ≡ sound-node y (now (w .entry))) ⌝ }
+{
+    let z = w[0];
+    if !size_ok(z) {
+        return false;
+    }
+    let p = w[1];
+    if !link_ok(ns, h, p) {
+        return false;
+    }
+    if !all_within(&w[2..34], b) {
+        return false;
+    }
+    if 32 < z {
+        return false;
+    }
+    let n = z as usize;
+    zero_words(w, 2 + n, 32 - n)
+}
+
+pub fn nodes_ok(ns: &[u32], h: u32, b: u32) -> bool
+    requires { ⌜ (h ≤ 64) × (34 * h ≤ length (now ns)) ⌝ }
+    ensures { λ r. ⌜ ((y : Machine) → y .nodes ≡ now (ns .entry) → y .state .nodes ≡ h → y .state .buckets ≡ b → r ≡ sound-nodes y h (now (ns .entry))) ⌝ }
+{
+    let n = h as usize;
+    let mut k: usize = 0;
+    while k < n {
+        let a = 34 * k;
+        if !node_ok(&ns[a..], ns, h, b) {
+            return false;
+        }
+        k += 1;
+    }
+    true
+}
+
+// The bucket whose first word is the part's.
+fn bucket_ok(w: &[u32]) -> bool
+    requires { ⌜ 66 ≤ length (now w) ⌝ }
+    ensures { λ r. ⌜ r ≡ sound-bucket (now (w .entry)) ⌝ }
+{
+    let f = w[0];
+    if 1 < f {
+        return false;
+    }
+    let c = w[1];
+    if 64 < c {
+        return false;
+    }
+    let n = c as usize;
+    let e = 2 + n;
+    if !is_ascending(&w[2..e]) {
+        return false;
+    }
+    zero_words(w, e, 64 - n)
+}
+
+pub fn buckets_ok(bs: &[u32], n: usize) -> bool
+    requires { ⌜ (n ≤ 1024) × (66 * n ≤ length (now bs)) ⌝ }
+    ensures { λ r. ⌜ r ≡ sound-buckets n (now (bs .entry)) ⌝ }
+{
+    let mut k = 0;
+    while k < n {
+        let a = 66 * k;
+        if !bucket_ok(&bs[a..]) {
+            return false;
+        }
+        k += 1;
+    }
+    true
+}

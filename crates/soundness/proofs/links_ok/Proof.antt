@@ -1,0 +1,47 @@
+-- `soundness::links_ok` meets its contract: each early return is one of the three links that is none. Assumes nothing.
+use mathlib.Core.Path.{sym, _∙_}
+use borrow.Author.Tests.{not-true, not-false}
+use Rattle.spec.specs.Lists.{every}
+use borrow.Author.Needs.{needs}
+use Rattle.soundness.proofs.links_ok.Statement.{statement}
+use Rattle.soundness.proofs.links_ok.Tie as tie
+
+link-ok-requires : tie.Need-link-ok-requires
+link-ok-requires c κs = search needs
+
+returns : tie.Need-returns
+unfolding every
+returns c = λ y e h. rw (sym (c .before .link-ok .ensures y e h) ∙ not-true _ (c .if1 .taken))
+
+link-ok-requires-2 : tie.Need-link-ok-requires-2
+link-ok-requires-2 c κs = search needs
+
+returns-2 : tie.Need-returns-2
+unfolding every
+returns-2 c =
+    λ y e h. rw (sym (c .before .before .before .link-ok .ensures y e h) ∙ not-false _ (c .before .before .if1 .left), sym (c .before .link-ok2 .ensures y e h) ∙ not-true _ (c .if2 .taken))
+
+link-ok-requires-3 : tie.Need-link-ok-requires-3
+link-ok-requires-3 c κs = search needs
+
+returns-3 : tie.Need-returns-3
+unfolding every
+returns-3 c =
+    λ y e h. rw (sym (c .before .before .before .before .before .link-ok .ensures y e h) ∙ not-false _ (c .before .before .before .before .if1 .left), sym (c .before .before .before .link-ok2 .ensures y e h) ∙ not-false _ (c .before .before .if2 .left), sym (c .before .link-ok3 .ensures y e h) ∙ not-true _ (c .if3 .taken))
+
+returns-4 : tie.Need-returns-4
+unfolding every
+returns-4 c =
+    λ y e h. rw (sym (c .before .before .before .before .before .link-ok .ensures y e h) ∙ not-false _ (c .before .before .before .before .if1 .left), sym (c .before .before .before .link-ok2 .ensures y e h) ∙ not-false _ (c .before .before .if2 .left), sym (c .before .link-ok3 .ensures y e h) ∙ not-false _ (c .if3 .left))
+
+pub links-ok-spec : {M : Type 1} → statement M
+links-ok-spec =
+    tie.close
+    (tie.spec
+    link-ok-requires
+    returns
+    link-ok-requires-2
+    returns-2
+    link-ok-requires-3
+    returns-3
+    returns-4)

@@ -1,0 +1,71 @@
+-- `soundness::running_ok` meets its contract: each early return is a conjunct of `sound-running` that fails; the last is the
+-- four bucket links. Assumes nothing.
+use mathlib.Core.Path.{sym, _∙_}
+use Prim.Native.Nat.{_≤_, _<_}
+use borrow.Author.Tests.{le-leb, lt-leb, not-true, not-false}
+use Rattle.spec.specs.Sound.{bucket-link, sound-running}
+use borrow.Author.Tests.{le-ltb, lt-ltb}
+use borrow.Author.Needs.{needs}
+use Rattle.soundness.proofs.running_ok.Statement.{statement}
+use Rattle.soundness.proofs.running_ok.Tie as tie
+
+returns : tie.Need-returns
+unfolding sound-running bucket-link
+returns c =
+    λ y e t h b. let l : y .state .tasks ≤ c .before .before .args .k = rw t (c .if1 .taken) in rw (le-ltb _ _ l)
+
+line-ok-requires : tie.Need-line-ok-requires
+line-ok-requires c κs = search needs
+
+returns-2 : tie.Need-returns-2
+unfolding sound-running bucket-link
+returns-2 c =
+    λ y e t h b. let l : c .before .before .before .before .args .k < y .state .tasks = rw t (c .before .before .if1 .left) in rw (lt-ltb _ _ l, sym (c .before .line-ok .ensures) ∙ not-true _ (c .if2 .taken))
+
+returns-3 : tie.Need-returns-3
+unfolding sound-running bucket-link
+returns-3 c =
+    λ y e t h b. let l : c .before .before .before .before .before .before .args .k < y .state .tasks = rw t (c .before .before .before .before .if1 .left) in rw (lt-ltb _ _ l, sym (c .before .before .before .line-ok .ensures) ∙ not-false _ (c .before .before .if2 .left), lt-leb _ _ (c .if3 .taken))
+
+tag-ok-requires : tie.Need-tag-ok-requires
+tag-ok-requires c κs = search needs
+
+returns-4 : tie.Need-returns-4
+unfolding sound-running bucket-link
+returns-4 c =
+    λ y e t h b. let l : c .before .before .before .before .before .before .before .before .args .k < y .state .tasks = rw t (c .before .before .before .before .before .before .if1 .left) in rw (lt-ltb _ _ l, sym (c .before .before .before .before .before .line-ok .ensures) ∙ not-false _ (c .before .before .before .before .if2 .left), le-leb _ _ (c .before .before .if3 .left), sym (c .before .tag-ok .ensures) ∙ not-true _ (c .if4 .taken))
+
+links-ok-requires : tie.Need-links-ok-requires
+links-ok-requires c κs = search needs
+
+returns-5 : tie.Need-returns-5
+unfolding sound-running bucket-link
+returns-5 c =
+    λ y e t h b. let l : c .before .before .before .before .before .before .before .before .before .before .args .k < y .state .tasks = rw t (c .before .before .before .before .before .before .before .before .if1 .left) in rw (lt-ltb _ _ l, sym (c .before .before .before .before .before .before .before .line-ok .ensures) ∙ not-false _ (c .before .before .before .before .before .before .if2 .left), le-leb _ _ (c .before .before .before .before .if3 .left), sym (c .before .before .before .tag-ok .ensures) ∙ not-false _ (c .before .before .if4 .left), sym (c .before .links-ok .ensures y e h) ∙ not-true _ (c .if5 .taken))
+
+slice-aggregate-all-within : tie.Need-slice-aggregate-all-within
+slice-aggregate-all-within c = search needs
+
+all-within-requires : tie.Need-all-within-requires
+all-within-requires c κs = search needs
+
+returns-6 : tie.Need-returns-6
+unfolding sound-running bucket-link
+returns-6 c =
+    λ y e t h b. let l : c .before .before .before .before .before .before .before .before .before .before .before .before .args .k < y .state .tasks = rw t (c .before .before .before .before .before .before .before .before .before .before .if1 .left) in rw (lt-ltb _ _ l, sym (c .before .before .before .before .before .before .before .before .before .line-ok .ensures) ∙ not-false _ (c .before .before .before .before .before .before .before .before .if2 .left), le-leb _ _ (c .before .before .before .before .before .before .if3 .left), sym (c .before .before .before .before .before .tag-ok .ensures) ∙ not-false _ (c .before .before .before .before .if4 .left), sym (c .before .before .before .links-ok .ensures y e h) ∙ not-false _ (c .before .before .if5 .left), b) (c .all-within .ensures)
+
+pub running-ok-spec : {M : Type 1} → statement M
+running-ok-spec =
+    tie.close
+    (tie.spec
+    returns
+    line-ok-requires
+    returns-2
+    returns-3
+    tag-ok-requires
+    returns-4
+    links-ok-requires
+    returns-5
+    slice-aggregate-all-within
+    all-within-requires
+    returns-6)

@@ -1,0 +1,225 @@
+// Refusal 8, as far as it does not depend on the entry called: the state and both pools are sound. The state's numbers first, then
+// one pass over each pool, then the tasks.
+use spec::State;
+use spec::Task;
+ghost use mathlib.Core.Path.{_≡_};
+ghost use mathlib.Core.Bool.{not, _&&_, _||_};
+ghost use mathlib.Core.List.{[], _∷_};
+ghost use Prim.Native.Nat.{_*_};
+ghost use lib.Dec.{eqb, ltb};
+ghost use lib.ListN.{length};
+ghost use Rattle.spec.specs.Lists.{member, every};
+ghost use Rattle.spec.specs.Machine.{Machine, machine-of};
+ghost use Rattle.spec.specs.Words.{size};
+ghost use Rattle.spec.specs.Sound.{within, node-link, resizes, zero-task, sound-running, lines-of, sound-task, sound-tasks, sound-numbers, sound};
+
+// A line of the call, by its number.
+fn line_ok(call: u32, line: u32) -> bool
+    ensures { λ r. ⌜ r ≡ member line (lines-of call) ⌝ }
+{
+    if call < 1 {
+        return false;
+    }
+    if call < 3 {
+        let w: [u32; 14] = [32, 33, 36, 39, 40, 43, 44, 46, 47, 48, 52, 49, 50, 51];
+        return sound_records::among(line, &w);
+    }
+    if call < 4 {
+        let w: [u32; 6] = [12, 13, 15, 16, 17, 18];
+        return sound_records::among(line, &w);
+    }
+    if call < 6 {
+        let w: [u32; 15] = [20, 24, 27, 28, 39, 40, 43, 44, 46, 47, 48, 52, 49, 50, 51];
+        return sound_records::among(line, &w);
+    }
+    false
+}
+
+// A resize has no tag.
+fn tag_ok(call: u32, tag: u32) -> bool
+    ensures { λ r. ⌜ r ≡ (not (resizes call) || eqb tag 0) ⌝ }
+{
+    if call == 4 {
+        return tag == 0;
+    }
+    if call == 5 {
+        return tag == 0;
+    }
+    true
+}
+
+fn idle_ok(c: Task) -> bool
+    ensures { λ r. ⌜ r ≡ zero-task c ⌝ }
+{
+    let o = c.own as u32;
+    let w: [u32; 12] = [
+        c.call,
+        c.tag,
+        c.line,
+        c.i,
+        o,
+        c.t,
+        c.s,
+        c.b,
+        c.m,
+        c.n,
+        c.new_node,
+        c.new_bucket,
+    ];
+    sound_records::zero_words(&w, 0, 12)
+}
+
+fn links_ok(c: Task, ns: &[u32], h: u32) -> bool
+    ensures { λ r. ⌜ ((y : Machine) → y .nodes ≡ now (ns .entry) → y .state .nodes ≡ h → r ≡ every (node-link y) (c .t ∷ c .s ∷ c .«new_node» ∷ [])) ⌝ }
+{
+    if !sound_records::link_ok(ns, h, c.t) {
+        return false;
+    }
+    if !sound_records::link_ok(ns, h, c.s) {
+        return false;
+    }
+    if !sound_records::link_ok(ns, h, c.new_node) {
+        return false;
+    }
+    true
+}
+
+fn running_ok(c: Task, k: u32, t: u32, ns: &[u32], h: u32, b: u32) -> bool
+    ensures { λ r. ⌜ ((y : Machine) → y .nodes ≡ now (ns .entry) → y .state .tasks ≡ t → y .state .nodes ≡ h → y .state .buckets ≡ b → r ≡ sound-running y k c) ⌝ }
+{
+    if t <= k {
+        return false;
+    }
+    if !line_ok(c.call, c.line) {
+        return false;
+    }
+    if 32 < c.i {
+        return false;
+    }
+    if !tag_ok(c.call, c.tag) {
+        return false;
+    }
+    if !links_ok(c, ns, h) {
+        return false;
+    }
+    let w: [u32; 4] = [c.b, c.m, c.n, c.new_bucket];
+    sound_records::all_within(&w, b)
+}
+
+fn task_ok(c: Task, k: u32, t: u32, ns: &[u32], h: u32, b: u32) -> bool
+    ensures { λ r. ⌜ ((y : Machine) → y .nodes ≡ now (ns .entry) → y .state .tasks ≡ t → y .state .nodes ≡ h → y .state .buckets ≡ b → r ≡ sound-task y k c) ⌝ }
+{
+    let running = c.running;
+    if running {
+        return running_ok(c, k, t, ns, h, b);
+    }
+    idle_ok(c)
+}
+
+fn tasks_ok(s: State, ns: &[u32]) -> bool
+    ensures { λ r. ⌜ ((y : Machine) → y .nodes ≡ now (ns .entry) → y .state ≡ s → r ≡ sound-tasks y 0 (s .task)) ⌝ }
+{
+    let ts = s.task;
+    let t = s.tasks;
+    let h = s.nodes;
+    let b = s.buckets;
+    let mut k: usize = 0;
+    while k < 8 {
+        let c = ts[k];
+        if !task_ok(c, k as u32, t, ns, h, b) {
+            return false;
+        }
+        k += 1;
+    }
+    true
+}
+
+// T, H and B are within bounds.
+fn counts_ok(t: u32, h: u32, b: u32) -> bool
+    ensures { λ r. ⌜ r ≡ (within 1 8 t && within 1 64 h && within 1 1024 b) ⌝ }
+{
+    if t < 1 {
+        return false;
+    }
+    if 8 < t {
+        return false;
+    }
+    if h < 1 {
+        return false;
+    }
+    if 64 < h {
+        return false;
+    }
+    if b < 1 {
+        return false;
+    }
+    if 1024 < b {
+        return false;
+    }
+    true
+}
+
+// Each pool has the words of its records.
+fn lengths_ok(ns: &[u32], bs: &[u32], h: u32, b: u32) -> bool
+    ensures { λ r. ⌜ r ≡ (eqb (length (now (ns .entry))) (34 * h) && eqb (length (now (bs .entry))) (66 * b)) ⌝ }
+{
+    if ns.len() != 34 * (h as usize) {
+        return false;
+    }
+    if bs.len() != 66 * (b as usize) {
+        return false;
+    }
+    true
+}
+
+// The head and the records last taken are in their pools, and the head is used.
+fn places_ok(d: u32, last_node: u32, last_bucket: u32, ns: &[u32], h: u32, b: u32) -> bool
+    ensures { λ r. ⌜ r ≡ (ltb d h && ltb «last_node» h && ltb «last_bucket» b && not (eqb (size (now (ns .entry)) d) 0)) ⌝ }
+{
+    if h <= d {
+        return false;
+    }
+    if h <= last_node {
+        return false;
+    }
+    if b <= last_bucket {
+        return false;
+    }
+    let z = pool::size_at(ns, d);
+    if z == 0 {
+        return false;
+    }
+    true
+}
+
+fn numbers_ok(s: State, ns: &[u32], bs: &[u32]) -> bool
+    ensures { λ r. ⌜ r ≡ sound-numbers (machine-of s (now (ns .entry)) (now (bs .entry))) ⌝ }
+{
+    let h = s.nodes;
+    let b = s.buckets;
+    if !counts_ok(s.tasks, h, b) {
+        return false;
+    }
+    if !lengths_ok(ns, bs, h, b) {
+        return false;
+    }
+    places_ok(s.head, s.last_node, s.last_bucket, ns, h, b)
+}
+
+// Refusal 8, as far as it does not depend on the entry called.
+pub fn sound(s: State, ns: &[u32], bs: &[u32]) -> bool
+    ensures { λ r. ⌜ r ≡ sound (machine-of s (now (ns .entry)) (now (bs .entry))) ⌝ }
+{
+    if !numbers_ok(s, ns, bs) {
+        return false;
+    }
+    let h = s.nodes;
+    let b = s.buckets;
+    if !sound_records::nodes_ok(ns, h, b) {
+        return false;
+    }
+    if !sound_records::buckets_ok(bs, b as usize) {
+        return false;
+    }
+    tasks_ok(s, ns)
+}
