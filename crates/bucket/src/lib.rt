@@ -1,17 +1,25 @@
 // A bucket of at most 64 tags, by value: 66 words. Its methods take it by value and hand back the next bucket with the answer.
 // Every contract holds for any words: what a bucket says of its tags, `tags-in` of specs/, is defined for all of them.
+use spec::Config;
 ghost use mathlib.Core.Path.{_≡_};
 ghost use mathlib.Core.Bool.{true, false};
-ghost use Prim.Native.Nat.{_+_, _≤_, _<_};
+ghost use Prim.Native.Nat.{_+_, _%_, _≤_, _<_};
 ghost use lib.ListN.{length, drop};
 ghost use lib.Seq.{paste};
 ghost use Rattle.spec.specs.Lists.{add-tag, remove-tag};
 ghost use Rattle.spec.specs.Words.{bucket-of};
-ghost use Rattle.spec.specs.Listed.{slot};
+ghost use Rattle.spec.specs.Listed.{key, slot};
 ghost use Rattle.bucket.specs.Bucket.{rank, stands-at, found, tags-in, added, removed, frozen-of};
 
+// A bucket's words, and the most tags that it may have.
+pub const WORDS: usize = 66;
+
+pub const MOST_TAGS: usize = 64;
+
+const MOST_COUNT: u32 = MOST_TAGS as u32;
+
 pub struct Bucket {
-    pub words: [u32; 66],
+    pub words: [u32; WORDS],
 }
 
 // What a bucket answers.
@@ -27,15 +35,30 @@ pub struct Changed {
     pub answer: Response,
 }
 
-// The number of a tag's place in a node of this size, the tag itself for size 0.
-pub fn slot(tag: u32, size: u32) -> u32
-    ensures { λ r. ⌜ r ≡ slot tag size ⌝ }
+// n mod size, n itself for size 0. A place's number, which is no tag, goes through this alone.
+pub fn remainder(n: u32, size: u32) -> u32
+    ensures { λ r. ⌜ r ≡ n % size ⌝ }
 {
-    if size == 0 { tag } else { tag % size }
+    if size == 0 { n } else { n % size }
+}
+
+// What of a tag is taken mod a node's size in a set opened so.
+pub fn key(g: Config, tag: u32) -> u32
+    ensures { λ r. ⌜ r ≡ key g tag ⌝ }
+{
+    tag
+}
+
+// The number of a tag's place in a node of this size.
+pub fn slot(g: Config, tag: u32, size: u32) -> u32
+    ensures { λ r. ⌜ r ≡ slot g tag size ⌝ }
+{
+    let k = key(g, tag);
+    remainder(k, size)
 }
 
 // d with n words of s, from word `from`, put at word `at`.
-fn copied(d: [u32; 66], at: usize, s: &[u32], from: usize, n: usize) -> [u32; 66]
+fn copied(d: [u32; WORDS], at: usize, s: &[u32], from: usize, n: usize) -> [u32; WORDS]
     requires { ⌜ (at + n ≤ 66) × (from + n ≤ length (now s)) ⌝ }
     ensures { λ r. ⌜ r ≡ paste d at (drop from (now (s .entry))) n ⌝ }
 {
@@ -54,7 +77,11 @@ impl Bucket {
         ensures { λ r. ⌜ (r ≡ length (tags-in (self .words))) × (r ≤ 64) ⌝ }
     {
         let n = self.words[1];
-        if 64 < n { 64 } else { n as usize }
+        if MOST_COUNT < n {
+            MOST_TAGS
+        } else {
+            n as usize
+        }
     }
 
     // The search: the position of the first tag that is not below this one, the count if there is none.
@@ -97,7 +124,7 @@ impl Bucket {
         ensures { λ r. ⌜ r .words ≡ bucket-of 1 (add-tag tag (tags-in (self .words))) ⌝ }
     {
         let w = self.words;
-        let mut out = [0u32; 66];
+        let mut out = [0u32; WORDS];
         out[0] = 1;
         out[1] = n as u32 + 1;
         out = copied(out, 2, &w, 2, p);
@@ -112,7 +139,7 @@ impl Bucket {
         ensures { λ r. ⌜ r .words ≡ bucket-of 1 (remove-tag tag (tags-in (self .words))) ⌝ }
     {
         let w = self.words;
-        let mut out = [0u32; 66];
+        let mut out = [0u32; WORDS];
         out[0] = 1;
         out[1] = n as u32 - 1;
         out = copied(out, 2, &w, 2, p);
@@ -138,7 +165,7 @@ impl Bucket {
             };
         }
         let n = self.count();
-        if 64 <= n {
+        if MOST_TAGS <= n {
             return Changed {
                 bucket: self,
                 answer: Response::Full,
@@ -191,7 +218,7 @@ pub fn opened(b: Bucket) -> Bucket
 {
     let n = b.count();
     let w = b.words;
-    let mut out = [0u32; 66];
+    let mut out = [0u32; WORDS];
     out[0] = 1;
     out[1] = n as u32;
     Bucket {

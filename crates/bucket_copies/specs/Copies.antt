@@ -2,6 +2,7 @@
 use Prim.Native.Nat.{ℕ}
 use lib.ListN.{length}
 use lib.Dec.{leb, eqb}
+use Rattle.spec.specs.declared.Config.{Config}
 use Rattle.spec.specs.Lists.{if_then_else_, filter, union}
 use Rattle.spec.specs.Words.{bucket-of}
 use Rattle.spec.specs.Listed.{slot}
@@ -17,6 +18,6 @@ joined a b =
     then changed (bucket-of 1 (union (tags-in (a .words)) (tags-in (b .words)))) Yes
     else changed (b .words) Full
 
--- the changeable bucket of the tags that belong to place i of a node of that size
-unfoldable pub split-of : Bucket → ℕ → ℕ → Bucket
-split-of b sz i = record { words = bucket-of 1 (filter (λ k. eqb (slot k sz) i) (tags-in (b .words))) }
+-- the changeable bucket of the tags that belong to place i of a node of that size, in a set opened so
+unfoldable pub split-of : Bucket → Config → ℕ → ℕ → Bucket
+split-of b g sz i = record { words = bucket-of 1 (filter (λ k. eqb (slot g k sz) i) (tags-in (b .words))) }

@@ -3,22 +3,23 @@
 use bucket::Bucket;
 use bucket::Changed;
 use bucket::Response;
+use spec::Config;
 ghost use mathlib.Core.Path.{_≡_};
 ghost use Rattle.bucket_copies.specs.Copies.{joined, split-of};
 
-// The changeable bucket of m's tags with tag mod size = i.
-pub fn split(m: Bucket, size: u32, i: u32) -> Bucket
-    ensures { λ r. ⌜ r ≡ split-of m size i ⌝ }
+// The changeable bucket of m's tags that belong to place i of a node of this size, in a set opened so.
+pub fn split(m: Bucket, g: Config, size: u32, i: u32) -> Bucket
+    ensures { λ r. ⌜ r ≡ split-of m g size i ⌝ }
 {
     let n = m.count();
     let w = m.words;
-    let mut out = [0u32; 66];
+    let mut out = [0u32; bucket::WORDS];
     out[0] = 1;
     let mut len = 0;
     let mut j = 0;
     while j < n {
         let t = w[2 + j];
-        if bucket::slot(t, size) == i {
+        if bucket::slot(g, t, size) == i {
             out[2 + len] = t;
             len += 1;
         }

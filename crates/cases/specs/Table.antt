@@ -6,6 +6,7 @@ use Rattle.spec.specs.declared.Answer.the-variants.{Yes, No, Full, Done, Limit}
 use Rattle.spec.specs.declared.Call.the-variants.{Insert, Remove, Contains, Grow, Shrink}
 use Rattle.spec.specs.declared.Output.the-variants.{At, End, Refuse}
 use Rattle.spec.specs.Lists.{range}
+use Rattle.spec.specs.Machine.{config-of}
 use Rattle.spec.specs.Schedule.{starts, steps}
 use Rattle.spec.specs.Everything.{everything}
 use Rattle.spec.specs.Rows.{Case, expected, observed, stepping, calling, inserting, times, in-three, filling, first-grow, grow-to-24, grow-filling, waiting, waiting-outs}
@@ -14,7 +15,7 @@ unfoldable pub table : List Case
 table =
     -- the whole case
     record {
-      tasks = 1;
+      config = config-of 1;
       nodes = 3;
       buckets = 4;
       events = calling 0 Insert 17 3 ++ calling 0 Grow 0 7 ++ calling 0 Contains 17 5;
@@ -29,7 +30,7 @@ table =
     ∷
     -- "grow at 32 .. end limit, own steps 1; grow at 16 .. go to 39"
     record {
-      tasks = 1;
+      config = config-of 1;
       nodes = 2;
       buckets = 24;
       events =
@@ -45,7 +46,7 @@ table =
     ∷
     -- "shrink at 1 end limit, own steps 1; .. shrink at 2 go to 39"
     record {
-      tasks = 1;
+      config = config-of 1;
       nodes = 2;
       buckets = 1;
       events = calling 0 Shrink 0 1 ++ calling 0 Grow 0 7 ++ calling 0 Shrink 0 1;
@@ -57,7 +58,7 @@ table =
     ∷
     -- "with 64 tags insert ends full; after a remove it ends yes"; of a tag that is there it ends full too
     record {
-      tasks = 1;
+      config = config-of 1;
       nodes = 1;
       buckets = 1;
       events = inserting 1 64 ++ calling 0 Insert 65 3 ++ calling 0 Insert 1 3 ++ calling 0 Remove 1 3 ++ calling 0 Insert 65 3;
@@ -69,7 +70,7 @@ table =
     ∷
     -- "one node, one task: grow stops at 27 with 7"
     record {
-      tasks = 1;
+      config = config-of 1;
       nodes = 1;
       buckets = 1;
       events = calling 0 Grow 0 7;
@@ -81,7 +82,7 @@ table =
     ∷
     -- "Two nodes, three buckets: a second grow takes node 0 again."
     record {
-      tasks = 1;
+      config = config-of 1;
       nodes = 2;
       buckets = 3;
       events = calling 0 Grow 0 7 ++ calling 0 Grow 0 18;
@@ -99,7 +100,7 @@ table =
     -- "task 0's insert of 5 waits at 36 on bucket 0. Task 1 grows, then inserts 5: yes, own steps 10. Task 0 goes to 32 and ends no,
     -- own steps 6."
     record {
-      tasks = 2;
+      config = config-of 2;
       nodes = 2;
       buckets = 3;
       events = waiting ++ calling 1 Insert 5 10 ++ stepping 0 4;
@@ -114,7 +115,7 @@ table =
     ∷
     -- "Had task 0 stepped before line 44, it ends yes and task 1 no."
     record {
-      tasks = 2;
+      config = config-of 2;
       nodes = 2;
       buckets = 3;
       events = waiting ++ calling 1 Insert 5 5 ++ stepping 0 1 ++ stepping 1 5;
@@ -130,7 +131,7 @@ table =
     ∷
     -- "start twice 5; idle step 6; task 8 of 8 is 4; tags 0 and 4,294,967,295 go in"
     record {
-      tasks = 8;
+      config = config-of 8;
       nodes = 1;
       buckets = 1;
       events =

@@ -1,88 +1,75 @@
-// One command on both implementations, each over its own part of the words; every word is compared afterwards.
+// One call on both implementations. The proved set gets the words that the second implementation has before the call; every word is compared
+// afterwards.
 use crate::first;
-use crate::flat::fitting;
-use crate::thirds::alike;
-use crate::thirds::change;
+use crate::vars::DIFFERS;
+use crate::vars::FIRST;
+use crate::vars::FIRST_END;
+use reference_words::words::BUCKET_WORDS;
+use reference_words::words::BUCKETS;
+use reference_words::words::NODE_WORDS;
+use reference_words::words::NODES;
+use reference_words::words::SPAN;
+use reference_words::words::WHAT;
+use reference_words::words::copy;
+use reference_words::words::get;
+use reference_words::words::put;
 
-// What is done: `how` and a word that is set come first (thirds.rt), then a call by its number (first.rt), or none (9). Words are numbered
-// through: the state's, from 110 on those of the nodes, then those of the buckets.
-pub struct Command {
-    pub how: u32,
-    pub at: u32,
-    pub v: u32,
-    pub what: u32,
-    pub k: u32,
-    pub tag: u32,
+// The words of m from `from` on become those of s.
+fn load(s: &mut [u32], m: &[u32], from: usize) {
+    let a = from % SPAN;
+    let mut i: usize = 0;
+    while i < s.len() {
+        s[i] = get(m, a + i % SPAN);
+        i += 1;
+    }
 }
 
-fn call_first(w: &mut [u32], ns: &mut [u32], bs: &mut [u32], c: Command) {
-    let q = w.len() / 3;
-    let n = ns.len() / 3;
-    let m = bs.len() / 3;
-    first::act(
-        &mut w[0..q],
-        &mut ns[0..n],
-        &mut bs[0..m],
-        c.what,
-        c.k,
-        c.tag,
-    );
+fn alike(s: &[u32], m: &[u32], from: usize) -> bool {
+    let a = from % SPAN;
+    let mut i: usize = 0;
+    while i < s.len() {
+        if s[i] != get(m, a + i % SPAN) {
+            return false;
+        }
+        i += 1;
+    }
+    true
 }
 
-// The last part of each is lent to the second implementation, one slice after the other.
-fn call_second(w: &mut [u32], ns: &mut [u32], bs: &mut [u32], c: Command) {
-    let q = w.len() / 3 * 2;
-    with_nodes(&mut w[q..], ns, bs, c);
-}
-
-fn with_nodes(w: &mut [u32], ns: &mut [u32], bs: &mut [u32], c: Command) {
-    let n = ns.len() / 3 * 2;
-    with_buckets(w, &mut ns[n..], bs, c);
-}
-
-fn with_buckets(w: &mut [u32], ns: &mut [u32], bs: &mut [u32], c: Command) {
-    let m = bs.len() / 3 * 2;
-    reference::act(w, ns, &mut bs[m..], c.what, c.k, c.tag);
-}
-
-fn call(w: &mut [u32], ns: &mut [u32], bs: &mut [u32], c: Command) {
-    call_first(w, ns, bs, c);
-    call_second(w, ns, bs, c);
-}
-
-// Word `at` by its number after `from` others; a number past all words for those before.
-fn after(at: u32, from: usize) -> usize {
-    let i = at as usize;
-    if from <= i { i - from } else { 4294967296 }
-}
-
-fn changed(w: &mut [u32], ns: &mut [u32], bs: &mut [u32], c: Command) {
-    let n = ns.len() / 3;
-    let at = if c.at < 110 {
-        c.at as usize
-    } else {
-        4294967296
-    };
-    change(w, c.how, at, fitting(c.at, c.v));
-    change(ns, c.how, after(c.at, 110), c.v);
-    change(bs, c.how, after(c.at, 110 + n % 100000), c.v);
-}
-
-fn compared(w: &mut [u32], ns: &mut [u32], bs: &mut [u32], c: Command) -> bool {
-    changed(w, ns, bs, c);
-    call(w, ns, bs, c);
-    alike(w) && alike(ns) && alike(bs)
-}
-
-// The command over pools of n node words and m bucket words, if there are so many in each part. Gives whether all words are alike.
-pub fn run(w: &mut [u32], ns: &mut [u32], bs: &mut [u32], n: u32, m: u32, c: Command) -> bool {
-    let e = 3 * (n as usize);
-    let f = 3 * (m as usize);
-    if ns.len() < e {
+// Whether state, reply and lent words are alike.
+fn replies_alike(m: &[u32]) -> bool {
+    if m.len() < FIRST_END {
         return false;
     }
-    if bs.len() < f {
-        return false;
+    alike(&m[FIRST..FIRST_END], m, 0)
+}
+
+fn difference(m: &[u32], ns: &[u32], bs: &[u32]) -> u32 {
+    if replies_alike(m) && alike(ns, m, NODES) && alike(bs, m, BUCKETS) {
+        return 0;
     }
-    compared(w, &mut ns[0..e], &mut bs[0..f], c)
+    1
+}
+
+fn compared(m: &mut [u32], ns: &mut [u32], bs: &mut [u32]) {
+    load(ns, m, NODES);
+    load(bs, m, BUCKETS);
+    copy(m, 0, FIRST, FIRST_END - FIRST);
+    first::act(m, ns, bs);
+    reference::act(m);
+    put(m, DIFFERS, difference(m, ns, bs));
+}
+
+// The call over pools of as many words as are lent.
+pub fn call(m: &mut [u32], ns: &mut [u32], bs: &mut [u32]) {
+    let n = get(m, NODE_WORDS) as usize;
+    let b = get(m, BUCKET_WORDS) as usize;
+    if 8 < get(m, WHAT) {
+        return;
+    }
+    if n <= ns.len() {
+        if b <= bs.len() {
+            compared(m, &mut ns[0..n], &mut bs[0..b]);
+        }
+    }
 }

@@ -1,6 +1,16 @@
-// The proved set, over words: each entry takes the state out of its words `w`, and leaves its answer and the next state there.
+// The proved set, over words: each entry takes the state out of the words of m, and leaves its answer and the next state in its own words there.
 use crate::flat;
+use crate::vars::FIRST;
+use reference_words::words::ASKED_K;
+use reference_words::words::ASKED_TAG;
+use reference_words::words::LENT;
+use reference_words::words::SPAN;
+use reference_words::words::WHAT;
+use reference_words::words::either;
+use reference_words::words::get;
+use reference_words::words::put_words;
 use spec::Call;
+use spec::Config;
 
 fn call_of(n: u32) -> Call {
     match n {
@@ -12,64 +22,60 @@ fn call_of(n: u32) -> Call {
     }
 }
 
-fn step(w: &mut [u32], ns: &mut [u32], bs: &mut [u32], k: u32) {
-    let r = hashset::step(flat::state_of(w), k, ns, bs);
-    flat::put_stepped(w, r);
+fn step(m: &mut [u32], ns: &mut [u32], bs: &mut [u32]) {
+    let r = hashset::step(flat::state_of(m), get(m, ASKED_K), ns, bs);
+    flat::put_stepped(m, r);
 }
 
-fn start(w: &mut [u32], ns: &[u32], bs: &[u32], call: u32, k: u32, tag: u32) {
-    let r = hashset::start(flat::state_of(w), k, call_of(call), tag, ns, bs);
-    flat::put_stepped(w, r);
+fn start(m: &mut [u32], ns: &[u32], bs: &[u32]) {
+    let call = call_of(get(m, WHAT));
+    let r = hashset::start(
+        flat::state_of(m),
+        get(m, ASKED_K),
+        call,
+        get(m, ASKED_TAG),
+        ns,
+        bs,
+    );
+    flat::put_stepped(m, r);
 }
 
-fn open(w: &mut [u32], ns: &mut [u32], bs: &mut [u32], t: u32) {
-    let o = opening::open(t, ns, bs);
+fn open(m: &mut [u32], ns: &mut [u32], bs: &mut [u32]) {
+    let g = Config {
+        tasks: get(m, ASKED_K),
+    };
+    let o = opening::open(g, ns, bs);
     let s = o.state;
-    flat::put_all(w, s, flat::opened(o.refusal));
+    flat::put_state(m, s);
+    flat::reply(m, either(o.refusal == 0, 0, 2), o.refusal, 0);
 }
 
-// A list into so many of the 70 words.
-fn list(w: &mut [u32], ns: &[u32], bs: &[u32], words: u32) {
-    let e = 113 + words as usize;
-    if w.len() < e {
+// A list into so many of the words from `lent` on.
+fn list(m: &mut [u32], ns: &[u32], bs: &[u32], lent: usize) {
+    let from = lent % SPAN;
+    let e = from + get(m, ASKED_K) as usize;
+    if m.len() < e {
         return;
     }
-    let l = queries::list(flat::state_of(w), ns, bs, &mut w[113..e]);
-    flat::put_numbers(w, flat::listed(l));
+    let l = queries::list(flat::state_of(m), ns, bs, &mut m[from..e]);
+    flat::put_listed(m, l);
 }
 
-// What is shown is copied to the 70 words.
-fn show(w: &mut [u32], ns: &[u32], bs: &[u32], k: u32) {
-    let part = queries::show(flat::state_of(w), ns, bs, k);
+// What is shown is copied to the lent words.
+fn show(m: &mut [u32], ns: &[u32], bs: &[u32]) {
+    let part = queries::show(flat::state_of(m), ns, bs, get(m, ASKED_K));
     let n = part.len() % 1000;
-    flat::put(w, 113, part);
-    flat::put(w, 110, &[0, n as u32, 0]);
+    put_words(m, FIRST + LENT, part);
+    flat::reply(m, 0, n as u32, 0);
 }
 
-fn look(w: &mut [u32], ns: &[u32], bs: &[u32], what: u32, k: u32) {
-    if what == 6 {
-        return list(w, ns, bs, k);
-    }
-    show(w, ns, bs, k)
-}
-
-fn event(w: &mut [u32], ns: &mut [u32], bs: &mut [u32], what: u32, k: u32, tag: u32) {
-    if what == 0 {
-        return step(w, ns, bs, k);
-    }
-    start(w, ns, bs, what, k, tag)
-}
-
-// A step of task k (0), the start of a call (1 to 5), a list into k words (6), a show of bucket k (7), an opening with k tasks (8); nothing
-// for other numbers.
-pub fn act(w: &mut [u32], ns: &mut [u32], bs: &mut [u32], what: u32, k: u32, tag: u32) {
-    if what < 6 {
-        return event(w, ns, bs, what, k, tag);
-    }
-    if what < 8 {
-        return look(w, ns, bs, what, k);
-    }
-    if what == 8 {
-        open(w, ns, bs, k);
+pub fn act(m: &mut [u32], ns: &mut [u32], bs: &mut [u32]) {
+    let what = get(m, WHAT);
+    match what {
+        0 => step(m, ns, bs),
+        6 => list(m, ns, bs, FIRST + LENT),
+        7 => show(m, ns, bs),
+        8 => open(m, ns, bs),
+        _ => start(m, ns, bs),
     }
 }

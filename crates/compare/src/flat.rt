@@ -1,77 +1,72 @@
-// A state as 110 words, as the second implementation takes it: T, H, B, head, last node, last bucket, then 13 words a task. The three
-// words after them are an output: kind (0 at, 1 end, 2 refused), value, own steps; the 70 after these are lent to a list, or hold what
-// was shown.
-use crate::thirds::get;
+// The proved set's state and answers as words, as the second implementation has them.
+use crate::vars::FIRST;
 use lines::Stepped;
+use reference_words::words::B;
+use reference_words::words::H;
+use reference_words::words::HEAD;
+use reference_words::words::LAST_BUCKET;
+use reference_words::words::LAST_NODE;
+use reference_words::words::RECORDS;
+use reference_words::words::REPLY;
+use reference_words::words::T;
+use reference_words::words::either;
+use reference_words::words::field_at;
+use reference_words::words::get;
+use reference_words::words::put_words;
 use spec::Answer;
+use spec::Config;
 use spec::Listing;
 use spec::Output;
 use spec::State;
 use spec::Task;
 
-fn task_at(w: &[u32], k: u32) -> Task {
-    let a = (k as usize) * 13 + 6;
+fn task_at(m: &[u32], k: u32) -> Task {
     Task {
-        running: get(w, a) != 0,
-        call: get(w, a + 1),
-        tag: get(w, a + 2),
-        line: get(w, a + 3),
-        i: get(w, a + 4),
-        own: (get(w, a + 5) % 65536) as u16,
-        t: get(w, a + 6),
-        s: get(w, a + 7),
-        b: get(w, a + 8),
-        m: get(w, a + 9),
-        n: get(w, a + 10),
-        new_node: get(w, a + 11),
-        new_bucket: get(w, a + 12),
+        running: get(m, field_at(k, 0)) != 0,
+        call: get(m, field_at(k, 1)),
+        tag: get(m, field_at(k, 2)),
+        line: get(m, field_at(k, 3)),
+        i: get(m, field_at(k, 4)),
+        own: (get(m, field_at(k, 5)) % 65536) as u16,
+        t: get(m, field_at(k, 6)),
+        s: get(m, field_at(k, 7)),
+        b: get(m, field_at(k, 8)),
+        m: get(m, field_at(k, 9)),
+        n: get(m, field_at(k, 10)),
+        new_node: get(m, field_at(k, 11)),
+        new_bucket: get(m, field_at(k, 12)),
     }
 }
 
-pub fn state_of(w: &[u32]) -> State {
-    let mut ts = [task_at(w, 0); 8];
+fn config_of(m: &[u32]) -> Config {
+    Config { tasks: get(m, T) }
+}
+
+pub fn state_of(m: &[u32]) -> State {
+    let mut ts = [task_at(m, 0); 8];
     let mut k: u32 = 1;
     while k < 8 {
-        let c = task_at(w, k);
+        let c = task_at(m, k);
         ts[k as usize] = c;
         k += 1;
     }
     State {
-        tasks: get(w, 0),
-        nodes: get(w, 1),
-        buckets: get(w, 2),
-        head: get(w, 3),
-        last_node: get(w, 4),
-        last_bucket: get(w, 5),
+        config: config_of(m),
+        nodes: get(m, H),
+        buckets: get(m, B),
+        head: get(m, HEAD),
+        last_node: get(m, LAST_NODE),
+        last_bucket: get(m, LAST_BUCKET),
         task: ts,
     }
 }
 
-fn put_after(w: &mut [u32], from: usize, i: usize, v: u32) {
-    if from <= w.len() {
-        if i < w.len() - from {
-            w[from + i] = v;
-        }
-    }
-}
-
-// These words over those from `from` on.
-pub fn put(w: &mut [u32], from: usize, words: &[u32]) {
-    let mut i = 0;
-    while i < words.len() {
-        put_after(w, from, i, words[i]);
-        i += 1;
-    }
-}
-
-fn put_task(w: &mut [u32], at: usize, c: Task) {
-    let runs = c.running;
-    let running = if runs { 1 } else { 0 };
-    put(
-        w,
+fn put_task(m: &mut [u32], at: usize, c: Task) {
+    put_words(
+        m,
         at,
         &[
-            running,
+            either(c.running, 1, 0),
             c.call,
             c.tag,
             c.line,
@@ -88,12 +83,22 @@ fn put_task(w: &mut [u32], at: usize, c: Task) {
     );
 }
 
-fn put_header(w: &mut [u32], s: State) {
-    put(
-        w,
-        0,
+fn put_tasks(m: &mut [u32], s: State) {
+    let ts = s.task;
+    let mut k: usize = 0;
+    while k < 8 {
+        put_task(m, FIRST + RECORDS + 13 * k, ts[k]);
+        k += 1;
+    }
+}
+
+pub fn put_state(m: &mut [u32], s: State) {
+    let g = s.config;
+    put_words(
+        m,
+        FIRST,
         &[
-            s.tasks,
+            g.tasks,
             s.nodes,
             s.buckets,
             s.head,
@@ -101,26 +106,12 @@ fn put_header(w: &mut [u32], s: State) {
             s.last_bucket,
         ],
     );
+    put_tasks(m, s);
 }
 
-fn put_tasks(w: &mut [u32], s: State) {
-    let ts = s.task;
-    let mut k: usize = 0;
-    while k < 8 {
-        put_task(w, 6 + 13 * k, ts[k]);
-        k += 1;
-    }
-}
-
-// An output as three numbers.
-pub struct Numbers {
-    pub kind: u32,
-    pub value: u32,
-    pub own: u32,
-}
-
-fn out(kind: u32, value: u32, own: u32) -> Numbers {
-    Numbers { kind, value, own }
+// A reply as reference::reply has it.
+pub fn reply(m: &mut [u32], kind: u32, value: u32, own: u32) {
+    put_words(m, FIRST + REPLY, &[kind, value, own]);
 }
 
 fn answer(a: Answer) -> u32 {
@@ -134,52 +125,24 @@ fn answer(a: Answer) -> u32 {
     }
 }
 
-fn given(o: Output) -> Numbers {
+fn put_output(m: &mut [u32], o: Output) {
     match o {
-        Output::At(l) => out(0, l, 0),
-        Output::End(a, n) => out(1, answer(a), n as u32),
-        Output::Refuse(r) => out(2, r, 0),
+        Output::At(l) => reply(m, 0, l, 0),
+        Output::End(a, n) => reply(m, 1, answer(a), n as u32),
+        Output::Refuse(r) => reply(m, 2, r, 0),
     }
 }
 
-pub fn opened(refusal: u32) -> Numbers {
-    if refusal == 0 {
-        return out(0, 0, 0);
-    }
-    out(2, refusal, 0)
-}
-
-pub fn listed(l: Listing) -> Numbers {
+pub fn put_listed(m: &mut [u32], l: Listing) {
     match l {
-        Listing::Count(c) => out(0, c, 0),
-        Listing::Refused(r) => out(2, r, 0),
+        Listing::Count(c) => reply(m, 0, c, 0),
+        Listing::Refused(r) => reply(m, 2, r, 0),
     }
 }
 
-pub fn put_numbers(w: &mut [u32], o: Numbers) {
-    put(w, 110, &[o.kind, o.value, o.own]);
-}
-
-// A state and an output, over the first 113 words.
-pub fn put_all(w: &mut [u32], s: State, o: Numbers) {
-    put_header(w, s);
-    put_tasks(w, s);
-    put_numbers(w, o);
-}
-
-pub fn put_stepped(w: &mut [u32], r: Stepped) {
+pub fn put_stepped(m: &mut [u32], r: Stepped) {
     let s = r.state;
     let o = r.out;
-    put_all(w, s, given(o));
-}
-
-// A value as a state can have it in word i: `running` is 0 or 1, and own steps are below 65,536.
-pub fn fitting(i: u32, v: u32) -> u32 {
-    if i < 6 || 110 <= i {
-        return v;
-    }
-    if (i - 6) % 13 == 5 {
-        return v % 65536;
-    }
-    if (i - 6) % 13 == 0 && v != 0 { 1 } else { v }
+    put_state(m, s);
+    put_output(m, o);
 }

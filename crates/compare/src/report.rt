@@ -1,143 +1,123 @@
 // What is counted and printed: each output's kind, line, answer or refusal, and the differences found.
-//
-// Places in the counts: 0 to 63 lines by number, 64 to 79 answers by number, 80 to 95 refusals of unspoilt runs by number, 96 to 111
-// refusals in spoilt memory by number, 112 accepted events in spoilt memory, 113 lists, 114 shows, 115 differences, 116 events, 117 and 118
-// what is not printed.
-use crate::thirds::get;
-ghost use Prim.Native.Nat.{_≤_, _<_};
+use crate::vars::CALLS;
+use crate::vars::COUNTS;
+use crate::vars::DIFFERENCES;
+use crate::vars::DIFFERS;
+use crate::vars::DRAWN;
+use crate::vars::EXCURSION;
+use crate::vars::LISTS;
+use crate::vars::SHOWS;
+use reference_words::words::REPLY;
+use reference_words::words::WHAT;
+use reference_words::words::either;
+use reference_words::words::get;
+use reference_words::words::plus;
+use reference_words::words::put;
 
-fn capped(n: u32, most: usize) -> usize
-    ensures { λ r. ⌜ r ≤ most ⌝ }
-{
-    if (n as usize) < most {
-        n as usize
-    } else {
-        most
-    }
+fn more(m: &mut [u32], i: usize, by: u32) {
+    let at = COUNTS + i % 400;
+    put(m, at, plus(get(m, at), by));
 }
 
-// Where an output is counted.
-fn place(what: u32, kind: u32, value: u32, spoilt: bool) -> usize {
-    if what == 6 || what == 7 || what == 9 {
-        return if kind == 2 && what == 6 {
-            refused(value, spoilt)
-        } else {
-            117
-        };
-    }
-    if kind == 2 {
-        return refused(value, spoilt);
-    }
-    if spoilt {
-        return 112;
-    }
-    if kind == 0 {
-        capped(value, 63)
-    } else {
-        64 + capped(value, 15)
-    }
+// Where an output is counted: a list and a show that are not refused apart.
+fn row_of(m: &[u32]) -> u32 {
+    plus(get(m, REPLY), either(get(m, EXCURSION) == 0, 0, 3))
 }
 
-fn refused(value: u32, spoilt: bool) -> usize {
-    if spoilt {
-        return 96 + capped(value, 15);
-    }
-    80 + capped(value, 15)
-}
-
-// Where a call is counted: an opening, a start and a step is an event.
-fn class(what: u32) -> usize {
-    if what == 6 {
-        return 113;
-    }
-    if what == 7 {
-        return 114;
-    }
-    if what < 9 { 116 } else { 117 }
-}
-
-fn more(c: [u32; 119], i: usize) -> [u32; 119] {
-    let mut d = c;
-    if i < 119 {
-        if c[i] < 4000000000 {
-            d[i] = c[i] + 1;
+fn place(m: &[u32]) -> usize {
+    let what = get(m, WHAT);
+    if get(m, REPLY) == 0 {
+        if what == 6 {
+            return LISTS;
+        }
+        if what == 7 {
+            return SHOWS;
         }
     }
-    d
+    (row_of(m) as usize) * 64 + get(m, REPLY + 1) as usize % 64
 }
 
-// The counts after one call: what it was, how far an excursion is (memory is spoilt from turn 12 to 2), what came out, whether all words
-// are alike.
-pub fn counted(c: [u32; 119], what: u32, turn: u32, w: &[u32], alike: bool) -> [u32; 119] {
-    let spoilt = 1 < turn && turn < 13;
-    let d = more(c, place(what, get(w, 110), get(w, 111), spoilt));
-    let e = more(d, class(what));
-    more(e, if alike { 118 } else { 115 })
+// After a random turn.
+fn count(m: &mut [u32]) {
+    more(m, place(m), 1);
+    more(m, CALLS, 1);
+    more(m, DIFFERENCES, get(m, DIFFERS));
 }
 
-pub fn text(s: &[u8]) {
+// After a call of the script.
+fn label(kind: u32) {
+    match kind {
+        1 => text(b" end="),
+        2 => text(b" refuse="),
+        _ => text(b" "),
+    }
+}
+
+fn outcome(m: &[u32]) {
+    label(get(m, REPLY));
+    decimal(get(m, REPLY + 1));
+    if get(m, DIFFERS) != 0 {
+        text(b" DIFFERS");
+    }
+}
+
+pub fn after(m: &mut [u32]) {
+    if 8 < get(m, WHAT) {
+        return;
+    }
+    if get(m, DRAWN) == 0 {
+        return outcome(m);
+    }
+    count(m)
+}
+
+fn text(s: &[u8]) {
     io::write_all(1, s);
 }
 
-// A name and a number.
-pub fn field(name: &[u8], n: u32) {
-    io::write_all(1, name);
+fn decimal(n: u32) {
     io::print_decimal(1, n as u64);
 }
 
+fn cell(i: u32, n: u32) {
+    if n != 0 {
+        text(b" ");
+        decimal(i);
+        text(b":");
+        decimal(n);
+    }
+}
+
 // The counts from place a on, those that are not 0, each as number:count with the number counted from a.
-fn row(name: &[u8], c: &[u32], a: u32, n: u32) {
+fn row(name: &[u8], m: &[u32], a: usize) {
+    let first = COUNTS + a % 400;
     text(name);
     let mut i: u32 = 0;
-    while i < n {
-        cell(i, get(c, a as usize + i as usize));
+    while i < 64 {
+        cell(i, get(m, first + i as usize));
         i += 1;
     }
+}
+
+fn line(name: &[u8], m: &[u32], i: usize) {
+    text(name);
+    decimal(get(m, COUNTS + i % 400));
+}
+
+fn print_rows(m: &[u32]) {
+    row(b"\nat line", m, 0);
+    row(b"\nended (1 yes 2 no 3 full 4 done 5 lost 6 limit)", m, 64);
+    row(b"\nrefused", m, 128);
+    row(b"\nin spoilt memory: at line", m, 192);
+    row(b"\nended", m, 256);
+    row(b"\nrefused", m, 320);
+}
+
+pub fn print(m: &[u32]) {
+    line(b"calls ", m, CALLS);
+    print_rows(m);
+    line(b"\nlists ", m, LISTS);
+    line(b"\nshows ", m, SHOWS);
+    line(b"\ndifferences ", m, DIFFERENCES);
     text(b"\n");
-}
-
-fn cell(i: u32, v: u32) {
-    if v != 0 {
-        field(b" ", i);
-        field(b":", v);
-    }
-}
-
-pub fn print(c: &[u32; 119]) {
-    line(b"events ", get(c, 116));
-    row(b"at line", c, 0, 64);
-    row(
-        b"ended (1 yes 2 no 3 full 4 done 5 lost 6 limit)",
-        c,
-        64,
-        16,
-    );
-    row(b"refused", c, 80, 16);
-    row(b"refused in spoilt memory", c, 96, 16);
-}
-
-pub fn print_rest(c: &[u32; 119]) {
-    line(b"accepted in spoilt memory ", get(c, 112));
-    line(b"lists ", get(c, 113));
-    line(b"shows ", get(c, 114));
-    line(b"differences ", get(c, 115));
-}
-
-fn line(name: &[u8], n: u32) {
-    field(name, n);
-    text(b"\n");
-}
-
-// One output.
-pub fn outcome(kind: u32, value: u32, alike: bool) {
-    if kind == 0 {
-        field(b" ", value);
-    } else if kind == 1 {
-        field(b" end=", value);
-    } else {
-        field(b" refuse=", value);
-    }
-    if !alike {
-        text(b" DIFFERS");
-    }
 }

@@ -1,65 +1,47 @@
-// A script of calls that a reader can follow, read from standard input: the cases of paper 01 that are not marked P, and hand-picked words,
-// spoilt one or a few at a time. It is text: numbers, each followed by what is done with it.
+// A script of calls that a reader can follow: the cases of paper 01 that are not marked P, hand-picked words, spoilt one or a few at a time, and
+// what random schedules are drawn from. It is text: numbers, each followed by what is done with it.
 //
-//   n b        so many node words, so many bucket words in each part from now on
+//   n b        so many node words, so many bucket words from now on
 //   t          the tag of the starts that follow
 //   o          an opening with so many tasks
 //   i r c g h  a start of insert, remove, contains, grow or shrink for this task
 //   s          a step of this task
 //   l v        a list into so many words, a show of this bucket
-//   = ,        the number of a word, and the value that it gets
-//   y          the next word gets a value that is larger by 2
+//   = @ &      the number of a word of the state, of the nodes, of the buckets
+//   ,          the value that this word gets; another value goes to the word after it
 //   k p        memory is kept; memory is put back as it was kept
-//   ;          the calls of `each`, after which memory is put back
+//   ; .        goes to the first line of the script; goes back from there
 //   #          a comment, to the end of the line
-//
-// Words are numbered through: the state's from 0 on, those of three nodes from 110, those of four buckets from 212.
-use crate::both::Command;
+//   X          the pseudo-random number that others follow
+//   x          so many turns of random schedules (draw.rt): of W turns each for T tasks; of 100 starts R are resizes; of 100 others D are removes and those up
+//              to L contains; G tags; of 128 steps of a contains at line 15 Z go to another task
+use crate::draw;
+use crate::vars::BACK;
+use crate::vars::DRAWN;
+use crate::vars::KEPT;
+use crate::vars::NAMED;
+use crate::vars::NEXT;
+use crate::vars::NUMBER;
+use crate::vars::NUMBERS;
+use crate::vars::QUIET;
+use crate::vars::SEED;
+use crate::vars::TURNS;
+use reference_words::words::BUCKET_WORDS;
+use reference_words::words::BUCKETS;
+use reference_words::words::NODE_WORDS;
+use reference_words::words::NODES;
+use reference_words::words::NOWHERE;
+use reference_words::words::WHAT;
+use reference_words::words::copy;
+use reference_words::words::either;
+use reference_words::words::get;
+use reference_words::words::plus;
+use reference_words::words::put;
+use reference_words::words::put_words;
 
-pub struct Place {
-    // the next byte, and 1 plus the next byte of `each`, 0 outside of it
-    pub i: u32,
-    pub each: u32,
-    // the number just read
-    pub number: u32,
-    // whether this is a comment
-    pub quiet: bool,
-}
-
-pub fn begin() -> Place {
-    Place {
-        i: 0,
-        each: 0,
-        number: 0,
-        quiet: false,
-    }
-}
-
-// Byte i of a text, 0 past its end.
-fn byte(s: &[u8], i: u32) -> u8 {
-    let j = i as usize;
-    if j < s.len() { s[j] } else { 0 }
-}
-
-// The byte at a place, 0 at the end of the text and of `each`: a list, shows, steps of both tasks, the start of a remove, a step and a list.
-pub fn current(text: &[u8], p: Place) -> u8 {
-    if p.each != 0 {
-        return byte(b"64l0v1v2v3v4v0s1s0r0s64l", p.each - 1);
-    }
-    byte(text, p.i)
-}
-
-fn either(yes: bool, a: u32, b: u32) -> u32 {
-    if yes { a } else { b }
-}
-
-fn up(x: u32, by: u32) -> u32 {
-    if by < 3 {
-        if x < 4000000000 {
-            return x + by;
-        }
-    }
-    x
+// The number that stood before a letter last.
+pub fn number(m: &[u32], b: u8) -> u32 {
+    get(m, NUMBERS + b as usize)
 }
 
 // A number with a digit more.
@@ -67,37 +49,7 @@ fn longer(x: u32, b: u8) -> u32 {
     if b < 48 || 57 < b {
         return 0;
     }
-    let y = ((x as u64) * 10 + (b - 48) as u64) % 4294967296;
-    y as u32
-}
-
-// The place after a byte.
-pub fn next(p: Place, b: u8) -> Place {
-    let goes_on = (b == b';' && !p.quiet) || (p.each != 0 && b != 0);
-    Place {
-        i: either(p.each != 0, p.i, up(p.i, 1)),
-        each: either(goes_on, up(p.each, 1), 0),
-        number: longer(p.number, b),
-        quiet: b == b'#' || (p.quiet && b != 10),
-    }
-}
-
-// The numbers that stood before each letter last; `y` moves those of `=` and `,` on.
-pub fn kept(numbers: [u32; 128], p: Place, b: u8) -> [u32; 128] {
-    let mut r = numbers;
-    let i = b as usize;
-    if p.quiet || p.each != 0 {
-        return r;
-    }
-    if b == b'y' {
-        r[61] = up(r[61], 1);
-        r[44] = up(r[44], 2);
-        return r;
-    }
-    if i < 128 {
-        r[i] = p.number;
-    }
-    r
+    (((x as u64) * 10 + (b - 48) as u64) % 4294967296) as u32
 }
 
 // The call that a byte means, 9 for none.
@@ -116,30 +68,151 @@ fn what(b: u8) -> u32 {
     }
 }
 
-// What a byte does to the words; the end of `each` puts memory back.
-fn how(p: Place, b: u8) -> u32 {
-    if p.each != 0 {
-        return either(b == 0, 2, 0);
-    }
-    if p.quiet {
-        return 0;
-    }
-    match b {
-        b'k' => 1,
-        b'p' => 2,
-        b',' | b'y' => 3,
-        _ => 0,
+// Where the kept memory, or the other, begins.
+fn start_of(kept: bool) -> usize {
+    if kept { KEPT } else { 0 }
+}
+
+fn words_of(m: &[u32], moves: bool) -> usize {
+    if moves {
+        BUCKETS + get(m, BUCKET_WORDS) as usize
+    } else {
+        0
     }
 }
 
-// The command that a byte means, with the numbers that it left.
-pub fn command(p: Place, r: [u32; 128], b: u8) -> Command {
-    Command {
-        how: how(p, b),
-        at: r[61],
-        v: r[44],
-        what: either(p.quiet, 9, what(b)),
-        k: p.number,
-        tag: r[116],
+// Memory up to its last bucket is kept, or put back as it was kept.
+pub fn move_memory(m: &mut [u32], keeps: bool, restores: bool) {
+    copy(
+        m,
+        start_of(restores),
+        start_of(keeps),
+        words_of(m, keeps || restores),
+    );
+}
+
+// A value as a state can have it in a word: `running` is 0 or 1, and own steps are below 65,536.
+pub fn fitting(at: usize, v: u32) -> u32 {
+    if at < 6 || 110 <= at {
+        return v;
     }
+    match (at - 6) % 13 {
+        0 => either(v == 0, 0, 1),
+        5 => v % 65536,
+        _ => v,
+    }
+}
+
+// The word that a byte sets, and the value that it gets, with the number before it.
+fn target(m: &[u32], b: u8) -> usize {
+    match b {
+        b'n' => NODE_WORDS,
+        b'b' => BUCKET_WORDS,
+        b'X' => SEED,
+        b',' => get(m, NAMED) as usize,
+        _ => NOWHERE,
+    }
+}
+
+fn named(m: &[u32], b: u8, n: u32) -> u32 {
+    match b {
+        b'=' => n,
+        b'@' => plus(NODES as u32, n),
+        b'&' => plus(BUCKETS as u32, n),
+        b',' => plus(get(m, NAMED), 1),
+        _ => get(m, NAMED),
+    }
+}
+
+// The byte after this one: the first for `;`, the one kept for `.`.
+fn next_after(m: &[u32], b: u8) -> u32 {
+    let to = get(m, BACK);
+    match b {
+        b';' => 0,
+        b'.' => either(to == 0, plus(get(m, NEXT), 1), to),
+        _ => plus(get(m, NEXT), 1),
+    }
+}
+
+fn back_after(m: &[u32], b: u8) -> u32 {
+    match b {
+        b';' => plus(get(m, NEXT), 1),
+        b'.' => 0,
+        _ => get(m, BACK),
+    }
+}
+
+fn quiet_after(m: &[u32], byte: u8) -> u32 {
+    match byte {
+        b'#' => 1,
+        10 => 0,
+        _ => get(m, QUIET),
+    }
+}
+
+// A byte as it is heard: a blank for all of a comment.
+fn heard(m: &[u32], byte: u8) -> u8 {
+    if get(m, QUIET) == 0 && byte != b'#' {
+        byte
+    } else {
+        32
+    }
+}
+
+fn set_words(m: &mut [u32], b: u8, n: u32) {
+    let at = target(m, b);
+    put(m, at, fitting(at, n));
+    put(m, NUMBERS + b as usize, n);
+}
+
+fn set_script(m: &mut [u32], byte: u8, b: u8, n: u32) {
+    put_words(
+        m,
+        NEXT,
+        &[
+            next_after(m, b),
+            back_after(m, b),
+            longer(n, b),
+            quiet_after(m, byte),
+            either(b == b'x', n, 0),
+            named(m, b, n),
+        ],
+    );
+}
+
+fn read(m: &mut [u32], byte: u8) {
+    let b = heard(m, byte);
+    let n = get(m, NUMBER);
+    set_words(m, b, n);
+    move_memory(m, b == b'k', b == b'p');
+    put_words(m, WHAT, &[what(b), n, number(m, b't')]);
+    set_script(m, byte, b, n);
+}
+
+// What is printed of a byte of the script: itself, but for the first line gone to.
+fn echo(m: &[u32], b: u8) {
+    if get(m, BACK) == 0 {
+        io::write_all(1, &[b]);
+    }
+}
+
+// The next call of the text, or the end (10).
+fn play(text: &[u8], m: &mut [u32]) {
+    let at = get(m, NEXT) as usize;
+    if text.len() <= at {
+        return put(m, WHAT, 10);
+    }
+    let b = text[at];
+    echo(m, b);
+    read(m, b)
+}
+
+// The next call: random turns first.
+pub fn next(text: &[u8], m: &mut [u32]) {
+    let left = get(m, TURNS);
+    put(m, DRAWN, left);
+    if left == 0 {
+        return play(text, m);
+    }
+    draw::turn(m, left)
 }

@@ -12,6 +12,7 @@ use Rattle.spec.specs.declared.Call.{Call}
 use Rattle.spec.specs.declared.Output.the-variants.{Refuse}
 use Rattle.spec.specs.declared.Listing.the-variants.{Refused}
 use Rattle.spec.specs.Machine.{Machine, task-of}
+use Rattle.spec.specs.declared.Config.{Config}
 use Rattle.spec.specs.Sound.{node-count, bucket-count}
 use Rattle.spec.specs.Listed.{listed}
 use Rattle.spec.specs.Entries.{opening, start, step, list}
@@ -21,49 +22,49 @@ use Rattle.laws.specs.Held.{HeldNode, HeldBucket}
 use Rattle.laws.specs.Taking.{AllHeld, all-nodes, all-buckets}
 use Rattle.corollaries.specs.Tables.{Within, Records, OpeningRefused, StartRefused, StepRefused, ListRefused, opening-refused, start-refused, step-refused, list-refused, is-1, is-2, is-3, is-4, is-5, is-6, is-7, is-8, is-8-step, is-8-list, is-9}
 
-module _ (t : ℕ) (ns bs : List ℕ) where
+module _ (g : Config) (ns bs : List ℕ) where
   -- 1: T is not 1 to 8
-  pub refusal-1 : opening t ns bs .refusal ≡ 1 ↔ ¬ ((1 ≤ t) × (t ≤ 8))
-  refusal-1 = ((λ e. go (opening-refused t ns bs 1 (λ z. omega arith) .0 e)), (λ n. opening-refused t ns bs 1 (λ z. omega arith) .1 (is-1 refl n)))
+  pub refusal-1 : opening g ns bs .refusal ≡ 1 ↔ ¬ ((1 ≤ g .tasks) × (g .tasks ≤ 8))
+  refusal-1 = ((λ e. go (opening-refused g ns bs 1 (λ z. omega arith) .0 e)), (λ n. opening-refused g ns bs 1 (λ z. omega arith) .1 (is-1 refl n)))
     where
-      go : OpeningRefused t ns bs 1 → ¬ Within 1 8 t
+      go : OpeningRefused g ns bs 1 → ¬ Within 1 8 (g .tasks)
       go (is-1 e n) = n
       go (is-2 e p n) = absurd (omega arith)
       go (is-3 e p q n) = absurd (omega arith)
 
   -- 2: T is, and the node slice is not 34 × H words with H from 1 to 64
-  pub refusal-2 : opening t ns bs .refusal ≡ 2 ↔ (Within 1 8 t × (¬ Records 34 64 ns))
-  refusal-2 = ((λ e. go (opening-refused t ns bs 2 (λ z. omega arith) .0 e)), (λ h. opening-refused t ns bs 2 (λ z. omega arith) .1 (is-2 refl (h .0) (h .1))))
+  pub refusal-2 : opening g ns bs .refusal ≡ 2 ↔ (Within 1 8 (g .tasks) × (¬ Records 34 64 ns))
+  refusal-2 = ((λ e. go (opening-refused g ns bs 2 (λ z. omega arith) .0 e)), (λ h. opening-refused g ns bs 2 (λ z. omega arith) .1 (is-2 refl (h .0) (h .1))))
     where
-      go : OpeningRefused t ns bs 2 → Within 1 8 t × (¬ Records 34 64 ns)
+      go : OpeningRefused g ns bs 2 → Within 1 8 (g .tasks) × (¬ Records 34 64 ns)
       go (is-1 e n) = absurd (omega arith)
       go (is-2 e p n) = (p, n)
       go (is-3 e p q n) = absurd (omega arith)
 
   -- 3: both are right, and the bucket slice is not 66 × B words with B from 1 to 1,024
-  pub refusal-3 : opening t ns bs .refusal ≡ 3 ↔ (Within 1 8 t × Records 34 64 ns × (¬ Records 66 1024 bs))
-  refusal-3 = ((λ e. go (opening-refused t ns bs 3 (λ z. omega arith) .0 e)), (λ h. opening-refused t ns bs 3 (λ z. omega arith) .1 (is-3 refl (h .0) (h .1) (h .2))))
+  pub refusal-3 : opening g ns bs .refusal ≡ 3 ↔ (Within 1 8 (g .tasks) × Records 34 64 ns × (¬ Records 66 1024 bs))
+  refusal-3 = ((λ e. go (opening-refused g ns bs 3 (λ z. omega arith) .0 e)), (λ h. opening-refused g ns bs 3 (λ z. omega arith) .1 (is-3 refl (h .0) (h .1) (h .2))))
     where
-      go : OpeningRefused t ns bs 3 → Within 1 8 t × Records 34 64 ns × (¬ Records 66 1024 bs)
+      go : OpeningRefused g ns bs 3 → Within 1 8 (g .tasks) × Records 34 64 ns × (¬ Records 66 1024 bs)
       go (is-1 e n) = absurd (omega arith)
       go (is-2 e p n) = absurd (omega arith)
       go (is-3 e p q n) = (p, q, n)
 
 module _ (y : Machine) (k : ℕ) (call : Call) (tag : ℕ) where
   -- 4 of a start: memory is sound, and the task's number is T or more
-  pub refusal-4-start : start y k call tag .out ≡ Refuse 4 ↔ (SoundFacts y × (y .state .tasks ≤ k))
+  pub refusal-4-start : start y k call tag .out ≡ Refuse 4 ↔ (SoundFacts y × (y .state .config .tasks ≤ k))
   refusal-4-start = ((λ e. go (start-refused y k 4 call tag .0 e)), (λ h. start-refused y k 4 call tag .1 (is-4 refl (h .0) (h .1))))
     where
-      go : StartRefused y k 4 → SoundFacts y × (y .state .tasks ≤ k)
+      go : StartRefused y k 4 → SoundFacts y × (y .state .config .tasks ≤ k)
       go (is-8 e n) = absurd (omega arith)
       go (is-4 e f h) = (f, h)
       go (is-5 e f h s) = absurd (omega arith)
 
   -- 5: memory is sound, and the task is there and runs a call
-  pub refusal-5 : start y k call tag .out ≡ Refuse 5 ↔ (SoundFacts y × (k < y .state .tasks) × (task-of y k .running ≡ true))
+  pub refusal-5 : start y k call tag .out ≡ Refuse 5 ↔ (SoundFacts y × (k < y .state .config .tasks) × (task-of y k .running ≡ true))
   refusal-5 = ((λ e. go (start-refused y k 5 call tag .0 e)), (λ h. start-refused y k 5 call tag .1 (is-5 refl (h .0) (h .1) (h .2))))
     where
-      go : StartRefused y k 5 → SoundFacts y × (k < y .state .tasks) × (task-of y k .running ≡ true)
+      go : StartRefused y k 5 → SoundFacts y × (k < y .state .config .tasks) × (task-of y k .running ≡ true)
       go (is-8 e n) = absurd (omega arith)
       go (is-4 e f h) = absurd (omega arith)
       go (is-5 e f h s) = (f, h, s)
@@ -80,13 +81,13 @@ module _ (y : Machine) (k : ℕ) (call : Call) (tag : ℕ) where
 module _ (y : Machine) (k : ℕ) where
   -- memory is sound, and the task is there and runs a call
   abbrev pub Steps : Type 0
-  Steps = SoundFacts y × (k < y .state .tasks) × (task-of y k .running ≡ true)
+  Steps = SoundFacts y × (k < y .state .config .tasks) × (task-of y k .running ≡ true)
 
   -- 4 of a step: as of a start
-  pub refusal-4-step : step y k .out ≡ Refuse 4 ↔ (SoundFacts y × (y .state .tasks ≤ k))
+  pub refusal-4-step : step y k .out ≡ Refuse 4 ↔ (SoundFacts y × (y .state .config .tasks ≤ k))
   refusal-4-step = ((λ e. go (step-refused y k 4 .0 e)), (λ h. step-refused y k 4 .1 (is-4 refl (h .0) (h .1))))
     where
-      go : StepRefused y k 4 → SoundFacts y × (y .state .tasks ≤ k)
+      go : StepRefused y k 4 → SoundFacts y × (y .state .config .tasks ≤ k)
       go (is-8 e n) = absurd (omega arith)
       go (is-4 e f h) = (f, h)
       go (is-6 e f h s) = absurd (omega arith)
@@ -94,10 +95,10 @@ module _ (y : Machine) (k : ℕ) where
       go (is-7 e f h g b v) = absurd (omega arith)
 
   -- 6: memory is sound, and the task is there and runs nothing
-  pub refusal-6 : step y k .out ≡ Refuse 6 ↔ (SoundFacts y × (k < y .state .tasks) × (task-of y k .running ≡ false))
+  pub refusal-6 : step y k .out ≡ Refuse 6 ↔ (SoundFacts y × (k < y .state .config .tasks) × (task-of y k .running ≡ false))
   refusal-6 = ((λ e. go (step-refused y k 6 .0 e)), (λ h. step-refused y k 6 .1 (is-6 refl (h .0) (h .1) (h .2))))
     where
-      go : StepRefused y k 6 → SoundFacts y × (k < y .state .tasks) × (task-of y k .running ≡ false)
+      go : StepRefused y k 6 → SoundFacts y × (k < y .state .config .tasks) × (task-of y k .running ≡ false)
       go (is-8 e n) = absurd (omega arith)
       go (is-4 e f h) = absurd (omega arith)
       go (is-6 e f h s) = (f, h, s)

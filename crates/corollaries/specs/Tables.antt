@@ -18,6 +18,7 @@ use Rattle.spec.specs.declared.Output.the-variants.{Refuse}
 use Rattle.spec.specs.declared.Listing.the-variants.{Refused}
 use Rattle.spec.specs.Lists.{if_then_else_}
 use Rattle.spec.specs.Machine.{Machine, task-of}
+use Rattle.spec.specs.declared.Config.{Config}
 use Rattle.spec.specs.Sound.{within, sound}
 use Rattle.spec.specs.Listed.{listed}
 use Rattle.spec.specs.Lines.{effect}
@@ -76,20 +77,20 @@ module _ (width most : ℕ) (w : List ℕ) where
       all2 (eqb (length w % width) 0) (within 1 most (length w / width)) (eq-eqb _ _ m) (rw q (means-within 1 most (r .number) (r .some, r .few)))
 
 -- "The installer, opening with T and two slices, in this order"
-pub data OpeningRefused (t : ℕ) (ns bs : List ℕ) (r : ℕ) : Type 0 where
+pub data OpeningRefused (g : Config) (ns bs : List ℕ) (r : ℕ) : Type 0 where
   -- "1 T outside its bounds"
-  is-1 : r ≡ 1 → ¬ Within 1 8 t → OpeningRefused t ns bs r
+  is-1 : r ≡ 1 → ¬ Within 1 8 (g .tasks) → OpeningRefused g ns bs r
   -- "2 node slice not 34 × H words for an H within bounds"
-  is-2 : r ≡ 2 → Within 1 8 t → ¬ Records 34 64 ns → OpeningRefused t ns bs r
+  is-2 : r ≡ 2 → Within 1 8 (g .tasks) → ¬ Records 34 64 ns → OpeningRefused g ns bs r
   -- "3 bucket slice not 66 × B words for a B within bounds"
-  is-3 : r ≡ 3 → Within 1 8 t → Records 34 64 ns → ¬ Records 66 1024 bs → OpeningRefused t ns bs r
+  is-3 : r ≡ 3 → Within 1 8 (g .tasks) → Records 34 64 ns → ¬ Records 66 1024 bs → OpeningRefused g ns bs r
 
-module _ (t : ℕ) (ns bs : List ℕ) (r : ℕ) where
-  why-opening : ¬ (r ≡ 0) → opening t ns bs .refusal ≡ r → OpeningRefused t ns bs r
+module _ (g : Config) (ns bs : List ℕ) (r : ℕ) where
+  why-opening : ¬ (r ≡ 0) → opening g ns bs .refusal ≡ r → OpeningRefused g ns bs r
   unfolding opening not-opened
   why-opening d =
-      choose Why (not (within 1 8 t)) _ _ (λ p e. is-1 (sym e) (never (within 1 8 t) (means-within 1 8 t) (not-true _ p))) (λ p.
-      let t-ok = within-means 1 8 t (not-false _ p) in
+      choose Why (not (within 1 8 (g .tasks))) _ _ (λ p e. is-1 (sym e) (never (within 1 8 (g .tasks)) (means-within 1 8 (g .tasks)) (not-true _ p))) (λ p.
+      let t-ok = within-means 1 8 (g .tasks) (not-false _ p) in
       choose Why (not (pool-fits 34 64 (length ns))) _ _ (λ q e. is-2 (sym e) t-ok (never (pool-fits 34 64 (length ns)) (means-fits 34 64 ns (omega arith)) (not-true _ q))) (λ q.
       let n-ok = fits-means 34 64 ns (not-false _ q) in
       choose Why (not (pool-fits 66 1024 (length bs))) _ _ (λ s e.
@@ -97,16 +98,16 @@ module _ (t : ℕ) (ns bs : List ℕ) (r : ℕ) where
       absurd (d (sym e)))))
     where
       Why : Opened → Type 0
-      Why o = o .refusal ≡ r → OpeningRefused t ns bs r
+      Why o = o .refusal ≡ r → OpeningRefused g ns bs r
 
-  opening-why : OpeningRefused t ns bs r → opening t ns bs .refusal ≡ r
+  opening-why : OpeningRefused g ns bs r → opening g ns bs .refusal ≡ r
   unfolding opening not-opened
-  opening-why (is-1 e n) = rw (e, fails (within 1 8 t) (within-means 1 8 t) n)
-  opening-why (is-2 e p n) = rw (e, means-within 1 8 t p, fails (pool-fits 34 64 (length ns)) (fits-means 34 64 ns) n)
-  opening-why (is-3 e p q n) = rw (e, means-within 1 8 t p, means-fits 34 64 ns (omega arith) q, fails (pool-fits 66 1024 (length bs)) (fits-means 66 1024 bs) n)
+  opening-why (is-1 e n) = rw (e, fails (within 1 8 (g .tasks)) (within-means 1 8 (g .tasks)) n)
+  opening-why (is-2 e p n) = rw (e, means-within 1 8 (g .tasks) p, fails (pool-fits 34 64 (length ns)) (fits-means 34 64 ns) n)
+  opening-why (is-3 e p q n) = rw (e, means-within 1 8 (g .tasks) p, means-fits 34 64 ns (omega arith) q, fails (pool-fits 66 1024 (length bs)) (fits-means 66 1024 bs) n)
 
   -- the opening is refused with a number exactly if the table has it
-  pub opening-refused : ¬ (r ≡ 0) → opening t ns bs .refusal ≡ r ↔ OpeningRefused t ns bs r
+  pub opening-refused : ¬ (r ≡ 0) → opening g ns bs .refusal ≡ r ↔ OpeningRefused g ns bs r
   opening-refused d = (why-opening d, opening-why)
 
 -- ---- starts and steps
@@ -126,9 +127,9 @@ pub data StartRefused (y : Machine) (k r : ℕ) : Type 0 where
   -- "Spoilt memory"
   is-8 : r ≡ 8 → ¬ SoundFacts y → StartRefused y k r
   -- "no such task"
-  is-4 : r ≡ 4 → SoundFacts y → y .state .tasks ≤ k → StartRefused y k r
+  is-4 : r ≡ 4 → SoundFacts y → y .state .config .tasks ≤ k → StartRefused y k r
   -- "start while its call runs"
-  is-5 : r ≡ 5 → SoundFacts y → k < y .state .tasks → task-of y k .running ≡ true → StartRefused y k r
+  is-5 : r ≡ 5 → SoundFacts y → k < y .state .config .tasks → task-of y k .running ≡ true → StartRefused y k r
 
 module _ (y : Machine) (k r : ℕ) (call : Call) (tag : ℕ) where
   why-start : start y k call tag .out ≡ Refuse r → StartRefused y k r
@@ -136,7 +137,7 @@ module _ (y : Machine) (k r : ℕ) (call : Call) (tag : ℕ) where
   why-start =
       choose Why (not (sound y)) _ _ (λ p e. is-8 (same e) (spoilt (not-true _ p))) (λ p.
       let f = sound-facts y (not-false _ p) in
-      choose Why (not (ltb k (y .state .tasks))) _ _ (λ q e. is-4 (same e) f (ltb-false _ _ (not-true _ q))) (λ q.
+      choose Why (not (ltb k (y .state .config .tasks))) _ _ (λ q e. is-4 (same e) f (ltb-false _ _ (not-true _ q))) (λ q.
       choose Why (task-of y k .running) _ _ (λ s e. is-5 (same e) f (ltb-true _ _ (not-false _ q)) s) (λ s e. absurd (at-refused e))))
     where
       Why : Reply → Type 0
@@ -157,13 +158,13 @@ pub data StepRefused (y : Machine) (k r : ℕ) : Type 0 where
   -- "Spoilt memory"
   is-8 : r ≡ 8 → ¬ SoundFacts y → StepRefused y k r
   -- "no such task"
-  is-4 : r ≡ 4 → SoundFacts y → y .state .tasks ≤ k → StepRefused y k r
+  is-4 : r ≡ 4 → SoundFacts y → y .state .config .tasks ≤ k → StepRefused y k r
   -- "step while none runs"
-  is-6 : r ≡ 6 → SoundFacts y → k < y .state .tasks → task-of y k .running ≡ false → StepRefused y k r
+  is-6 : r ≡ 6 → SoundFacts y → k < y .state .config .tasks → task-of y k .running ≡ false → StepRefused y k r
   -- "In a step, before 7, also if its line goes through an empty place, .."
-  is-8-step : r ≡ 8 → SoundFacts y → k < y .state .tasks → task-of y k .running ≡ true → ¬ StepSound y (task-of y k) → StepRefused y k r
+  is-8-step : r ≡ 8 → SoundFacts y → k < y .state .config .tasks → task-of y k .running ≡ true → ¬ StepSound y (task-of y k) → StepRefused y k r
   -- "line 27 or 49 finds every node or every bucket held"
-  is-7 : r ≡ 7 → SoundFacts y → k < y .state .tasks → task-of y k .running ≡ true → StepSound y (task-of y k) → AllHeld y (task-of y k) → StepRefused y k r
+  is-7 : r ≡ 7 → SoundFacts y → k < y .state .config .tasks → task-of y k .running ≡ true → StepSound y (task-of y k) → AllHeld y (task-of y k) → StepRefused y k r
 
 module _ (y : Machine) (k r : ℕ) where
   abbrev c : Task
@@ -174,8 +175,8 @@ module _ (y : Machine) (k r : ℕ) where
   why-step =
       choose Why (not (sound y)) _ _ (λ p e. is-8 (same e) (spoilt (not-true _ p))) (λ p.
       let f = sound-facts y (not-false _ p) in
-      choose Why (not (ltb k (y .state .tasks))) _ _ (λ q e. is-4 (same e) f (ltb-false _ _ (not-true _ q))) (λ q.
-      let h = ltb-true k (y .state .tasks) (not-false _ q) in
+      choose Why (not (ltb k (y .state .config .tasks))) _ _ (λ q e. is-4 (same e) f (ltb-false _ _ (not-true _ q))) (λ q.
+      let h = ltb-true k (y .state .config .tasks) (not-false _ q) in
       choose Why (not (c .running)) _ _ (λ s e. is-6 (same e) f h (not-true _ s)) (λ s.
       let g = not-false (c .running) s in
       choose Why (unsound-step y c) _ _ (λ u e. is-8-step (same e) f h g (λ b. tf u (facts-step-sound y c b))) (λ u.
@@ -185,7 +186,7 @@ module _ (y : Machine) (k r : ℕ) where
       Why : Reply → Type 0
       Why x = x .out ≡ Refuse r → StepRefused y k r
 
-  running : SoundFacts y → k < y .state .tasks → c .running ≡ true → step y k ≡ step-running y k c
+  running : SoundFacts y → k < y .state .config .tasks → c .running ≡ true → step y k ≡ step-running y k c
   unfolding step
   running f h g = rw (facts-sound y f, lt-ltb _ _ h) (ap (λ (b : Bool). if not b then refuse 6 y else step-running y k c) g)
 

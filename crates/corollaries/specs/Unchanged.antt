@@ -10,7 +10,8 @@ use lib.ListN.{length}
 use Rattle.spec.specs.declared.Call.{Call}
 use Rattle.spec.specs.declared.Output.the-variants.{At, Refuse}
 use Rattle.spec.specs.declared.Listing.the-variants.{Refused}
-use Rattle.spec.specs.Machine.{Machine, machine-of, state-of, task-of}
+use Rattle.spec.specs.Machine.{Machine, machine-of, state-of, task-of, zero-config}
+use Rattle.spec.specs.declared.Config.{Config}
 use Rattle.spec.specs.Sound.{within, sound}
 use Rattle.spec.specs.Listed.{listed}
 use Rattle.spec.specs.Lines.{Next, on, ends, Effect, effect}
@@ -44,7 +45,7 @@ module _ (y : Machine) (k r : ℕ) where
   unfolding start refuse
   refused-start-changes-nothing call tag =
       choose Unchanged (not (sound y)) _ _ (λ p e. refl) (λ p.
-      choose Unchanged (not (ltb k (y .state .tasks))) _ _ (λ q e. refl) (λ q.
+      choose Unchanged (not (ltb k (y .state .config .tasks))) _ _ (λ q e. refl) (λ q.
       choose Unchanged (task-of y k .running) _ _ (λ s e. refl) (λ s e. absurd (at-refused e))))
 
   -- a refused step leaves the state and both pools as they were: with 7 "the task still stands there"
@@ -52,7 +53,7 @@ module _ (y : Machine) (k r : ℕ) where
   unfolding step step-running refuse
   refused-step-changes-nothing =
       choose Unchanged (not (sound y)) _ _ (λ p e. refl) (λ p.
-      choose Unchanged (not (ltb k (y .state .tasks))) _ _ (λ q e. refl) (λ q.
+      choose Unchanged (not (ltb k (y .state .config .tasks))) _ _ (λ q e. refl) (λ q.
       choose Unchanged (not (task-of y k .running)) _ _ (λ s e. refl) (λ s.
       choose Unchanged (unsound-step y (task-of y k)) _ _ (λ u e. refl) (λ u.
       choose Unchanged (all-held y (task-of y k)) _ _ (λ v e. refl) (λ v e. absurd (accept-refused y k _ (effect y (task-of y k)) e))))))
@@ -76,12 +77,12 @@ refused-list-changes-nothing y w r =
     Same x = x .says ≡ Refused r → x .words ≡ w
 
 -- a refused opening leaves both slices as they were, and gives a state of zeros
-pub refused-opening-changes-nothing : (t : ℕ) (ns bs : List ℕ) → ¬ (opening t ns bs .refusal ≡ 0) → opening t ns bs .machine ≡ machine-of (state-of 0 0 0) ns bs
+pub refused-opening-changes-nothing : (g : Config) (ns bs : List ℕ) → ¬ (opening g ns bs .refusal ≡ 0) → opening g ns bs .machine ≡ machine-of (state-of zero-config 0 0) ns bs
 unfolding opening not-opened
-refused-opening-changes-nothing t ns bs =
-    choose Same (not (within 1 8 t)) _ _ (λ p e. refl) (λ p.
+refused-opening-changes-nothing g ns bs =
+    choose Same (not (within 1 8 (g .tasks))) _ _ (λ p e. refl) (λ p.
     choose Same (not (pool-fits 34 64 (length ns))) _ _ (λ q e. refl) (λ q.
     choose Same (not (pool-fits 66 1024 (length bs))) _ _ (λ s e. refl) (λ s e. absurd (e refl))))
   where
     Same : Opened → Type 0
-    Same o = ¬ (o .refusal ≡ 0) → o .machine ≡ machine-of (state-of 0 0 0) ns bs
+    Same o = ¬ (o .refusal ≡ 0) → o .machine ≡ machine-of (state-of zero-config 0 0) ns bs

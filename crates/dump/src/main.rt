@@ -63,7 +63,8 @@ fn task(k: u32, c: Task) {
 }
 
 fn state(s: State) {
-    field(b"T=", s.tasks);
+    let g = s.config;
+    field(b"T=", g.tasks);
     field(b" H=", s.nodes);
     field(b" B=", s.buckets);
     field(b" head=", s.head);
@@ -120,8 +121,8 @@ fn bucket_words() -> [u32; 264]
 fn nodes(ns: &[u32]) {
     let mut k: usize = 0;
     while k < 3 {
-        let a = 34 * k;
-        let e = a + 34;
+        let a = pool::NODE_WORDS * k;
+        let e = a + pool::NODE_WORDS;
         if e <= ns.len() {
             record(b"node ", k as u32, &ns[a..e]);
         }
@@ -132,8 +133,8 @@ fn nodes(ns: &[u32]) {
 fn buckets(bs: &[u32]) {
     let mut k: usize = 0;
     while k < 4 {
-        let a = 66 * k;
-        let e = a + 66;
+        let a = pool::BUCKET_WORDS * k;
+        let e = a + pool::BUCKET_WORDS;
         if e <= bs.len() {
             record(b"bucket ", k as u32, &bs[a..e]);
         }
@@ -153,7 +154,8 @@ fn tasks(s: State) {
 fn main() {
     let mut ns = node_words();
     let mut bs = bucket_words();
-    let o = opening::open(2, &mut ns, &mut bs);
+    let g = state::config(2);
+    let o = opening::open(g, &mut ns, &mut bs);
     let a = o.state;
     let b = call(a, 0, Call::Insert, 17, 3, &mut ns, &mut bs);
     let c = call(b, 0, Call::Insert, 4, 3, &mut ns, &mut bs);

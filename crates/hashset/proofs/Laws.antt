@@ -20,11 +20,11 @@ module _ (y : Machine) (k : ℕ) where
   step-spoilt e = rw e
 
   module _ (s : sound y ≡ true) where
-    pub step-none : y .state .tasks ≤ k → step y k ≡ refuse 4 y
+    pub step-none : y .state .config .tasks ≤ k → step y k ≡ refuse 4 y
     unfolding step
     step-none h = rw (s, le-ltb _ _ h)
 
-    module _ (h : k < y .state .tasks) where
+    module _ (h : k < y .state .config .tasks) where
       pub step-idle : task-of y k .running ≡ false → step y k ≡ refuse 6 y
       unfolding step
       step-idle e = rw (s, lt-ltb _ _ h) (ap (λ (b : Bool). if not b then refuse 6 y else step-running y k (task-of y k)) e)
@@ -42,33 +42,34 @@ module _ (y : Machine) (k : ℕ) where
     start-spoilt e = rw e
 
     module _ (s : sound y ≡ true) where
-      pub start-none : y .state .tasks ≤ k → start y k call tag ≡ refuse 4 y
+      pub start-none : y .state .config .tasks ≤ k → start y k call tag ≡ refuse 4 y
       unfolding start
       start-none h = rw (s, le-ltb _ _ h)
 
-      module _ (h : k < y .state .tasks) where
+      module _ (h : k < y .state .config .tasks) where
         pub start-busy : task-of y k .running ≡ true → start y k call tag ≡ refuse 5 y
         unfolding start
         start-busy e = rw (s, lt-ltb _ _ h) (ap (λ (b : Bool). if b then refuse 5 y else begins) e)
 
-        pub start-goes : task-of y k .running ≡ false → start y k call tag ≡ record { out = At (started call tag .line); machine = set-task k (started call tag) y }
+        pub start-goes : task-of y k .running ≡ false → start y k call tag
+            ≡ record { out = At (started call tag .line); machine = set-task k (started call tag) y }
         unfolding start
         start-goes e = rw (s, lt-ltb _ _ h) (ap (λ (b : Bool). if b then refuse 5 y else begins) e)
 
 -- ---- what bars a start and a step alike
 
 module _ (y : Machine) (k : ℕ) where
-  pub below-8 : (sound y ≡ true) × (k < y .state .tasks) → k < 8
+  pub below-8 : (sound y ≡ true) × (k < y .state .config .tasks) → k < 8
   below-8 h =
-      let most = sound-facts y (h .0) .T-high in
+      let most = sound-facts y (h .0) .config .T-high in
       let task = h .1 in
       omega arith
 
   pub barred-8 : sound y ≡ false → Barred y k 8
   barred-8 e = record { passed = λ z. absurd (omega (arith, z)); starts = λ n call tag. start-spoilt y k call tag e; steps = λ n. step-spoilt y k e }
 
-  pub barred-4 : sound y ≡ true → y .state .tasks ≤ k → Barred y k 4
+  pub barred-4 : sound y ≡ true → y .state .config .tasks ≤ k → Barred y k 4
   barred-4 s h = record { passed = λ z. absurd (omega (arith, z)); starts = λ n call tag. start-none y k call tag s h; steps = λ n. step-none y k s h }
 
-  pub barred-0 : sound y ≡ true → k < y .state .tasks → Barred y k 0
+  pub barred-0 : sound y ≡ true → k < y .state .config .tasks → Barred y k 0
   barred-0 s h = record { passed = λ z. (s, h); starts = λ n. absurd (n refl); steps = λ n. absurd (n refl) }

@@ -39,7 +39,8 @@ calls-in-figure (suc (suc (suc (suc (suc (suc n)))))) = refl
 unfoldable passing : (ℕ → Bool) → List ℕ → ℕ → Bool
 passing test ls n = not (test n) || member n ls
 
-in-range : (test : ℕ → Bool) (ls : List ℕ) → every (passing test ls) figure-lines ≡ true → (call l : ℕ) → member l (lines-of call) ≡ true → test l ≡ true → member l ls ≡ true
+in-range : (test : ℕ → Bool) (ls : List ℕ) → every (passing test ls) figure-lines ≡ true → (call l : ℕ) → member l (lines-of call) ≡ true → test l ≡ true
+    → member l ls ≡ true
 unfolding passing
 in-range test ls e call l h g =
     let known = member-every (λ (n : ℕ). member n figure-lines) l (lines-of call) (calls-in-figure call) h in

@@ -10,6 +10,6 @@ use Rattle.spec.specs.Entries.{refuse, start, step}
 
 -- r is the refusal, 0 for none
 pub record Barred (y : Machine) (k r : ℕ) : Type 0 where
-  pub passed : r ≡ 0 → (sound y ≡ true) × (k < y .state .tasks)
+  pub passed : r ≡ 0 → (sound y ≡ true) × (k < y .state .config .tasks)
   pub starts : (r ≡ 0 → ⊥) → (call : Call) (tag : ℕ) → start y k call tag ≡ refuse r y
   pub steps : (r ≡ 0 → ⊥) → step y k ≡ refuse r y

@@ -7,7 +7,7 @@ use spec::State;
 ghost use mathlib.Core.Path.{_≡_};
 ghost use Rattle.spec.specs.Entries.{start, step};
 ghost use Rattle.spec.specs.Machine.{machine-of};
-ghost use Rattle.lines.specs.Reply.{reply-of, moved-reply};
+ghost use Rattle.lines.specs.Reply.{reply-of, Gives};
 ghost use Rattle.hashset.specs.Barred.{Barred};
 
 // The refusal of a start and a step alike, 8 or 4; 0 for none.
@@ -17,7 +17,8 @@ fn barred(s: State, k: u32, ns: &[u32], bs: &[u32]) -> u32
     if !soundness::sound(s, ns, bs) {
         return 8;
     }
-    if s.tasks <= k {
+    let g = s.config;
+    if g.tasks <= k {
         return 4;
     }
     0
@@ -25,7 +26,7 @@ fn barred(s: State, k: u32, ns: &[u32], bs: &[u32]) -> u32
 
 // What a start for task k changes of the state.
 pub fn moved_by_start(s: State, k: u32, call: Call, tag: u32, ns: &[u32], bs: &[u32]) -> Moved
-    ensures { λ r. ⌜ moved-reply s k r (now (ns .entry)) (now (bs .entry)) ≡ start (machine-of s (now (ns .entry)) (now (bs .entry))) k call tag ⌝ }
+    ensures { λ r. ⌜ Gives s k r (now (ns .entry)) (now (bs .entry)) (start (machine-of s (now (ns .entry)) (now (bs .entry))) k call tag) ⌝ }
 {
     let why = barred(s, k, ns, bs);
     if why != 0 {
@@ -57,7 +58,7 @@ pub fn start(s: State, k: u32, call: Call, tag: u32, ns: &[u32], bs: &[u32]) -> 
 
 // What a step of task k by one line changes of the state.
 pub fn moved_by_step(s: State, k: u32, ns: &mut [u32], bs: &mut [u32]) -> Moved
-    ensures { λ r. ⌜ moved-reply s k r (now (ns .exit)) (now (bs .exit)) ≡ step (machine-of s (now (ns .entry)) (now (bs .entry))) k ⌝ }
+    ensures { λ r. ⌜ Gives s k r (now (ns .exit)) (now (bs .exit)) (step (machine-of s (now (ns .entry)) (now (bs .entry))) k) ⌝ }
 {
     let why = barred(s, k, ns, bs);
     if why != 0 {

@@ -12,6 +12,11 @@ ghost use Rattle.spec.specs.Words.{places};
 ghost use Rattle.spec.specs.Held.{chain, task-nodes, task-buckets, held-nodes, first-free, cyclic-order};
 ghost use Rattle.held.specs.Held.{Marks, Exactly, marked-numbers, placed-low, node-to-take, bucket-to-take};
 
+// A mark for each record that there may be.
+const NODES: usize = pool::MOST_NODES as usize;
+
+const BUCKETS: usize = pool::MOST_BUCKETS as usize;
+
 // The mark of a link, if there is one.
 fn mark(m: &mut [bool], l: u32)
     ensures { λ _. ⌜ Marks (now (m .entry)) (now (m .exit)) (l ∷ []) ⌝ }
@@ -77,7 +82,7 @@ fn mark_places(ns: &[u32], m: &mut [bool], k: u32)
     ensures { λ _. ⌜ Marks (now (m .entry)) (now (m .exit)) (places (now (ns .entry)) k) ⌝ }
 {
     let mut i: u32 = 0;
-    while i < 32 {
+    while i < pool::PLACES {
         let l = pool::place_at(ns, k, i);
         mark(m, l);
         i += 1;
@@ -85,11 +90,11 @@ fn mark_places(ns: &[u32], m: &mut [bool], k: u32)
 }
 
 // The buckets that the marked nodes place.
-fn mark_placed(ns: &[u32], nodes: [bool; 64], m: &mut [bool])
+fn mark_placed(ns: &[u32], nodes: [bool; NODES], m: &mut [bool])
     ensures { λ _. ⌜ Marks (now (m .entry)) (now (m .exit)) (concat-map (places (now (ns .entry))) (marked-numbers nodes)) ⌝ }
 {
     let mut k: u32 = 0;
-    while k < 64 {
+    while k < pool::MOST_NODES {
         if nodes[k as usize] {
             mark_places(ns, m, k);
         }
@@ -145,16 +150,16 @@ pub fn free_node_of(s: State, ns: &[u32]) -> u32
 {
     let h = s.nodes;
     let last = s.last_node;
-    if 64 <= s.head {
+    if pool::MOST_NODES <= s.head {
         return 0;
     }
-    if 64 < h {
+    if pool::MOST_NODES < h {
         return 0;
     }
     if h <= last {
         return 0;
     }
-    let mut nodes = [false; 64];
+    let mut nodes = [false; NODES];
     mark_nodes(s, ns, &mut nodes);
     first_unmarked(&nodes, h, last)
 }
@@ -165,18 +170,18 @@ pub fn free_bucket_of(s: State, ns: &[u32]) -> u32
 {
     let b = s.buckets;
     let last = s.last_bucket;
-    if 64 <= s.head {
+    if pool::MOST_NODES <= s.head {
         return 0;
     }
-    if 1024 < b {
+    if pool::MOST_BUCKETS < b {
         return 0;
     }
     if b <= last {
         return 0;
     }
-    let mut nodes = [false; 64];
+    let mut nodes = [false; NODES];
     mark_nodes(s, ns, &mut nodes);
-    let mut buckets = [false; 1024];
+    let mut buckets = [false; BUCKETS];
     mark_placed(ns, nodes, &mut buckets);
     mark_own(s, &mut buckets);
     first_unmarked(&buckets, b, last)

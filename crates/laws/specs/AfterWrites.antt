@@ -8,6 +8,8 @@ use native.Mathlib.Decide.{ℕ-discrete, decLt}
 use lib.ListN.{length, getD, set, length-set}
 use lib.Seq.{getD-set-same, getD-set-other, set-out}
 use Rattle.spec.specs.declared.Task.{Task}
+use Rattle.spec.specs.declared.Config.{Config}
+use Rattle.spec.specs.declared.State.{State}
 use Rattle.spec.specs.Machine.{Machine, idle, state-head, state-last-node, state-last-bucket, state-task, with-state, with-nodes, with-buckets, with-head, with-last-node, with-last-bucket, with-task, set-task, task-of}
 use Rattle.spec.specs.Words.{size, pred, place, changeable, count, tags, Write, apply, nothing, set-head, set-place, clear-pred, freeze, put-tags, new-node, new-bucket}
 use Rattle.spec.specs.Sound.{node-count, bucket-count}
@@ -15,15 +17,37 @@ use Rattle.laws.specs.Tests.{At, hit, miss}
 use Rattle.laws.specs.NodeWords.{sp-size, cp-size, cp-pred, cp-place, sp-pred, nn-length, sp-place, nn-size, nn-pred, nn-place}
 use Rattle.laws.specs.BucketWords.{fr-changeable, fr-count, fr-tags, fr-word, bk-length, bk-changeable, bk-count, bk-tags, bk-same, bk-words}
 
--- ---- the state: T, H, B and the tasks stay with every write; z is what the write leaves of y
+-- ---- the state: what it was opened with, H, B and the tasks stay with every write; z is what the write leaves of y
 
 pub record SameState (y z : Machine) : Type 0 where
-  pub T≡ : z .state .tasks ≡ y .state .tasks
+  pub config≡ : z .state .config ≡ y .state .config
   pub H≡ : node-count z ≡ node-count y
   pub B≡ : bucket-count z ≡ bucket-count y
   pub task≡ : z .state .task ≡ y .state .task
   pub nodes-length≡ : length (z .nodes) ≡ length (y .nodes)
   pub buckets-length≡ : length (z .buckets) ≡ length (y .buckets)
+
+-- the part of the state that no write changes
+pub record Kept : Type 0 where
+  pub config : Config
+  pub nodes : ℕ
+  pub buckets : ℕ
+  pub task : List Task
+
+abbrev pub kept : State → Kept
+kept s = record { config = s .config; nodes = s .nodes; buckets = s .buckets; task = s .task }
+
+-- one maker: that part is the same, and so are the pools' lengths
+pub same-but : (y z : Machine) → kept (z .state) ≡ kept (y .state) → length (z .nodes) ≡ length (y .nodes) → length (z .buckets) ≡ length (y .buckets)
+    → SameState y z
+same-but y z e n b = record {
+  config≡ = ap (λ (k : Kept). k .config) e;
+  H≡ = ap (λ (k : Kept). k .nodes) e;
+  B≡ = ap (λ (k : Kept). k .buckets) e;
+  task≡ = ap (λ (k : Kept). k .task) e;
+  nodes-length≡ = n;
+  buckets-length≡ = b;
+}
 
 pub record AfterHead (y : Machine) (k : ℕ) (z : Machine) : Type 0 where
   pub same : SameState y z
@@ -99,7 +123,7 @@ module _ (y : Machine) where
   pub after-head : (k : ℕ) → AfterHead y k (apply (set-head k) y)
   unfolding apply with-head with-state state-head
   after-head k = record {
-    same = record { T≡ = refl; H≡ = refl; B≡ = refl; task≡ = refl; nodes-length≡ = refl; buckets-length≡ = refl };
+    same = same-but _ _ refl refl refl;
     head≡ = refl;
     last-node≡ = refl;
     last-bucket≡ = refl;
@@ -111,7 +135,7 @@ module _ (y : Machine) where
     pub after-place : (i l : ℕ) → i < 32 → AfterPlace y k i l (apply (set-place k i l) y)
     unfolding apply with-nodes
     after-place i l h = record {
-      same = record { T≡ = refl; H≡ = refl; B≡ = refl; task≡ = refl; nodes-length≡ = length-set (y .nodes) (34 * k + 2 + i) l; buckets-length≡ = refl };
+      same = same-but _ _ refl (length-set (y .nodes) (34 * k + 2 + i) l) refl;
       state≡ = refl;
       buckets≡ = refl;
       size≡ = sp-size (y .nodes) (node-count y) fits k in-range i l h;
@@ -122,7 +146,7 @@ module _ (y : Machine) where
     pub after-pred : AfterPred y k (apply (clear-pred k) y)
     unfolding apply with-nodes
     after-pred = record {
-      same = record { T≡ = refl; H≡ = refl; B≡ = refl; task≡ = refl; nodes-length≡ = length-set (y .nodes) (34 * k + 1) 0; buckets-length≡ = refl };
+      same = same-but _ _ refl (length-set (y .nodes) (34 * k + 1) 0) refl;
       state≡ = refl;
       buckets≡ = refl;
       size≡ = cp-size (y .nodes) (node-count y) fits k in-range;
@@ -133,7 +157,7 @@ module _ (y : Machine) where
     pub after-node : (sz p : ℕ) → AfterNode y k sz p (apply (new-node k sz p) y)
     unfolding apply with-nodes with-last-node with-state state-last-node
     after-node sz p = record {
-      same = record { T≡ = refl; H≡ = refl; B≡ = refl; task≡ = refl; nodes-length≡ = nn-length (y .nodes) (node-count y) fits k in-range sz p; buckets-length≡ = refl };
+      same = same-but _ _ refl (nn-length (y .nodes) (node-count y) fits k in-range sz p) refl;
       head≡ = refl;
       last-node≡ = refl;
       last-bucket≡ = refl;
@@ -147,7 +171,7 @@ module _ (y : Machine) where
     pub after-freeze : AfterFreeze y k (apply (freeze k) y)
     unfolding apply with-buckets
     after-freeze = record {
-      same = record { T≡ = refl; H≡ = refl; B≡ = refl; task≡ = refl; nodes-length≡ = refl; buckets-length≡ = length-set (y .buckets) (66 * k) 0 };
+      same = same-but _ _ refl refl (length-set (y .buckets) (66 * k) 0);
       state≡ = refl;
       nodes≡ = refl;
       changeable-at = fr-changeable (y .buckets) (bucket-count y) fits k in-range;
@@ -159,7 +183,7 @@ module _ (y : Machine) where
     pub after-put : (ks : List ℕ) → length ks ≤ 64 → AfterBucket y k ks (apply (put-tags k ks) y)
     unfolding apply with-buckets
     after-put ks h = record {
-      same = record { T≡ = refl; H≡ = refl; B≡ = refl; task≡ = refl; nodes-length≡ = refl; buckets-length≡ = bk-length (y .buckets) (bucket-count y) fits k in-range ks h };
+      same = same-but _ _ refl refl (bk-length (y .buckets) (bucket-count y) fits k in-range ks h);
       head≡ = refl;
       last-node≡ = refl;
       nodes≡ = refl;
@@ -173,7 +197,7 @@ module _ (y : Machine) where
     pub after-bucket : (ks : List ℕ) → length ks ≤ 64 → AfterBucket y k ks (apply (new-bucket k ks) y)
     unfolding apply with-buckets with-last-bucket with-state state-last-bucket
     after-bucket ks h = record {
-      same = record { T≡ = refl; H≡ = refl; B≡ = refl; task≡ = refl; nodes-length≡ = refl; buckets-length≡ = bk-length (y .buckets) (bucket-count y) fits k in-range ks h };
+      same = same-but _ _ refl refl (bk-length (y .buckets) (bucket-count y) fits k in-range ks h);
       head≡ = refl;
       last-node≡ = refl;
       nodes≡ = refl;
@@ -194,7 +218,7 @@ module _ (y : Machine) where
 
 -- ---- a task's record
 pub record AfterTask (y : Machine) (k : ℕ) (c : Task) (z : Machine) : Type 0 where
-  pub T≡ : z .state .tasks ≡ y .state .tasks
+  pub config≡ : z .state .config ≡ y .state .config
   pub H≡ : node-count z ≡ node-count y
   pub B≡ : bucket-count z ≡ bucket-count y
   pub head≡ : z .state .head ≡ y .state .head
@@ -208,7 +232,7 @@ pub record AfterTask (y : Machine) (k : ℕ) (c : Task) (z : Machine) : Type 0 w
 pub after-task : (y : Machine) (k : ℕ) (c : Task) → AfterTask y k c (set-task k c y)
 unfolding set-task with-task with-state state-task task-of
 after-task y k c = record {
-  T≡ = refl;
+  config≡ = refl;
   H≡ = refl;
   B≡ = refl;
   head≡ = refl;

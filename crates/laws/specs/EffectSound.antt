@@ -57,7 +57,7 @@ module _ (y : Machine) (f : SoundFacts y) (l : ℕ) (g : NodeLink y l) (d : ¬ (
 
   pub place-for-low : (k : ℕ) → place-for y l k ≤ bucket-count y
   unfolding place-for
-  place-for-low k = let a = slot-low y f l g d k in let b = size-high y f l g d in place-low (slot k (size-of y l)) (omega arith)
+  place-for-low k = let a = slot-low y f l g d k in let b = size-high y f l g d in place-low (slot (y .state .config) k (size-of y l)) (omega arith)
 
   pub pred-of-link : NodeLink y (pred-of y l)
   unfolding pred-of

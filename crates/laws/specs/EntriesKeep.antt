@@ -39,19 +39,19 @@ accept-keeps y f k own e g = finish-keeps (apply (e .write) y) (write-keeps y f 
 
 -- a step of a sound machine, by its outcome
 pub data StepOutcome (y : Machine) (k : ℕ) : Reply → Type 0 where
-  step-no-task : y .state .tasks ≤ k → StepOutcome y k (refuse 4 y)
-  step-idle : k < y .state .tasks → task-of y k .running ≡ false → StepOutcome y k (refuse 6 y)
-  step-unsound : k < y .state .tasks → task-of y k .running ≡ true → unsound-step y (task-of y k) ≡ true → StepOutcome y k (refuse 8 y)
-  step-all-held : k < y .state .tasks → task-of y k .running ≡ true → unsound-step y (task-of y k) ≡ false → all-held y (task-of y k) ≡ true → StepOutcome y k (refuse 7 y)
-  step-accepted : k < y .state .tasks → task-of y k .running ≡ true → unsound-step y (task-of y k) ≡ false → all-held y (task-of y k) ≡ false
+  step-no-task : y .state .config .tasks ≤ k → StepOutcome y k (refuse 4 y)
+  step-idle : k < y .state .config .tasks → task-of y k .running ≡ false → StepOutcome y k (refuse 6 y)
+  step-unsound : k < y .state .config .tasks → task-of y k .running ≡ true → unsound-step y (task-of y k) ≡ true → StepOutcome y k (refuse 8 y)
+  step-all-held : k < y .state .config .tasks → task-of y k .running ≡ true → unsound-step y (task-of y k) ≡ false → all-held y (task-of y k) ≡ true → StepOutcome y k (refuse 7 y)
+  step-accepted : k < y .state .config .tasks → task-of y k .running ≡ true → unsound-step y (task-of y k) ≡ false → all-held y (task-of y k) ≡ false
       → StepOutcome y k (accept y k (task-of y k .own) (effect y (task-of y k)))
 
 pub step-outcome : (y : Machine) (k : ℕ) → sound y ≡ true → StepOutcome y k (step y k)
 unfolding step step-running
 step-outcome y k e =
     choose (StepOutcome y k) (not (sound y)) _ _ (λ q. absurd (tf e (not-true (sound y) q)))
-    (λ q. choose (StepOutcome y k) (not (ltb k (y .state .tasks))) _ _ (λ a. step-no-task (ltb-false k (y .state .tasks) (not-true _ a)))
-    (λ a. let lt = ltb-true k (y .state .tasks) (not-false _ a) in
+    (λ q. choose (StepOutcome y k) (not (ltb k (y .state .config .tasks))) _ _ (λ a. step-no-task (ltb-false k (y .state .config .tasks) (not-true _ a)))
+    (λ a. let lt = ltb-true k (y .state .config .tasks) (not-false _ a) in
     choose (StepOutcome y k) (not (task-of y k .running)) _ _ (λ b. step-idle lt (not-true _ b))
     (λ b. let going = not-false (task-of y k .running) b in
     choose (StepOutcome y k) (unsound-step y (task-of y k)) _ _ (λ c. step-unsound lt going c)
@@ -59,17 +59,17 @@ step-outcome y k e =
 
 -- a start of a sound machine, by its outcome
 pub data StartOutcome (y : Machine) (k : ℕ) (call : Call) (tag : ℕ) : Reply → Type 0 where
-  start-no-task : y .state .tasks ≤ k → StartOutcome y k call tag (refuse 4 y)
-  start-running : k < y .state .tasks → task-of y k .running ≡ true → StartOutcome y k call tag (refuse 5 y)
-  start-accepted : k < y .state .tasks → task-of y k .running ≡ false
+  start-no-task : y .state .config .tasks ≤ k → StartOutcome y k call tag (refuse 4 y)
+  start-running : k < y .state .config .tasks → task-of y k .running ≡ true → StartOutcome y k call tag (refuse 5 y)
+  start-accepted : k < y .state .config .tasks → task-of y k .running ≡ false
       → StartOutcome y k call tag (record { out = At (started call tag .line); machine = set-task k (started call tag) y })
 
 pub start-outcome : (y : Machine) (k : ℕ) (call : Call) (tag : ℕ) → sound y ≡ true → StartOutcome y k call tag (start y k call tag)
 unfolding start
 start-outcome y k call tag e =
     choose (StartOutcome y k call tag) (not (sound y)) _ _ (λ q. absurd (tf e (not-true (sound y) q)))
-    (λ q. choose (StartOutcome y k call tag) (not (ltb k (y .state .tasks))) _ _ (λ a. start-no-task (ltb-false k (y .state .tasks) (not-true _ a)))
-    (λ a. let lt = ltb-true k (y .state .tasks) (not-false _ a) in
+    (λ q. choose (StartOutcome y k call tag) (not (ltb k (y .state .config .tasks))) _ _ (λ a. start-no-task (ltb-false k (y .state .config .tasks) (not-true _ a)))
+    (λ a. let lt = ltb-true k (y .state .config .tasks) (not-false _ a) in
     choose (StartOutcome y k call tag) (task-of y k .running) _ _ (λ b. start-running lt b) (λ b. start-accepted lt b)))
 
 pub step-facts : (y : Machine) → SoundFacts y → (k : ℕ) {m : Reply} → StepOutcome y k m → SoundFacts (m .machine)
@@ -85,7 +85,7 @@ step-facts y f k (step-accepted a b c d) =
 pub step-keeps : (y : Machine) (k : ℕ) → sound y ≡ true → sound (step y k .machine) ≡ true
 step-keeps y k e = facts-sound (step y k .machine) (step-facts y (sound-facts y e) k (step-outcome y k e))
 
-fresh-facts : (y : Machine) (k call tag line : ℕ) → k < y .state .tasks → member line (lines-of call) ≡ true → (resizes call ≡ true → tag ≡ 0)
+fresh-facts : (y : Machine) (k call tag line : ℕ) → k < y .state .config .tasks → member line (lines-of call) ≡ true → (resizes call ≡ true → tag ≡ 0)
     → RunFacts y k (fresh-task call tag line)
 unfolding fresh-task
 fresh-facts y k call tag line lt h g = record {
@@ -102,7 +102,7 @@ fresh-facts y k call tag line lt h g = record {
   new-bucket = omega arith;
 }
 
-started-facts : (y : Machine) (k : ℕ) (call : Call) (tag : ℕ) → k < y .state .tasks → TaskFacts y k (started call tag)
+started-facts : (y : Machine) (k : ℕ) (call : Call) (tag : ℕ) → k < y .state .config .tasks → TaskFacts y k (started call tag)
 unfolding started fresh-task lines-of fill-lines member
 started-facts y k Insert tag lt = runs refl (fresh-facts y k 1 tag 32 lt refl (λ e. absurd (tf e refl)))
 started-facts y k Remove tag lt = runs refl (fresh-facts y k 2 tag 32 lt refl (λ e. absurd (tf e refl)))

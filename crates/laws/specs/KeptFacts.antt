@@ -22,7 +22,7 @@ module _ (y z : Machine) (same : SameState y z) (sized : (j : ℕ) → ¬ (size 
 
   pub run-kept : (k : ℕ) (c : Task) → RunFacts y k c → RunFacts z k c
   run-kept k c r = record {
-    below-T = rw (same .T≡) (r .below-T);
+    below-T = rw (same .config≡) (r .below-T);
     line = r .line;
     i = r .i;
     tag = r .tag;
@@ -66,8 +66,7 @@ module _ (y z : Machine) (same : SameState y z) (sized : (j : ℕ) → ¬ (size 
       → ((k : ℕ) → k < node-count y → NodeFacts z k) → ((k : ℕ) → k < bucket-count y → BucketFacts z k) → SoundFacts z
   unfolding task-of
   rebuilt f h ln lb hs ns bs = record {
-    T-low = rw (same .T≡) (f .T-low);
-    T-high = rw (same .T≡) (f .T-high);
+    config = rw (same .config≡) (f .config);
     H-low = rw (same .H≡) (f .H-low);
     H-high = rw (same .H≡) (f .H-high);
     B-low = rw (same .B≡) (f .B-low);

@@ -20,6 +20,7 @@ pub mod SameTags
 pub mod Answers
 pub mod PlainSet
 pub mod Listing
+pub mod StepAt
 pub mod StepRefusals
 pub mod KeptFacts
 pub mod WritesKeep

@@ -29,7 +29,8 @@ use Rattle.laws.specs.Ascending.{Rising, rising-add, rising-remove, risi
 use Rattle.laws.specs.Listing.{head-link, slot-low, size-high, size-low}
 use Rattle.spec.specs.declared.Answer.the-variants.{Yes}
 use Rattle.laws.specs.Answers.{insert-writes-nothing, gains-yes, insert-writes-tag}
-use Rattle.laws.specs.StepRefusals.{StepSound, room-36, not-all-held, through-t, through-s}
+use Rattle.laws.specs.StepAt.{through-t, through-s}
+use Rattle.laws.specs.StepRefusals.{StepSound, not-all-held}
 use Rattle.laws.specs.WritesKeep.{WriteSound, sound-put, sound-pred, sound-head, sound-freeze, sound-new-bucket, write-keeps, sound-new-node, sound-place}
 use Rattle.laws.specs.CallLines.{follows, every-line, pick-one, update-lines, next-of-call, one-of-all, lookup-lines, resize-lines, lines-24, lines-36, All}
 use Rattle.laws.specs.TaskKeeps.{run-to, run-b, run-new-bucket, run-t, run-s, run-i, run-m, run-n, run-emptied, no-link, run-new-node}
@@ -104,7 +105,7 @@ module _ (y : Machine) (f : SoundFacts y) (k : ℕ) (c : Task) (going : c .runni
   unfolding line-33 line-definitions
   sound-line-33 e =
       let b = place-for y (c .t) (c .tag) in
-      let i = slot (c .tag) (size-of y (c .t)) in
+      let i = slot (y .state .config) (c .tag) (size-of y (c .t)) in
       let d = t-filled 33 refl e in
       let i-low = slot-low y f (c .t) (r .t) d (c .tag) in
       let sz = size-high y f (c .t) (r .t) d in
@@ -134,7 +135,7 @@ module _ (y : Machine) (f : SoundFacts y) (k : ℕ) (c : Task) (going : c .runni
 
   sound-insert : c .line ≡ 36 → frozen y (c .b) ≡ false → c .call ≡ 1 → EffectSound y k (insert-36 y c)
   unfolding insert-36
-  sound-insert e z q = go (answer-36 y c) (room-36 y c (u .room e) z q) (bool? _)
+  sound-insert e z q = go (answer-36 y c) (u .room e z q) (bool? _)
     where
       go : (a : Answer) → (a ≡ Yes → length (tags-of y (c .b)) < 64) → (gains a ≡ true) ⊎ (gains a ≡ false) → EffectSound y k (answers-writing (insert-write y c a) a)
       go a room (inr g) = rw (insert-writes-nothing y c a g) (sound-ends y k a)
@@ -277,7 +278,7 @@ module _ (y : Machine) (f : SoundFacts y) (k : ℕ) (c : Task) (going : c .runni
       up = tags-rising y f (c .m) (r .m) (u .m (at (44 ∷ 48 ∷ 49 ∷ []) 49 refl e))
 
       go : (b : Bool) → filled (c .n) ≡ b
-          → Rising (if b then union (tags-of y (c .m)) (tags-of y (c .n)) else filter (λ k. eqb (slot k (size-of y (c .t))) (c .i)) (tags-of y (c .m)))
+          → Rising (if b then union (tags-of y (c .m)) (tags-of y (c .n)) else filter (λ k. eqb (slot (y .state .config) k (size-of y (c .t))) (c .i)) (tags-of y (c .m)))
       go true q = rising-union (tags-of y (c .m)) (tags-of y (c .n)) (tags-rising y f (c .n) (r .n) (filled-true (c .n) q))
       go false q = rising-filter _ (tags-of y (c .m)) up
 

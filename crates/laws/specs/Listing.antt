@@ -82,7 +82,7 @@ module _ (y : Machine) (f : SoundFacts y) where
   size-low l g d = let z = listed-low (named y f l g d .size) in omega arith
 
   -- a tag's place in a node is one of its 32
-  pub slot-low : (l : ℕ) → NodeLink y l → ¬ (l ≡ 0) → (k : ℕ) → slot k (size-of y l) < size-of y l
+  pub slot-low : (l : ℕ) → NodeLink y l → ¬ (l ≡ 0) → (k : ℕ) → slot (y .state .config) k (size-of y l) < size-of y l
   unfolding slot
   slot-low l g d k = mod-lt _ (size-low l g d)
 
@@ -98,7 +98,7 @@ module _ (y : Machine) (f : SoundFacts y) where
       let a = slot-low l g d k in
       let b = size-high l g d in
       rw (tags-of-node y l d)
-      (from-join (placed-tags y) k (place-for y l k) (places (y .nodes) (number l)) (among-places y l (slot k (size-of y l)) (omega arith) (q .0))
+      (from-join (placed-tags y) k (place-for y l k) (places (y .nodes) (number l)) (among-places y l (slot (y .state .config) k (size-of y l)) (omega arith) (q .0))
       (ap (member k) (tags-of-place y (place-for y l k) (q .0)) ∙ q .1))
 
   -- a tag is listed exactly if it is in the set

@@ -8,15 +8,16 @@ use native.Mathlib.Decide.{ℕ-discrete}
 use borrow.Author.Tests.{eqb-true, leb-true, not-false}
 use lib.Dec.{leb, eqb}
 use lib.ListN.{length, getD, replicate, length-replicate}
+use Rattle.spec.specs.declared.Config.{Config}
 use Rattle.spec.specs.Lists.{member, ascending}
 use Rattle.spec.specs.Machine.{idle, state-of, task-of}
 use Rattle.spec.specs.Words.{size, pred, place, changeable, count, tags}
 use Rattle.spec.specs.Sound.{listed-size, sound, within}
 use Rattle.spec.specs.Entries.{pool-fits, not-opened, fresh-machine, Opened, opening}
 use Rattle.laws.specs.Tests.{choose, and2}
-use Rattle.laws.specs.SoundFacts.{NodeFacts, BucketFacts, is-idle, SoundFacts}
+use Rattle.laws.specs.SoundFacts.{NodeFacts, BucketFacts, is-idle, ConfigFacts, SoundFacts}
 use Rattle.laws.specs.Sizes.{unused, used}
-use Rattle.laws.specs.Soundness.{facts-sound}
+use Rattle.laws.specs.Soundness.{within-facts, facts-sound}
 use Rattle.laws.specs.TaskKeeps.{no-link}
 
 -- ---- opening
@@ -26,51 +27,51 @@ replicated zero i a = refl
 replicated (suc n) zero a = refl
 replicated (suc n) (suc i) a = replicated n i a
 
-module _ (t h b : ℕ) (t-low : 1 ≤ t) (t-high : t ≤ 8) (h-low : 1 ≤ h) (h-high : h ≤ 64) (b-low : 1 ≤ b) (b-high : b ≤ 1024) where
-  word-0 : (p : ℕ) → 3 ≤ p → getD (fresh-machine t h b .nodes) p 0 ≡ 0
+module _ (g : Config) (h b : ℕ) (config-ok : ConfigFacts g) (h-low : 1 ≤ h) (h-high : h ≤ 64) (b-low : 1 ≤ b) (b-high : b ≤ 1024) where
+  word-0 : (p : ℕ) → 3 ≤ p → getD (fresh-machine g h b .nodes) p 0 ≡ 0
   unfolding fresh-machine
   word-0 p q = let e : p ≡ suc (suc (suc (p - 3))) = omega arith in rw e (replicated (34 * h - 3) (p - 3) 0)
 
-  bword-0 : (p : ℕ) → 1 ≤ p → getD (fresh-machine t h b .buckets) p 0 ≡ 0
+  bword-0 : (p : ℕ) → 1 ≤ p → getD (fresh-machine g h b .buckets) p 0 ≡ 0
   unfolding fresh-machine
   bword-0 p q = let e : p ≡ suc (p - 1) = omega arith in rw e (replicated (66 * b - 1) (p - 1) 0)
 
-  first-node : NodeFacts (fresh-machine t h b) 0
+  first-node : NodeFacts (fresh-machine g h b) 0
   unfolding size pred place fresh-machine state-of listed-size member
   first-node = record {
     size-ok = used refl;
-    pred-ok = no-link (fresh-machine t h b);
+    pred-ok = no-link (fresh-machine g h b);
     place-ok = λ i p. elim (ℕ-discrete i 0) [ yes q ↦ rw q b-low | no d ↦ rw (word-0 (2 + i) (omega arith)) (omega arith) ];
     past = λ i p q. word-0 (2 + i) (omega arith);
   }
 
-  fresh-node : (k : ℕ) → NodeFacts (fresh-machine t h b) k
+  fresh-node : (k : ℕ) → NodeFacts (fresh-machine g h b) k
   unfolding size pred place
   fresh-node k = go (ℕ-discrete k 0)
     where
-      go : Dec (k ≡ 0) → NodeFacts (fresh-machine t h b) k
+      go : Dec (k ≡ 0) → NodeFacts (fresh-machine g h b) k
       go (yes q) = rw q first-node
       go (no d) = record {
         size-ok = unused (word-0 (34 * k) (omega arith));
-        pred-ok = rw (word-0 (34 * k + 1) (omega arith)) (no-link (fresh-machine t h b));
+        pred-ok = rw (word-0 (34 * k + 1) (omega arith)) (no-link (fresh-machine g h b));
         place-ok = λ i p. rw (word-0 (34 * k + 2 + i) (omega arith)) (omega arith);
         past = λ i p q. word-0 (34 * k + 2 + i) (omega arith);
       }
 
-  no-count : (k : ℕ) → count (fresh-machine t h b .buckets) k ≡ 0
+  no-count : (k : ℕ) → count (fresh-machine g h b .buckets) k ≡ 0
   unfolding count
   no-count k = bword-0 (66 * k + 1) (omega arith)
 
-  no-tags : (k : ℕ) → tags (fresh-machine t h b .buckets) k ≡ []
+  no-tags : (k : ℕ) → tags (fresh-machine g h b .buckets) k ≡ []
   unfolding tags
   no-tags k = rw (no-count k)
 
-  fresh-flag : (k : ℕ) → changeable (fresh-machine t h b .buckets) k ≤ 1
+  fresh-flag : (k : ℕ) → changeable (fresh-machine g h b .buckets) k ≤ 1
   unfolding changeable fresh-machine
   fresh-flag zero = omega arith
   fresh-flag (suc k) = rw (bword-0 (66 * suc k) (omega arith)) (omega arith)
 
-  fresh-bucket : (k : ℕ) → BucketFacts (fresh-machine t h b) k
+  fresh-bucket : (k : ℕ) → BucketFacts (fresh-machine g h b) k
   unfolding ascending
   fresh-bucket k = record {
     flag = fresh-flag k;
@@ -80,15 +81,14 @@ module _ (t h b : ℕ) (t-low : 1 ≤ t) (t-high : t ≤ 8) (h-low : 1 ≤ h) (h
     after = λ j p q. bword-0 (66 * k + 2 + j) (omega arith);
   }
 
-  fresh-task-sound : (k : ℕ) → task-of (fresh-machine t h b) k ≡ idle
+  fresh-task-sound : (k : ℕ) → task-of (fresh-machine g h b) k ≡ idle
   unfolding task-of fresh-machine state-of
   fresh-task-sound k = replicated 8 k idle
 
-  pub fresh-sound : SoundFacts (fresh-machine t h b)
+  pub fresh-sound : SoundFacts (fresh-machine g h b)
   unfolding fresh-machine state-of size
   fresh-sound = record {
-    T-low = t-low;
-    T-high = t-high;
+    config = config-ok;
     H-low = h-low;
     H-high = h-high;
     B-low = b-low;
@@ -105,46 +105,43 @@ module _ (t h b : ℕ) (t-low : 1 ≤ t) (t-high : t ≤ 8) (h-low : 1 ≤ h) (h
   }
 
 -- an opening, by its outcome
-pub data OpeningOutcome (t : ℕ) (ns bs : List ℕ) : Opened → Type 0 where
-  refused : (n : ℕ) → 1 ≤ n → OpeningOutcome t ns bs (not-opened n ns bs)
-  accepted : 1 ≤ t → t ≤ 8 → length ns % 34 ≡ 0 → 1 ≤ length ns / 34 → length ns / 34 ≤ 64 → length bs % 66 ≡ 0 → 1 ≤ length bs / 66 → length bs / 66 ≤ 1024
-      → OpeningOutcome t ns bs (record { refusal = 0; machine = fresh-machine t (length ns / 34) (length bs / 66) })
-
-within-means : (lo hi n : ℕ) → within lo hi n ≡ true → (lo ≤ n) × (n ≤ hi)
-within-means lo hi n e = let p = and2 (leb lo n) (leb n hi) e in (leb-true lo n (p .0), leb-true n hi (p .1))
+pub data OpeningOutcome (g : Config) (ns bs : List ℕ) : Opened → Type 0 where
+  refused : (n : ℕ) → 1 ≤ n → OpeningOutcome g ns bs (not-opened n ns bs)
+  accepted : ConfigFacts g → length ns % 34 ≡ 0 → 1 ≤ length ns / 34 → length ns / 34 ≤ 64 → length bs % 66 ≡ 0 → 1 ≤ length bs / 66 → length bs / 66 ≤ 1024
+      → OpeningOutcome g ns bs (record { refusal = 0; machine = fresh-machine g (length ns / 34) (length bs / 66) })
 
 fits-means : (width most words : ℕ) → pool-fits width most words ≡ true → (words % width ≡ 0) × (1 ≤ words / width) × (words / width ≤ most)
 unfolding pool-fits
 fits-means width most words e =
     let p = and2 (eqb (words % width) 0) (within 1 most (words / width)) e in
-    let q = within-means 1 most (words / width) (p .1) in
+    let q = within-facts 1 most (words / width) (p .1) in
     (eqb-true (words % width) 0 (p .0), q .0, q .1)
 
-pub opening-outcome : (t : ℕ) (ns bs : List ℕ) → OpeningOutcome t ns bs (opening t ns bs)
+pub opening-outcome : (g : Config) (ns bs : List ℕ) → OpeningOutcome g ns bs (opening g ns bs)
 unfolding opening
-opening-outcome t ns bs =
-    choose (OpeningOutcome t ns bs) (not (within 1 8 t)) _ _ (λ q. refused 1 (omega arith))
-    (λ a. choose (OpeningOutcome t ns bs) (not (pool-fits 34 64 (length ns))) _ _ (λ q. refused 2 (omega arith))
-    (λ c. choose (OpeningOutcome t ns bs) (not (pool-fits 66 1024 (length bs))) _ _ (λ q. refused 3 (omega arith))
+opening-outcome g ns bs =
+    choose (OpeningOutcome g ns bs) (not (within 1 8 (g .tasks))) _ _ (λ q. refused 1 (omega arith))
+    (λ a. choose (OpeningOutcome g ns bs) (not (pool-fits 34 64 (length ns))) _ _ (λ q. refused 2 (omega arith))
+    (λ c. choose (OpeningOutcome g ns bs) (not (pool-fits 66 1024 (length bs))) _ _ (λ q. refused 3 (omega arith))
     (λ d.
-    let x = within-means 1 8 t (not-false (within 1 8 t) a) in
+    let x = within-facts 1 8 (g .tasks) (not-false _ a) in
     let v = fits-means 34 64 (length ns) (not-false (pool-fits 34 64 (length ns)) c) in
     let w = fits-means 66 1024 (length bs) (not-false (pool-fits 66 1024 (length bs)) d) in
-    accepted (x .0) (x .1) (v .0) (v .1) (v .2) (w .0) (w .1) (w .2))))
+    accepted (record { T-low = x .0; T-high = x .1 }) (v .0) (v .1) (v .2) (w .0) (w .1) (w .2))))
 
-pub opening-sound : (t : ℕ) (ns bs : List ℕ) → opening t ns bs .refusal ≡ 0 → sound (opening t ns bs .machine) ≡ true
+pub opening-sound : (g : Config) (ns bs : List ℕ) → opening g ns bs .refusal ≡ 0 → sound (opening g ns bs .machine) ≡ true
 unfolding not-opened
-opening-sound t ns bs e = go (opening-outcome t ns bs) e
+opening-sound g ns bs e = go (opening-outcome g ns bs) e
   where
-    go : {o : Opened} → OpeningOutcome t ns bs o → o .refusal ≡ 0 → sound (o .machine) ≡ true
+    go : {o : Opened} → OpeningOutcome g ns bs o → o .refusal ≡ 0 → sound (o .machine) ≡ true
     go (refused n h) q = let z : n ≡ 0 = q in absurd (omega arith)
-    go (accepted a c h i j k l m) q = facts-sound _ (fresh-sound t (length ns / 34) (length bs / 66) a c i j l m)
+    go (accepted a h i j k l m) q = facts-sound _ (fresh-sound g (length ns / 34) (length bs / 66) a i j l m)
 
 -- an accepted opening leaves the fresh machine, whatever stood in the two slices
-pub opened-machine : (t : ℕ) (ns bs : List ℕ) → opening t ns bs .refusal ≡ 0 → opening t ns bs .machine ≡ fresh-machine t (length ns / 34) (length bs / 66)
+pub opened-machine : (g : Config) (ns bs : List ℕ) → opening g ns bs .refusal ≡ 0 → opening g ns bs .machine ≡ fresh-machine g (length ns / 34) (length bs / 66)
 unfolding not-opened
-opened-machine t ns bs e = go (opening-outcome t ns bs) e
+opened-machine g ns bs e = go (opening-outcome g ns bs) e
   where
-    go : {o : Opened} → OpeningOutcome t ns bs o → o .refusal ≡ 0 → o .machine ≡ fresh-machine t (length ns / 34) (length bs / 66)
+    go : {o : Opened} → OpeningOutcome g ns bs o → o .refusal ≡ 0 → o .machine ≡ fresh-machine g (length ns / 34) (length bs / 66)
     go (refused n h) q = let z : n ≡ 0 = q in absurd (omega arith)
-    go (accepted a c h i j k l m) q = refl
+    go (accepted a h i j k l m) q = refl

@@ -5,10 +5,11 @@ use mathlib.Core.Path.{_≡_}
 use mathlib.Core.Bool.{true}
 use lib.ListN.{length, getD}
 use Rattle.spec.specs.declared.Task.{Task}
+use Rattle.spec.specs.declared.Config.{Config}
 use Rattle.spec.specs.Lists.{member, ascending}
 use Rattle.spec.specs.Machine.{Machine, idle, task-of}
 use Rattle.spec.specs.Words.{number, size, pred, place, changeable, count, tags}
-use Rattle.spec.specs.Sound.{node-count, bucket-count, lines-of, resizes}
+use Rattle.spec.specs.Sound.{task-count, node-count, bucket-count, lines-of, resizes}
 use Rattle.laws.specs.Sizes.{Size}
 
 -- none, or a node of the pool that has a size
@@ -30,7 +31,7 @@ pub record BucketFacts (y : Machine) (k : ℕ) : Type 0 where
   pub after : (j : ℕ) → count (y .buckets) k ≤ j → j < 64 → getD (y .buckets) (66 * k + 2 + j) 0 ≡ 0
 
 pub record RunFacts (y : Machine) (k : ℕ) (c : Task) : Type 0 where
-  pub below-T : k < y .state .tasks
+  pub below-T : k < task-count y
   pub line : member (c .line) (lines-of (c .call)) ≡ true
   pub i : c .i ≤ 32
   pub tag : resizes (c .call) ≡ true → c .tag ≡ 0
@@ -46,9 +47,13 @@ pub data TaskFacts (y : Machine) (k : ℕ) (c : Task) : Type 0 where
   runs : c .running ≡ true → RunFacts y k c → TaskFacts y k c
   is-idle : c ≡ idle → TaskFacts y k c
 
+-- what the state keeps of its opening
+pub record ConfigFacts (g : Config) : Type 0 where
+  pub T-low : 1 ≤ g .tasks
+  pub T-high : g .tasks ≤ 8
+
 pub record SoundFacts (y : Machine) : Type 0 where
-  pub T-low : 1 ≤ y .state .tasks
-  pub T-high : y .state .tasks ≤ 8
+  pub config : ConfigFacts (y .state .config)
   pub H-low : 1 ≤ node-count y
   pub H-high : node-count y ≤ 64
   pub B-low : 1 ≤ bucket-count y

@@ -26,7 +26,7 @@ abbrev buckets-of : Task → List ℕ
 buckets-of c = c .b ∷ c .m ∷ c .n ∷ c .«new_bucket» ∷ []
 
 module _ (y : Machine) (k : ℕ) (c : Task) where
-  run-tests : sound-running y k c ≡ true → (ltb k (y .state .tasks) ≡ true) × (member (c .line) (lines-of (c .call)) ≡ true) × (leb (c .i) 32 ≡ true)
+  run-tests : sound-running y k c ≡ true → (ltb k (y .state .config .tasks) ≡ true) × (member (c .line) (lines-of (c .call)) ≡ true) × (leb (c .i) 32 ≡ true)
       × ((not (resizes (c .call)) || eqb (c .tag) 0) ≡ true) × (every (node-link y) (nodes-of c) ≡ true) × (every (bucket-link y) (buckets-of c) ≡ true)
   unfolding sound-running
   run-tests e = and6 _ _ _ _ _ _ e
@@ -41,7 +41,7 @@ module _ (y : Machine) (k : ℕ) (c : Task) where
       let b1 = every-tail (bucket-link y) _ _ b0 in
       let b2 = every-tail (bucket-link y) _ _ b1 in
       record {
-        below-T = ltb-true k (y .state .tasks) (p .0);
+        below-T = ltb-true k (y .state .config .tasks) (p .0);
         line = p .1;
         i = leb-true (c .i) 32 (p .2);
         tag = λ q. elim (or-e (not (resizes (c .call))) (eqb (c .tag) 0) (p .3)) [ inl n ↦ absurd (tf q (not-true (resizes (c .call)) n)) | inr h ↦ eqb-true (c .tag) 0 h ];
@@ -56,7 +56,7 @@ module _ (y : Machine) (k : ℕ) (c : Task) where
 
   facts-run : RunFacts y k c → sound-running y k c ≡ true
   unfolding sound-running bucket-link
-  facts-run f = all6 _ _ _ _ _ _ (lt-ltb k (y .state .tasks) (f .below-T)) (f .line) (le-leb (c .i) 32 (f .i)) tag-test
+  facts-run f = all6 _ _ _ _ _ _ (lt-ltb k (y .state .config .tasks) (f .below-T)) (f .line) (le-leb (c .i) 32 (f .i)) tag-test
       (every-cons _ _ _ (link-noded y (c .t) (f .t)) (every-cons _ _ _ (link-noded y (c .s) (f .s)) (every-cons _ _ _ (link-noded y (c .«new_node») (f .new-node)) (every-nil _))))
       (every-cons _ _ _ (le-leb (c .b) (bucket-count y) (f .b)) (every-cons _ _ _ (le-leb (c .m) (bucket-count y) (f .m))
       (every-cons _ _ _ (le-leb (c .n) (bucket-count y) (f .n)) (every-cons _ _ _ (le-leb (c .«new_bucket») (bucket-count y) (f .new-bucket)) (every-nil _)))))

@@ -40,8 +40,7 @@ module _ (y : Machine) (k : ℕ) (c : Task) where
   pub task-keeps : SoundFacts y → TaskFacts y k c → SoundFacts (set-task k c y)
   unfolding set-task with-task with-state state-task
   task-keeps f g = record {
-    T-low = f .T-low;
-    T-high = f .T-high;
+    config = f .config;
     H-low = f .H-low;
     H-high = f .H-high;
     B-low = f .B-low;

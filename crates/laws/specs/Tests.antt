@@ -1,11 +1,13 @@
 -- Tests and their facts: a boolean seen as true or false, joined tests taken apart and put together, a decided choice seen as
 -- hit or miss. Assumes nothing.
-use Prim.Native.Nat.{ℕ}
+use Prim.Native.Nat.{ℕ, zero, suc}
+use lib.ListN.{getD}
 use mathlib.Core.Path.{_≡_, refl, sym}
 use mathlib.Core.Logic.{_⊎_, inl, inr}
+use mathlib.Core.List.{List, [], _∷_}
 use mathlib.Core.Bool.{Bool, true, false, _&&_, _||_}
 use native.Mathlib.Omega.{arith}
-use Rattle.spec.specs.Lists.{if_then_else_}
+use Rattle.spec.specs.Lists.{if_then_else_, all-true}
 
 -- what u is, that is v where P holds and w elsewhere
 pub data At {A : Type 0} (P : Type 0) (v w u : A) : Type 0 where
@@ -82,23 +84,23 @@ and6 a b c d e f p = let q = and5 a b c d e (and-left (a && b && c && d && e) f 
 pub all6 : (a b c d e f : Bool) → a ≡ true → b ≡ true → c ≡ true → d ≡ true → e ≡ true → f ≡ true → (a && b && c && d && e && f) ≡ true
 all6 a b c d e f p0 p1 p2 p3 p4 p5 = rw (p0, p1, p2, p3, p4, p5)
 
-pub and7 : (a b c d e f g : Bool) → (a && b && c && d && e && f && g) ≡ true → (a ≡ true) × (b ≡ true) × (c ≡ true) × (d ≡ true) × (e ≡ true) × (f ≡ true) × (g ≡ true)
-and7 a b c d e f g p = let q = and6 a b c d e f (and-left (a && b && c && d && e && f) g p) in (q .0, q .1, q .2, q .3, q .4, q .5, and-right (a && b && c && d && e && f) g p)
+-- ---- a list of tests that all pass: the i-th of them passes; and from the fact of each back to all
 
-pub and8 : (a b c d e f g h : Bool) → (a && b && c && d && e && f && g && h) ≡ true
-    → (a ≡ true) × (b ≡ true) × (c ≡ true) × (d ≡ true) × (e ≡ true) × (f ≡ true) × (g ≡ true) × (h ≡ true)
-and8 a b c d e f g h p =
-    let q = and7 a b c d e f g (and-left (a && b && c && d && e && f && g) h p) in (q .0, q .1, q .2, q .3, q .4, q .5, q .6, and-right (a && b && c && d && e && f && g) h p)
+pub passes : (bs : List Bool) → all-true bs ≡ true → (i : ℕ) → getD bs i true ≡ true
+unfolding all-true
+passes [] e i = refl
+passes (b ∷ bs) e zero = and-left b (all-true bs) e
+passes (b ∷ bs) e (suc i) = passes bs (and-right b (all-true bs) e) i
 
-pub and9 : (a b c d e f g h i : Bool) → (a && b && c && d && e && f && g && h && i) ≡ true
-    → (a ≡ true) × (b ≡ true) × (c ≡ true) × (d ≡ true) × (e ≡ true) × (f ≡ true) × (g ≡ true) × (h ≡ true) × (i ≡ true)
-and9 a b c d e f g h i p =
-    let q = and8 a b c d e f g h (and-left (a && b && c && d && e && f && g && h) i p) in
-    (q .0, q .1, q .2, q .3, q .4, q .5, q .6, q .7, and-right (a && b && c && d && e && f && g && h) i p)
+infixr 4 _also_
+pub data Passed : List Bool → Type 0 where
+  no-more : Passed []
+  _also_ : {b : Bool} {bs : List Bool} → b ≡ true → Passed bs → Passed (b ∷ bs)
 
-pub all9 : (a b c d e f g h i : Bool) → a ≡ true → b ≡ true → c ≡ true → d ≡ true → e ≡ true → f ≡ true → g ≡ true → h ≡ true → i ≡ true
-    → (a && b && c && d && e && f && g && h && i) ≡ true
-all9 a b c d e f g h i p0 p1 p2 p3 p4 p5 p6 p7 p8 = rw (p0, p1, p2, p3, p4, p5, p6, p7, p8)
+pub all-pass : {bs : List Bool} → Passed bs → all-true bs ≡ true
+unfolding all-true
+all-pass no-more = refl
+all-pass (_also_ {b} {bs} p q) = and-i b (all-true bs) p (all-pass q)
 
 pub none2 : (a b : Bool) → (a || b) ≡ false → (a ≡ false) × (b ≡ false)
 none2 a b p = or-none a b p
@@ -108,24 +110,6 @@ nor2 a b p0 p1 = rw (p0, p1)
 
 pub none3 : (a b c : Bool) → (a || b || c) ≡ false → (a ≡ false) × (b ≡ false) × (c ≡ false)
 none3 a b c p = let r = or-none (a || b) c p in let q = none2 a b (r .0) in (q .0, q .1, r .1)
-
-pub nor3 : (a b c : Bool) → a ≡ false → b ≡ false → c ≡ false → (a || b || c) ≡ false
-nor3 a b c p0 p1 p2 = rw (p0, p1, p2)
-
-pub none4 : (a b c d : Bool) → (a || b || c || d) ≡ false → (a ≡ false) × (b ≡ false) × (c ≡ false) × (d ≡ false)
-none4 a b c d p = let r = or-none (a || b || c) d p in let q = none3 a b c (r .0) in (q .0, q .1, q .2, r .1)
-
-pub none5 : (a b c d e : Bool) → (a || b || c || d || e) ≡ false → (a ≡ false) × (b ≡ false) × (c ≡ false) × (d ≡ false) × (e ≡ false)
-none5 a b c d e p = let r = or-none (a || b || c || d) e p in let q = none4 a b c d (r .0) in (q .0, q .1, q .2, q .3, r .1)
-
-pub none6 : (a b c d e f : Bool) → (a || b || c || d || e || f) ≡ false → (a ≡ false) × (b ≡ false) × (c ≡ false) × (d ≡ false) × (e ≡ false) × (f ≡ false)
-none6 a b c d e f p = let r = or-none (a || b || c || d || e) f p in let q = none5 a b c d e (r .0) in (q .0, q .1, q .2, q .3, q .4, r .1)
-
-pub none7 : (a b c d e f g : Bool) → (a || b || c || d || e || f || g) ≡ false → (a ≡ false) × (b ≡ false) × (c ≡ false) × (d ≡ false) × (e ≡ false) × (f ≡ false) × (g ≡ false)
-none7 a b c d e f g p = let r = or-none (a || b || c || d || e || f) g p in let q = none6 a b c d e f (r .0) in (q .0, q .1, q .2, q .3, q .4, q .5, r .1)
-
-pub nor7 : (a b c d e f g : Bool) → a ≡ false → b ≡ false → c ≡ false → d ≡ false → e ≡ false → f ≡ false → g ≡ false → (a || b || c || d || e || f || g) ≡ false
-nor7 a b c d e f g p0 p1 p2 p3 p4 p5 p6 = rw (p0, p1, p2, p3, p4, p5, p6)
 
 -- a test that never passes where another does
 pub and-never : (a b : Bool) → (a ≡ true → b ≡ false) → (a && b) ≡ false

@@ -11,7 +11,7 @@ use Rattle.spec.specs.Sound.{node-count, bucket-count, sound, within}
 use Rattle.laws.specs.Tests.{At as Seen, hit, miss, at-hit, at-miss}
 use Rattle.laws.specs.SoundFacts.{NodeLink, NodeFacts, BucketFacts, SoundFacts}
 use Rattle.laws.specs.Sizes.{used, ListedSize, is-listed, listed-low, size-most}
-use Rattle.laws.specs.AfterWrites.{SameState, AfterHead, AfterPlace, AfterPred, AfterNode, AfterFreeze, AfterBucket, after-head, after-place, after-pred, after-node, after-freeze, after-put, after-put-state, after-bucket, after-bucket-last}
+use Rattle.laws.specs.AfterWrites.{SameState, same-but, AfterHead, AfterPlace, AfterPred, AfterNode, AfterFreeze, AfterBucket, after-head, after-place, after-pred, after-node, after-freeze, after-put, after-put-state, after-bucket, after-bucket-last}
 use Rattle.laws.specs.Ascending.{Rising, rising-ascending}
 use Rattle.laws.specs.KeptFacts.{node-kept, bucket-kept, rebuilt, link-kept}
 
@@ -187,7 +187,7 @@ module _ (y : Machine) (f : SoundFacts y) where
   pub write-keeps : (w : Write) → WriteSound y w → Keeps y (apply w y)
   unfolding apply
   write-keeps nothing sound-nothing = record {
-    same = record { T≡ = refl; H≡ = refl; B≡ = refl; task≡ = refl; nodes-length≡ = refl; buckets-length≡ = refl };
+    same = same-but _ _ refl refl refl;
     sized = λ j d. d;
     sound = f;
   }

@@ -1,12 +1,12 @@
--- The task records after an accepted step: the stepping task's own steps count one more, the others stay. And that the step of every
+-- The task records after an accepted step: the stepping task's is at the line said, or idle; the others stay. And that the step of every
 -- running task is accepted or finds no record. Assumes nothing.
 use mathlib.Core.Path.{_≡_, refl, ap, _∙_}
-use mathlib.Core.Bool.{true}
+use mathlib.Core.Bool.{true, false}
 use mathlib.Core.List.{List}
 use Prim.Native.Nat.{ℕ, _+_, min, _<_}
-use native.Mathlib.Omega.{arith}
 use lib.ListN.{length, getD}
 use Rattle.spec.specs.declared.Task.{Task}
+use Rattle.spec.specs.declared.Output.{Output}
 use Rattle.spec.specs.declared.Output.the-variants as Outs
 use Rattle.spec.specs.Machine.{Machine, idle, with-own, set-task, task-of}
 use Rattle.spec.specs.Words.{apply}
@@ -32,6 +32,13 @@ use Rattle.linear.specs.Matches.{Matches}
 use Rattle.linear.specs.Taken.{Taken}
 
 -- ---- the tasks' records after an accepted step
+
+-- the stepping task's, by its own steps before and the output: at the line that is said, with one own step more, or idle
+abbrev pub OwnAfter : ℕ → Task → Output → Type 0
+OwnAfter own d (Outs.At l) = (d .line ≡ l) × (d .own ≡ min (own + 1) 65535)
+OwnAfter own d (Outs.End a n) = (d .running ≡ false) × (n ≡ min (own + 1) 65535)
+OwnAfter own d (Outs.Refuse n) = ⊥
+
 module _ (y : Machine) (p own : ℕ) (e : Effect) where
   pub accept-other : (q : ℕ) → ¬ (q ≡ p) → task-of (accept y p own e .machine) q ≡ task-of y q
   unfolding accept finish task-of
@@ -44,15 +51,16 @@ module _ (y : Machine) (p own : ℕ) (e : Effect) where
       go (Next.on c) = other (with-own (min (own + 1) 65535) c)
       go (Next.ends a) = other idle
 
-  pub accept-own : p < length (y .state .task) → (l : ℕ) → accept y p own e .out ≡ Outs.At l → task-of (accept y p own e .machine) p .own ≡ min (own + 1) 65535
-  unfolding accept finish with-own
-  accept-own lt l q = go (e .next) q
+  pub accept-own : p < length (y .state .task) → OwnAfter own (task-of (accept y p own e .machine) p) (accept y p own e .out)
+  unfolding accept finish with-own idle
+  accept-own lt = go (e .next)
     where
-      go : (n : Next) → finish (apply (e .write) y) p (min (own + 1) 65535) n .out ≡ Outs.At l
-          → task-of (finish (apply (e .write) y) p (min (own + 1) 65535) n .machine) p .own ≡ min (own + 1) 65535
-      go (Next.on c) q =
-          ap (λ (d : Task). d .own) (at-hit (refl, rw (apply-task (e .write) y) lt) (after-task (apply (e .write) y) p (with-own (min (own + 1) 65535) c) .task-at p))
-      go (Next.ends a) q = let z : _≡_ {A = ℕ} 0 1 = cc in absurd (omega arith)
+      is : (d : Task) → task-of (set-task p d (apply (e .write) y)) p ≡ d
+      is d = at-hit (refl, rw (apply-task (e .write) y) lt) (after-task (apply (e .write) y) p d .task-at p)
+
+      go : (n : Next) → let m = finish (apply (e .write) y) p (min (own + 1) 65535) n in OwnAfter own (task-of (m .machine) p) (m .out)
+      go (Next.on c) = (ap (λ (d : Task). d .line) (is _), ap (λ (d : Task). d .own) (is _))
+      go (Next.ends a) = (ap (λ (d : Task). d .running) (is _), refl)
 
 -- ---- what a running task does
 module _ {y : Machine} {w : Configuration} {L : List Ended} (sim : Simulates y

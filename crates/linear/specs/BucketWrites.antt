@@ -30,7 +30,7 @@ module _ {y z : Machine} {h : Heap} {K : ℕ → Type 0} {R : Records} (f : Soun
     pred-known = rep .pred-known;
     known-bound = rep .known-bound;
     node-in-pool = λ x k. rw (a .same .H≡) (rep .node-in-pool x k);
-    slot≡ = rep .slot≡;
+    slot≡ = λ k n. rw (a .same .config≡) (rep .slot≡ k n);
     size≡ = rw (a .nodes≡) (rep .size≡);
     pred-some = rw (a .nodes≡) (rep .pred-some);
     pred-none = rw (a .nodes≡) (rep .pred-none);
@@ -52,7 +52,7 @@ module _ {y z : Machine} {h : Heap} {K : ℕ → Type 0} {R : Records} (f : Soun
     pred-known = rep .pred-known;
     known-bound = rep .known-bound;
     node-in-pool = λ x k. rw (a .same .H≡) (rep .node-in-pool x k);
-    slot≡ = rep .slot≡;
+    slot≡ = λ k n. rw (a .same .config≡) (rep .slot≡ k n);
     size≡ = rw (a .nodes≡) (rep .size≡);
     pred-some = rw (a .nodes≡) (rep .pred-some);
     pred-none = rw (a .nodes≡) (rep .pred-none);
@@ -90,7 +90,7 @@ module _ {y z : Machine} {h : Heap} {K : ℕ → Type 0} {R : Records} (f : Soun
     pred-known = rep .pred-known;
     known-bound = rep .known-bound;
     node-in-pool = λ x k. rw (a .same .H≡) (rep .node-in-pool x k);
-    slot≡ = rep .slot≡;
+    slot≡ = λ k n. rw (a .same .config≡) (rep .slot≡ k n);
     size≡ = rw (a .nodes≡) (rep .size≡);
     pred-some = rw (a .nodes≡) (rep .pred-some);
     pred-none = rw (a .nodes≡) (rep .pred-none);
@@ -142,7 +142,7 @@ module _ {y z : Machine} {h : Heap} {K : ℕ → Type 0} {R : Records} (f : Soun
     pred-known = rep .pred-known;
     known-bound = rep .known-bound;
     node-in-pool = λ x k. rw (a .same .H≡) (rep .node-in-pool x k);
-    slot≡ = rep .slot≡;
+    slot≡ = λ k n. rw (a .same .config≡) (rep .slot≡ k n);
     size≡ = λ x k. a .size≡ (R .node x) ∙ rep .size≡ x k;
     pred-some = λ l s q. a .pred≡ (R .node (h .head)) ∙ rep .pred-some l s q;
     pred-none = λ x k n. a .pred≡ (R .node x) ∙ rep .pred-none x k n;

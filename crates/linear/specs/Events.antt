@@ -1,8 +1,8 @@
 -- One event of a schedule, accepted or refused, is one transition of the model, and is not refused with 8. Assumes nothing.
-use mathlib.Core.Path.{_≡_, refl, sym, ap, _∙_, subst}
+use mathlib.Core.Path.{_≡_, refl, sym, ap, _∙_}
 use mathlib.Core.Bool.{true, false}
 use mathlib.Core.List.{List, _∷_}
-use Prim.Native.Nat.{ℕ, suc, _+_, min, _<_}
+use Prim.Native.Nat.{ℕ, suc, _<_}
 use native.Mathlib.Decide.{ℕ-discrete}
 use native.Mathlib.Omega.{arith}
 use borrow.Author.Tests.{eq-eqb, ne-eqb}
@@ -14,14 +14,12 @@ use Rattle.spec.specs.declared.Output.the-variants as Outs
 use Rattle.spec.specs.Lists.{if_then_else_}
 use Rattle.spec.specs.Machine.{Machine, idle, set-task, task-of}
 use Rattle.spec.specs.Sound.{sound}
-use Rattle.spec.specs.Lines.{effect}
 use Rattle.spec.specs.Entries.{Reply, refuse, started, start, step}
 use Rattle.spec.specs.Schedule.{Event, starts, steps, event}
 use Rattle.laws.specs.SoundFacts.{SoundFacts}
 use Rattle.laws.specs.Soundness.{sound-facts}
-use Rattle.laws.specs.AfterWrites.{after-task}
 use Rattle.laws.specs.EntriesKeep.{start-keeps, step-keeps, StartOutcome, StepOutcome, start-no-task, step-no-task, start-running, step-idle, start-accepted, step-unsound, start-outcome, step-all-held, step-accepted, step-outcome}
-use Rattle.laws.specs.Tests.{tf, at-miss, at-hit}
+use Rattle.laws.specs.Tests.{tf}
 use Rattle.model.specs.Functions.{upd, upd-same, upd-other}
 use Rattle.spec.specs.History.{Ended, Started, set-call, note, tell}
 use Rattle.model.specs.Positions.{Position, no-call}
@@ -29,11 +27,10 @@ use Rattle.model.specs.Runs.{refused, Configuration, Reachable, after-refusal, 
 use Rattle.model.specs.Linearization.{Invariant, invariant}
 use Rattle.linear.specs.Simulates.{Simulates}
 use Rattle.linear.specs.StepSimulated.{Outcome, went-on, call-ended, resize-ended, StepSimulated, simulate, on-still}
-use Rattle.linear.specs.OwnSteps.{ThreeOrFive}
 use Rattle.linear.specs.Matches.{idle-no-call}
-use Rattle.linear.specs.StartedAs.{StartedAs, StepsDone, started-step, steps-step, started-end, is-set-call, steps-end, started-resize, contains-is}
-use Rattle.linear.specs.Accepted.{accepts, accept-other, accept-own}
-use Rattle.linear.specs.FirstPositions.{first-of, first-steps, first-started, is-first, first-names, first-match, first-takes}
+use Rattle.linear.specs.StartedAs.{StartedAs, started-step, started-end, is-set-call, started-resize}
+use Rattle.linear.specs.Accepted.{accepts}
+use Rattle.linear.specs.FirstPositions.{first-of, first-started, is-first, first-names, first-match, first-takes}
 
 -- ---- before event n: the last starts, the ended calls, and the machine
 pub record Before (n : ℕ) (last : ℕ → Started) (H : List Ended) (y : Machine) : Type 0 where
@@ -42,17 +39,16 @@ pub record Before (n : ℕ) (last : ℕ → Started) (H : List Ended) (y : Machi
   pub clock : configuration .clock ≡ n
   pub sim : Simulates y (configuration .heap) (configuration .position)
   pub started-as : (q : ℕ) → StartedAs (last q) (configuration .position q) (configuration .start q)
-  pub steps-done : (q : ℕ) → StepsDone (configuration .position q) (task-of y q .own)
   pub ended : H ≡ configuration .ended
 
 -- ---- one event
 
 abbrev pub After : ℕ → (ℕ → Started) → List Ended → Event → Reply → Type 0
-After n last H e m = Before (suc n) (note n last e (m .out)) (tell n last H e (m .out)) (m .machine) × (¬ (m .out ≡ Outs.Refuse 8)) × ThreeOrFive last e (m .out)
+After n last H e m = Before (suc n) (note n last e (m .out)) (tell n last H e (m .out)) (m .machine) × (¬ (m .out ≡ Outs.Refuse 8))
 
 module _ (n : ℕ) (last : ℕ → Started) (H : List Ended) (y : Machine) (s : Before n last H y) where
-  tasks-high : SoundFacts y → (p : ℕ) → p < y .state .tasks → p < 8
-  tasks-high f p a = let b = f .T-high in omega arith
+  tasks-high : SoundFacts y → (p : ℕ) → p < y .state .config .tasks → p < 8
+  tasks-high f p a = let b = f .config .T-high in omega arith
 
   -- refusals
   refused-start : (r p : ℕ) (call : Call) (tag : ℕ) → ¬ (r ≡ 8) → After n last H (starts p call tag) (refuse r y)
@@ -64,11 +60,9 @@ module _ (n : ℕ) (last : ℕ → Started) (H : List Ended) (y : Machine) (s : 
       clock = ap suc (s .clock);
       sim = s .sim;
       started-as = s .started-as;
-      steps-done = s .steps-done;
       ended = s .ended;
     },
     λ e. d (cc),
-    tt,
   )
 
   refused-step : (r p : ℕ) → ¬ (r ≡ 8) → After n last H (steps p) (refuse r y)
@@ -80,14 +74,12 @@ module _ (n : ℕ) (last : ℕ → Started) (H : List Ended) (y : Machine) (s : 
       clock = ap suc (s .clock);
       sim = s .sim;
       started-as = s .started-as;
-      steps-done = s .steps-done;
       ended = s .ended;
     },
     λ e. d (cc),
-    tt,
   )
 
-  started-next : (p : ℕ) (call : Call) (tag : ℕ) → p < y .state .tasks → task-of y p .running ≡ false → sound (set-task p (started call tag) y) ≡ true
+  started-next : (p : ℕ) (call : Call) (tag : ℕ) → p < y .state .config .tasks → task-of y p .running ≡ false → sound (set-task p (started call tag) y) ≡ true
       → After n last H (starts p call tag) (record { out = Outs.At (started call tag .line); machine = set-task p (started call tag) y })
   unfolding note tell
   started-next p call tag lt idle so =
@@ -102,24 +94,11 @@ module _ (n : ℕ) (last : ℕ → Started) (H : List Ended) (y : Machine) (s : 
           sim = on-still (s .sim) f (inv .1) p (tasks-high f p lt) (first-of call tag) (started call tag) (λ x u. absurd (first-names call tag x u))
               (first-match (s .configuration .heap) (s .sim .records) call tag) (first-takes call tag) so;
           started-as = λ q. started′ q (ℕ-discrete q p);
-          steps-done = λ q. steps-done′ q (ℕ-discrete q p);
           ended = s .ended;
         },
         λ e. let z : _≡_ {A = ℕ} 0 1 = cc in omega arith,
-        tt,
       )
     where
-      steps-done′ : (q : ℕ) → Dec (q ≡ p) → StepsDone (upd (s .configuration .position) p (first-of call tag) q) (task-of (set-task p (started call tag) y) q .own)
-      steps-done′ q (yes e) =
-          let f = sound-facts y (s .sim .sound-now) in
-          let own : task-of (set-task p (started call tag) y) p .own ≡ started call tag .own =
-          ap (λ (d : Task). d .own) (at-hit (refl, rw (s .sim .eight-tasks) (tasks-high f p lt)) (after-task y p (started call tag) .task-at p)) in
-          rw (e, upd-same (s .configuration .position) p (first-of call tag)) (subst (StepsDone (first-of call tag)) (sym own) (first-steps call tag))
-      steps-done′ q (no d) =
-          rw (upd-other (s .configuration .position) p (first-of call tag) q d)
-          (subst (StepsDone (s .configuration .position q)) (ap (λ (d : Task). d .own) (sym (at-miss (λ e. d (e .0)) (after-task y p (started call tag) .task-at q))))
-          (s .steps-done q))
-
       started′ : (q : ℕ) → Dec (q ≡ p)
           → StartedAs (if eqb q p then record { call = call; tag = tag; start = n } else last q) (upd (s .configuration .position) p (first-of call tag) q)
           (upd (s .configuration .start) p (s .configuration .clock) q)
@@ -129,38 +108,29 @@ module _ (n : ℕ) (last : ℕ → Started) (H : List Ended) (y : Machine) (s : 
       started′ q (no d) =
           rw (ne-eqb q p d, upd-other (s .configuration .position) p (first-of call tag) q d, upd-other (s .configuration .start) p (s .configuration .clock) q d) (s .started-as q)
 
-  outcome-next : (p : ℕ) (m : Reply) → StepSimulated (s .configuration) p (task-of y p .own) m → ((q : ℕ) → ¬ (q ≡ p) → task-of (m .machine) q ≡ task-of y q)
-      → ((l : ℕ) → m .out ≡ Outs.At l → task-of (m .machine) p .own ≡ min (task-of y p .own + 1) 65535) → After n last H (steps p) m
+  outcome-next : (p : ℕ) (m : Reply) → StepSimulated (s .configuration) p (task-of y p .own) m → After n last H (steps p) m
   unfolding note tell
-  outcome-next p m st others mine = go (m .out) (st .configuration) refl (st .outcome) (st .sim)
+  outcome-next p m st = go (m .out) (st .configuration) (st .outcome) (st .sim)
     where
       started-after : (p : ℕ) (l : Position) → StartedAs (last p) l (s .configuration .start p) → (q : ℕ) → Dec (q ≡ p)
           → StartedAs (last q) (upd (s .configuration .position) p l q) (s .configuration .start q)
       started-after p l t q (yes e) = rw (e, upd-same (s .configuration .position) p l) t
       started-after p l t q (no d) = rw (upd-other (s .configuration .position) p l q d) (s .started-as q)
 
-      steps-after : (l : Position) → ((q : ℕ) → q ≡ p → StepsDone l (task-of (m .machine) p .own)) → (q : ℕ) → Dec (q ≡ p)
-          → StepsDone (upd (s .configuration .position) p l q) (task-of (m .machine) q .own)
-      steps-after l t q (yes e) = rw (e, upd-same (s .configuration .position) p l) (t q e)
-      steps-after l t q (no d) =
-          rw (upd-other (s .configuration .position) p l q d) (subst (StepsDone (s .configuration .position q)) (ap (λ (d : Task). d .own) (sym (others q d))) (s .steps-done q))
-
-      go : (o : Output) (v : Configuration) → m .out ≡ o → Outcome (s .configuration) p (task-of y p .own) o v → Simulates (m .machine) (v .heap) (v .position)
-          → Before (suc n) (note n last (steps p) o) (tell n last H (steps p) o) (m .machine) × (¬ (o ≡ Outs.Refuse 8)) × ThreeOrFive last (steps p) o
-      go o v out (went-on {n = k} g l line) sim = (
+      go : (o : Output) (v : Configuration) → Outcome (s .configuration) p (task-of y p .own) o v → Simulates (m .machine) (v .heap) (v .position)
+          → Before (suc n) (note n last (steps p) o) (tell n last H (steps p) o) (m .machine) × (¬ (o ≡ Outs.Refuse 8))
+      go o v (went-on g l line) sim = (
         record {
           configuration = after-step (s .configuration) p g l;
           reach = Reachable.further (s .reach) (steps-on p refl line);
           clock = ap suc (s .clock);
           sim = sim;
           started-as = λ q. started-after p l (started-step (last p) (s .configuration .start p) line (s .started-as p)) q (ℕ-discrete q p);
-          steps-done = λ q. steps-after l (λ q e. subst (StepsDone l) (sym (mine k out)) (steps-step (task-of y p .own) line (s .steps-done p))) q (ℕ-discrete q p);
           ended = s .ended;
         },
         λ e. let z : _≡_ {A = ℕ} 0 1 = cc in omega arith,
-        tt,
       )
-      go o v out (call-ended {c = c} {k = k} {a = a} g e) sim =
+      go o v (call-ended {c = c} {k = k} {a = a} g e) sim =
           let t = started-end (last p) (s .configuration .start p) e (s .started-as p) in
           let is : set-call (last p .call) ≡ true = ap set-call (t .0) ∙ is-set-call e in (
             record {
@@ -169,13 +139,11 @@ module _ (n : ℕ) (last : ℕ → Started) (H : List Ended) (y : Machine) (s : 
               clock = ap suc (s .clock);
               sim = sim;
               started-as = λ q. started-after p no-call tt q (ℕ-discrete q p);
-              steps-done = λ q. steps-after no-call (λ q e. tt) q (ℕ-discrete q p);
               ended = rw (is, t .0, t .1, t .2, ← s .clock) (ap (λ (l : List Ended). ended-call (s .configuration) p c k a ∷ l) (s .ended));
             },
             λ e. let z : _≡_ {A = ℕ} 0 1 = cc in omega arith,
-            λ q. steps-end (task-of y p .own) e (s .steps-done p) (sym (t .0) ∙ q),
           )
-      go o v out (resize-ended a g line) sim =
+      go o v (resize-ended a g line) sim =
           let is = started-resize (last p) (s .configuration .start p) line (s .started-as p) in (
             record {
               configuration = after-step (s .configuration) p g no-call;
@@ -183,11 +151,9 @@ module _ (n : ℕ) (last : ℕ → Started) (H : List Ended) (y : Machine) (s : 
               clock = ap suc (s .clock);
               sim = sim;
               started-as = λ q. started-after p no-call tt q (ℕ-discrete q p);
-              steps-done = λ q. steps-after no-call (λ q e. tt) q (ℕ-discrete q p);
               ended = rw is (s .ended);
             },
             λ e. let z : _≡_ {A = ℕ} 0 1 = cc in omega arith,
-            λ q. absurd (tf (ap set-call q ∙ contains-is) is),
           )
 
   -- ---- a start, a step
@@ -219,7 +185,6 @@ module _ (n : ℕ) (last : ℕ → Started) (H : List Ended) (y : Machine) (s : 
       go (step-accepted a b u x) so =
           let p< = tasks-high f p a in
           outcome-next p _ (simulate (s .sim) f (inv .1) p p< (c .own) (accepts (s .sim) f (inv .1) p b .effect-of x) so)
-          (accept-other y p (c .own) (effect y c)) (accept-own y p (c .own) (effect y c) (rw (s .sim .eight-tasks) p<))
 
   pub event-next : (e : Event) → After n last H e (event y e)
   unfolding event

@@ -5,7 +5,7 @@ use mathlib.Core.Bool.{true, false}
 use Prim.Native.Nat.{ℕ, _+_, _*_, _%_, _≤_, _<_}
 use native.Mathlib.Decide.{ℕ-discrete}
 use native.Mathlib.Omega.{arith}
-use borrow.Author.Tests.{eq-eqb, ne-eqb, le-ltb}
+use borrow.Author.Tests.{eq-eqb, ne-eqb}
 use lib.ListN.{length}
 use Rattle.spec.specs.declared.Task.{Task}
 use Rattle.spec.specs.Machine.{Machine, with-line, with-s, with-b, with-m, with-n, with-new-bucket}
@@ -15,7 +15,7 @@ use Rattle.spec.specs.Sound.{bucket-count}
 use Rattle.spec.specs.Held.{free-bucket}
 use Rattle.spec.specs.Listed.{size-of, pred-of}
 use Rattle.spec.specs.Lines.{writes, line-39, after-40, line-40, line-43, line-44, line-46, line-47, line-48, line-52, gathered, line-49, line-50}
-use Rattle.spec.specs.StepRefusals.{overfull-49}
+use Rattle.laws.specs.StepAt.{step-table, sound-at, does-at, taken-at}
 use Rattle.laws.specs.SoundFacts.{SoundFacts}
 use Rattle.laws.specs.Links.{true-filled}
 use Rattle.laws.specs.Held.{HeldBucket}
@@ -29,7 +29,6 @@ use Rattle.model.specs.Lines.{NoPred, HasPred, step-39-empty, step-39-filled, s
 use Rattle.model.specs.Filling.{InNode, FillFacts}
 use Rattle.model.specs.FillSteps.{empty-is-head}
 use Rattle.linear.specs.Represents.{Represents, Records}
-use Rattle.linear.specs.StepLines.{effect-39, effect-40, effect-43, effect-44, effect-46, effect-47, effect-48, effect-49, effect-50, effect-52, sound-39, sound-40, sound-43, sound-44, sound-46, sound-47, sound-48, sound-49, sound-50, sound-52, free-49}
 use Rattle.linear.specs.ReadLinks.{not-none, link-number, size-at, place-filled, place-empty, pred-some-at, pred-none-at}
 use Rattle.linear.specs.LookupLines.{filled-is, pred?}
 use Rattle.linear.specs.KnownNodes.{FillNames, fill-takes, bucket}
@@ -48,10 +47,10 @@ module _ {y : Machine} {h : Heap} {K : ℕ → Type 0} {R : Records}
 
   pub fill-accepts : (l : Fill) → Before51 l → Fits-line l → FillFacts h t i l → ((x : ℕ) → FillNames t l x → K x) → Taken y h K R (fill-takes t i l) c
       → FillAccepts rep call tag t i c l
-  unfolding line-39 line-40 after-40 line-43 line-44 line-46 line-47 line-48 line-52 line-49 line-50 overfull-49 with-line with-s with-b with-m with-n with-new-bucket
+  unfolding step-table line-39 line-40 after-40 line-43 line-44 line-46 line-47 line-48 line-52 line-49 line-50 with-line with-s with-b with-m with-n with-new-bucket
   fill-accepts at-39 z m o names v = record {
-    sound-step = sound-39 y c (m .call-fields .line≡) (not-none (R .node t) (m .t≡)) (bound m);
-    effect-of = λ x. rw (effect-39 y c (m .call-fields .line≡)) (go (filled? (h .place t i)));
+    sound-step = sound-at y c 39 (m .call-fields .line≡) (not-none (R .node t) (m .t≡), bound m);
+    effect-of = λ x. rw (does-at y c 39 (m .call-fields .line≡)) (go (filled? (h .place t i)));
   }
     where
       go : (h .place t i ≡ empty) ⊎ Filled (h .place t i) → FillEffectOf rep call tag t i c at-39 (line-39 y c)
@@ -76,13 +75,13 @@ module _ {y : Machine} {h : Heap} {K : ℕ → Type 0} {R : Records}
           })
           refl
   fill-accepts (at-40 true) z m o names v = record {
-    sound-step = sound-40 y c (m .call-fields .line≡) (not-none (R .node t) (m .t≡));
-    effect-of = λ x. rw (effect-40 y c (m .call-fields .line≡), true-filled (c .b) (m .fields .1 refl))
+    sound-step = sound-at y c 40 (m .call-fields .line≡) (not-none (R .node t) (m .t≡));
+    effect-of = λ x. rw (does-at y c 40 (m .call-fields .line≡), true-filled (c .b) (m .fields .1 refl))
         (fill-moves at-51 step-40-filled names (record { call-fields = at-line (m .call-fields) refl refl refl; t≡ = m .t≡; i≡ = m .i≡; fields = tt }) refl);
   }
   fill-accepts (at-40 false) z m o names v = record {
-    sound-step = sound-40 y c (m .call-fields .line≡) (not-none (R .node t) (m .t≡));
-    effect-of = λ x. rw (effect-40 y c (m .call-fields .line≡)) (go (pred? h inv t));
+    sound-step = sound-at y c 40 (m .call-fields .line≡) (not-none (R .node t) (m .t≡));
+    effect-of = λ x. rw (does-at y c 40 (m .call-fields .line≡)) (go (pred? h inv t));
   }
     where
       b0 : c .b ≡ 0
@@ -119,7 +118,7 @@ module _ {y : Machine} {h : Heap} {K : ℕ → Type 0} {R : Records}
           let q = pred-none-at inv rep t kt n (m .t≡) in
           rw (b0, q) (fill-moves at-51 (step-40-none false n) names (record { call-fields = at-line (m .call-fields) refl refl refl; t≡ = m .t≡; i≡ = m .i≡; fields = tt }) refl)
   fill-accepts (at-43 s) z m o names v = record {
-    sound-step = sound-43 y c (m .call-fields .line≡) (not-none (R .node s) (m .fields .1));
+    sound-step = sound-at y c 43 (m .call-fields .line≡) (not-none (R .node s) (m .fields .1));
     effect-of = λ x.
         let q = o .0 in
         let a = w .0 in
@@ -129,25 +128,23 @@ module _ {y : Machine} {h : Heap} {K : ℕ → Type 0} {R : Records}
         let ks = names s (inr refl) in
         let p = place-filled inv rep s (i % h .size s) {l = c .s} {j = c .i % size-of y (c .s)} ks bs e (rw (size-at inv rep s ks e, m .i≡))
         (inv .past-filled s (i % h .size s) lt bs) in
-        rw (effect-43 y c (m .call-fields .line≡))
+        rw (does-at y c 43 (m .call-fields .line≡))
         (fill-moves (at-44 s) step-43 names (record { call-fields = at-line (m .call-fields) refl refl refl; t≡ = m .t≡; i≡ = m .i≡; fields = (m .fields .0, e, p) }) refl);
   }
   fill-accepts (at-44 s) z m o names v = record {
-    sound-step = sound-44 y c (m .call-fields .line≡) (not-none _ (m .fields .2));
+    sound-step = sound-at y c 44 (m .call-fields .line≡) (not-none _ (m .fields .2));
     effect-of = λ x.
         let q = o .0 in
         let a = w .0 in
         let lt : s < h .head = omega arith in
         let bs = place< h inv s i (omega arith) in
         let n : number (c .m) ≡ R .bucket s (i % h .size s) = rw (m .fields .2) (link-number _) in
-        rw (effect-44 y c (m .call-fields .line≡), n)
+        rw (does-at y c 44 (m .call-fields .line≡), n)
         (fill-freezes (at-49 s) s (i % h .size s) (names s (inr refl)) bs (inv .past-filled s (i % h .size s) lt bs) step-44 names
         (record { call-fields = at-line (m .call-fields) refl refl refl; t≡ = m .t≡; i≡ = m .i≡; fields = (m .fields .1, inl (o .1, m .fields .2, m .fields .0)) }) refl);
   }
   fill-accepts (at-46 s) z m o names v = record {
-    sound-step =
-        sound-46 y c (m .call-fields .line≡) (not-none (R .node s) (m .fields))
-        (let b = w .1 in let e = o .1 in rw (size-at inv rep s (names s (inr refl)) (m .fields), m .i≡) (omega arith));
+    sound-step = sound-at y c 46 (m .call-fields .line≡) (not-none (R .node s) (m .fields), in-s);
     effect-of = λ x.
         let q = o .0 in
         let a = w .0 in
@@ -156,12 +153,14 @@ module _ {y : Machine} {h : Heap} {K : ℕ → Type 0} {R : Records}
         let lt : s < h .head = omega arith in
         let bs : i < h .size s = omega arith in
         let p = place-filled inv rep s i (names s (inr refl)) bs (m .fields) (m .i≡) (inv .past-filled s i lt bs) in
-        rw (effect-46 y c (m .call-fields .line≡))
+        rw (does-at y c 46 (m .call-fields .line≡))
         (fill-moves (at-47 s) step-46 names (record { call-fields = at-line (m .call-fields) refl refl refl; t≡ = m .t≡; i≡ = m .i≡; fields = (m .fields, p) }) refl);
   }
+    where
+      in-s : c .i < size-of y (c .s)
+      in-s = let b = w .1 in let e = o .1 in rw (size-at inv rep s (names s (inr refl)) (m .fields), m .i≡) (omega arith)
   fill-accepts (at-47 s) z m o names v = record {
-    sound-step = sound-47 y c (m .call-fields .line≡) (not-none (R .node t) (m .t≡)) (not-none (R .node s) (m .fields .0))
-        (let b = w .1 in let e = o .1 in rw (size-at inv rep s (names s (inr refl)) (m .fields .0), size-at inv rep t kt (m .t≡), m .i≡) (omega arith));
+    sound-step = sound-at y c 47 (m .call-fields .line≡) (not-none (R .node t) (m .t≡), (not-none (R .node s) (m .fields .0), in-s));
     effect-of = λ x.
         let q = o .0 in
         let a = w .0 in
@@ -171,12 +170,15 @@ module _ {y : Machine} {h : Heap} {K : ℕ → Type 0} {R : Records}
         let bs : i + h .size t < h .size s = omega arith in
         let p = place-filled inv rep s (i + h .size t) {l = c .s} {j = c .i + size-of y (c .t)} (names s (inr refl)) bs (m .fields .0)
         (rw (size-at inv rep t kt (m .t≡), m .i≡)) (inv .past-filled s (i + h .size t) lt bs) in
-        rw (effect-47 y c (m .call-fields .line≡))
+        rw (does-at y c 47 (m .call-fields .line≡))
         (fill-moves (at-48 s) step-47 names
         (record { call-fields = at-line (m .call-fields) refl refl refl; t≡ = m .t≡; i≡ = m .i≡; fields = (m .fields .0, (d, m .fields .1, p)) }) refl);
   }
+    where
+      in-s : c .i + size-of y (c .t) < size-of y (c .s)
+      in-s = let b = w .1 in let e = o .1 in rw (size-at inv rep s (names s (inr refl)) (m .fields .0), size-at inv rep t kt (m .t≡), m .i≡) (omega arith)
   fill-accepts (at-48 s) z m o names v = record {
-    sound-step = sound-48 y c (m .call-fields .line≡) (not-none _ (m .fields .1 .1));
+    sound-step = sound-at y c 48 (m .call-fields .line≡) (not-none _ (m .fields .1 .1));
     effect-of = λ x.
         let q = o .0 in
         let a = w .0 in
@@ -185,12 +187,12 @@ module _ {y : Machine} {h : Heap} {K : ℕ → Type 0} {R : Records}
         let lt : s < h .head = omega arith in
         let bs : i < h .size s = omega arith in
         let n : number (c .m) ≡ R .bucket s i = rw (m .fields .1 .1) (link-number _) in
-        rw (effect-48 y c (m .call-fields .line≡), n)
+        rw (does-at y c 48 (m .call-fields .line≡), n)
         (fill-freezes (at-52 s) s i (names s (inr refl)) bs (inv .past-filled s i lt bs) step-48 names
         (record { call-fields = at-line (m .call-fields) refl refl refl; t≡ = m .t≡; i≡ = m .i≡; fields = m .fields }) refl);
   }
   fill-accepts (at-52 s) z m o names v = record {
-    sound-step = sound-52 y c (m .call-fields .line≡) (not-none _ (m .fields .1 .2));
+    sound-step = sound-at y c 52 (m .call-fields .line≡) (not-none _ (m .fields .1 .2));
     effect-of = λ x.
         let q = o .0 in
         let a = w .0 in
@@ -199,13 +201,13 @@ module _ {y : Machine} {h : Heap} {K : ℕ → Type 0} {R : Records}
         let lt : s < h .head = omega arith in
         let bs : i + h .size t < h .size s = omega arith in
         let n : number (c .n) ≡ R .bucket s (i + h .size t) = rw (m .fields .1 .2) (link-number _) in
-        rw (effect-52 y c (m .call-fields .line≡), n)
+        rw (does-at y c 52 (m .call-fields .line≡), n)
         (fill-freezes (at-49 s) s (i + h .size t) (names s (inr refl)) bs (inv .past-filled s (i + h .size t) lt bs) step-52 names
         (record { call-fields = at-line (m .call-fields) refl refl refl; t≡ = m .t≡; i≡ = m .i≡; fields = (m .fields .0, inr (m .fields .1)) }) refl);
   }
   fill-accepts (at-49 s) z m o names v = record {
-    sound-step = sound-49 y c (m .call-fields .line≡) (not-none (R .node t) (m .t≡)) (filled-m (m .fields .1)) (le-ltb 64 (length (gathered y c)) few);
-    effect-of = λ x. rw (effect-49 y c (m .call-fields .line≡)) (go (bucket-taking y f) (free-49 y c (m .call-fields .line≡) x));
+    sound-step = sound-at y c 49 (m .call-fields .line≡) (not-none (R .node t) (m .t≡), (filled-m (m .fields .1), few));
+    effect-of = λ x. rw (does-at y c 49 (m .call-fields .line≡)) (go (bucket-taking y f) (taken-at y c 49 (m .call-fields .line≡) x));
   }
     where
       filled-m : FromOne h R s t i c ⊎ FromTwo h R s t i c → ¬ (c .m ≡ 0)
@@ -225,8 +227,8 @@ module _ {y : Machine} {h : Heap} {K : ℕ → Type 0} {R : Records}
           (gather-own f inv rep s t i kt (names s (inr refl)) w (o .0) c (m .t≡) (m .i≡) (m .fields .1))
           (gather-foreign f inv rep s t i kt (names s (inr refl)) w (o .0) c (m .t≡) (m .i≡) (m .fields .1)))
   fill-accepts (at-50 s) z m o names v = record {
-    sound-step = sound-50 y c (m .call-fields .line≡) (not-none (R .node t) (m .t≡)) (not-none (v .0) (v .1)) (bound m);
-    effect-of = λ x. rw (effect-50 y c (m .call-fields .line≡)) (go (filled? (h .place t i)));
+    sound-step = sound-at y c 50 (m .call-fields .line≡) (not-none (R .node t) (m .t≡), (not-none (v .0) (v .1), bound m));
+    effect-of = λ x. rw (does-at y c 50 (m .call-fields .line≡)) (go (filled? (h .place t i)));
   }
     where
       go : (h .place t i ≡ empty) ⊎ Filled (h .place t i) → FillEffectOf rep call tag t i c (at-50 s) (line-50 y c)

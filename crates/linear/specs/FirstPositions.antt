@@ -16,7 +16,7 @@ use Rattle.model.specs.Linearization as Linearization
 use Rattle.linear.specs.Represents.{Records}
 use Rattle.linear.specs.KnownNodes.{Names, takes-at, nothing}
 use Rattle.linear.specs.Matches.{Matches}
-use Rattle.linear.specs.StartedAs.{StartedAs, StepsDone}
+use Rattle.linear.specs.StartedAs.{StartedAs}
 
 -- ---- first lines
 abbrev pub first-of : Call → ℕ → Position
@@ -62,11 +62,3 @@ first-started Remove k n s e = (refl, refl, e)
 first-started Contains k n s e = (refl, refl, e)
 first-started Grow k n s e = refl
 first-started Shrink k n s e = refl
-
-pub first-steps : (c : Call) (k : ℕ) → StepsDone (first-of c k) (started c k .own)
-unfolding started fresh-task
-first-steps Insert k = tt
-first-steps Remove k = tt
-first-steps Contains k = refl
-first-steps Grow k = tt
-first-steps Shrink k = tt

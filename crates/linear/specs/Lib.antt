@@ -5,7 +5,6 @@ pub mod KnownNodes
 pub mod Matches
 pub mod Taken
 pub mod OthersSee
-pub mod StepLines
 pub mod EffectOf
 pub mod ReadLinks
 pub mod LookupLines
@@ -18,10 +17,10 @@ pub mod ResizeLines
 pub mod Simulates
 pub mod WritesSeen
 pub mod StepSimulated
-pub mod OwnSteps
 pub mod StartedAs
 pub mod FirstPositions
 pub mod Accepted
+pub mod LookupPace
 pub mod Events
 pub mod Opening
 pub mod Schedules

@@ -10,6 +10,7 @@ use Rattle.spec.specs.declared.Task.{Task}
 use Rattle.spec.specs.Machine.{Machine, with-line, with-t, with-s, with-b}
 use Rattle.spec.specs.Words.{link, filled}
 use Rattle.spec.specs.Lines.{line-12, line-13, line-15, line-16, line-17, line-18}
+use Rattle.laws.specs.StepAt.{step-table, sound-at, does-at}
 use Rattle.laws.specs.Links.{true-filled}
 use Rattle.laws.specs.Tests.{bool?}
 use Rattle.model.specs.PlaceState.{empty, Filled, filled?}
@@ -20,7 +21,6 @@ use Rattle.model.specs.Positions.{Lookup, at-12, at-13, at-15, at-16, at-17, at
 use Rattle.model.specs.Lines.{NoPred, HasPred, step-12, step-13-filled, step-13-empty, step-15-some, step-15-none, step-16, step-17, end-18}
 use Rattle.model.specs.PositionFacts.{LookupFacts}
 use Rattle.linear.specs.Represents.{Represents, Records}
-use Rattle.linear.specs.StepLines.{effect-12, effect-13, effect-15, effect-16, effect-17, effect-18, sound-12, sound-13, sound-15, sound-16, sound-17, sound-18}
 use Rattle.linear.specs.EffectOf.{EffectOf, moves-to, ends-call, Accepts}
 use Rattle.linear.specs.ReadLinks.{not-none, for-filled, for-empty, pred-some-at, pred-none-at, has-at, head-at}
 use Rattle.linear.specs.KnownNodes.{Names}
@@ -43,15 +43,15 @@ module _ {y : Machine} {h : Heap} {K : ℕ → Type 0} {R : Records} (inv : Heap
   same-known x t k e = rw e k
 
   pub lookup-accepts : (l : Lookup) → LookupMatches h R k l c → LookupFacts h L k r l → ((x : ℕ) → Names (lookup k l) x → K x) → Accepts rep c (lookup k l)
-  unfolding line-12 line-13 line-15 line-16 line-17 line-18 with-line with-t with-s with-b
+  unfolding step-table line-12 line-13 line-15 line-16 line-17 line-18 with-line with-t with-s with-b
   lookup-accepts at-12 m o names = record {
-    sound-step = sound-12 y c (m .line≡);
-    effect-of = λ x. rw (effect-12 y c (m .line≡))
+    sound-step = sound-at y c 12 (m .line≡) tt;
+    effect-of = λ x. rw (does-at y c 12 (m .line≡))
         (moves-to (lookup k (at-13 (h .head))) step-12 (λ x q. same-known x (h .head) (rep .head-known) q) (at-line m refl refl refl, head-at inv rep) refl);
   }
   lookup-accepts (at-13 t) m o names = record {
-    sound-step = sound-13 y c (m .0 .line≡) (not-none (R .node t) (m .1));
-    effect-of = λ x. rw (effect-13 y c (m .0 .line≡)) (go (filled? (state-for h t k)));
+    sound-step = sound-at y c 13 (m .0 .line≡) (not-none (R .node t) (m .1));
+    effect-of = λ x. rw (does-at y c 13 (m .0 .line≡)) (go (filled? (state-for h t k)));
   }
     where
       go : (state-for h t k ≡ empty) ⊎ Filled (state-for h t k) → EffectOf rep c (lookup k (at-13 t)) (line-13 y c)
@@ -63,8 +63,8 @@ module _ {y : Machine} {h : Heap} {K : ℕ → Type 0} {R : Records} (inv : Heap
           rw (filled-is _ b)
           (moves-to (lookup k (at-18 t)) (step-13-filled f) names (at-line (m .0) refl refl refl, b, inl (m .1)) refl)
   lookup-accepts (at-15 t) m o names = record {
-    sound-step = sound-15 y c (m .0 .line≡) (not-none (R .node t) (m .1));
-    effect-of = λ x. rw (effect-15 y c (m .0 .line≡)) (go (pred? h inv t));
+    sound-step = sound-at y c 15 (m .0 .line≡) (not-none (R .node t) (m .1));
+    effect-of = λ x. rw (does-at y c 15 (m .0 .line≡)) (go (pred? h inv t));
   }
     where
       go : ((s : ℕ) × HasPred h t s) ⊎ NoPred h t → EffectOf rep c (lookup k (at-15 t)) (line-15 y c)
@@ -76,20 +76,20 @@ module _ {y : Machine} {h : Heap} {K : ℕ → Type 0} {R : Records} (inv : Heap
           let b = pred-none-at inv rep t (names t refl) n (m .1) in
           rw b (moves-to (lookup k (at-17 t)) (step-15-none n) names (at-line (m .0) refl refl refl, m .1) refl)
   lookup-accepts (at-16 s) m o names = record {
-    sound-step = sound-16 y c (m .0 .line≡) (not-none (R .node s) (m .1));
+    sound-step = sound-at y c 16 (m .0 .line≡) (not-none (R .node s) (m .1));
     effect-of = λ x.
         let a = o .0 in
         let f = inv .past-filled s (slot-in h s k) a (place< h inv s (h .key k) (omega arith)) in
         let b = for-filled inv rep s k (names s refl) (m .1) (m .0 .tag≡) f in
-        rw (effect-16 y c (m .0 .line≡)) (moves-to (lookup k (at-18 s)) step-16 names (at-line (m .0) refl refl refl, b, inr (m .1)) refl);
+        rw (does-at y c 16 (m .0 .line≡)) (moves-to (lookup k (at-18 s)) step-16 names (at-line (m .0) refl refl refl, b, inr (m .1)) refl);
   }
   lookup-accepts (at-17 t) m o names = record {
-    sound-step = sound-17 y c (m .0 .line≡) (not-none (R .node t) (m .1));
+    sound-step = sound-at y c 17 (m .0 .line≡) (not-none (R .node t) (m .1));
     effect-of = λ x.
         let b = for-filled inv rep t k (names t refl) (m .1) (m .0 .tag≡) (o .1) in
-        rw (effect-17 y c (m .0 .line≡)) (moves-to (lookup k (at-18 t)) step-17 names (at-line (m .0) refl refl refl, b, inl (m .1)) refl);
+        rw (does-at y c 17 (m .0 .line≡)) (moves-to (lookup k (at-18 t)) step-17 names (at-line (m .0) refl refl refl, b, inl (m .1)) refl);
   }
   lookup-accepts (at-18 x) m o names = record {
-    sound-step = sound-18 y c (m .0 .line≡) (not-none (R .bucket x (slot-in h x k)) (m .1));
-    effect-of = λ z. rw (effect-18 y c (m .0 .line≡), has-at inv rep x k (names x refl) (o .1) (m .1) (m .0 .tag≡)) (ends-call end-18);
+    sound-step = sound-at y c 18 (m .0 .line≡) (not-none (R .bucket x (slot-in h x k)) (m .1));
+    effect-of = λ z. rw (does-at y c 18 (m .0 .line≡), has-at inv rep x k (names x refl) (o .1) (m .1) (m .0 .tag≡)) (ends-call end-18);
   }

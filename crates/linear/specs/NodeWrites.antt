@@ -30,7 +30,7 @@ module _ {y z : Machine} {h : Heap} {K : ℕ → Type 0} {R : Records} (f : Soun
     pred-known = λ l. absurd (tf l refl);
     known-bound = rep .known-bound;
     node-in-pool = λ x k. rw (a .same .H≡) (rep .node-in-pool x k);
-    slot≡ = rep .slot≡;
+    slot≡ = λ k n. rw (a .same .config≡) (rep .slot≡ k n);
     size≡ = λ x k. a .size≡ (R .node x) ∙ rep .size≡ x k;
     pred-some = λ l. absurd (tf l refl);
     pred-none = λ x k n. go x k (ℕ-discrete x (h .head));
@@ -52,7 +52,7 @@ module _ {y z : Machine} {h : Heap} {K : ℕ → Type 0} {R : Records} (f : Soun
     pred-known = rep .pred-known;
     known-bound = rep .known-bound;
     node-in-pool = λ x k. rw (a .same .H≡) (rep .node-in-pool x k);
-    slot≡ = rep .slot≡;
+    slot≡ = λ k n. rw (a .same .config≡) (rep .slot≡ k n);
     size≡ = λ x k. a .size≡ (R .node x) ∙ rep .size≡ x k;
     pred-some = λ l s q. at-miss (λ e. d (sym (rep .node-injective (h .head) t (rep .head-known) kt e))) (a .pred-at (R .node (h .head))) ∙ rep .pred-some l s q;
     pred-none = λ x k n. go x (a .pred-at (R .node x)) (rep .pred-none x k n);
@@ -76,7 +76,7 @@ module _ {y z : Machine} {h : Heap} {K : ℕ → Type 0} {R : Records} (f : Soun
     pred-known = rep .pred-known;
     known-bound = rep .known-bound;
     node-in-pool = λ x k. rw (a .same .H≡) (rep .node-in-pool x k);
-    slot≡ = rep .slot≡;
+    slot≡ = λ k n. rw (a .same .config≡) (rep .slot≡ k n);
     size≡ = λ x k. at-miss (λ e. away x k (sym e)) (a .size-at (R .node x)) ∙ rep .size≡ x k;
     pred-some = λ l s q. at-miss (λ e. away (h .head) (rep .head-known) (sym e)) (a .pred-at (R .node (h .head))) ∙ rep .pred-some l s q;
     pred-none = λ x k f. at-miss (λ e. away x k (sym e)) (a .pred-at (R .node x)) ∙ rep .pred-none x k f;
@@ -96,7 +96,7 @@ module _ {y z : Machine} {h : Heap} {K : ℕ → Type 0} {R : Records} (f : Soun
     pred-known = λ c s q. let e : s ≡ h .head = omega arith in inl (rw e (rep .head-known));
     known-bound = bound′;
     node-in-pool = node′;
-    slot≡ = rep .slot≡;
+    slot≡ = λ k n. rw (a .same .config≡) (rep .slot≡ k n);
     size≡ = λ x k. rw (a .nodes≡) (size′ x k);
     pred-some = λ c s q. let e : s ≡ h .head = omega arith in rw (a .nodes≡, e, top′, filter (h .head) (le-refl _)) (new .from);
     pred-none = λ x k f. rw (a .nodes≡) (none′ x k f);

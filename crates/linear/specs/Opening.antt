@@ -6,12 +6,13 @@ use Prim.Native.Nat.{ℕ, zero, suc, _*_, _-_, _/_}
 use native.Mathlib.Omega.{arith}
 use lib.ListN.{length, getD, replicate}
 use Rattle.spec.specs.declared.Task.{Task}
+use Rattle.spec.specs.declared.Config.{Config}
 use Rattle.spec.specs.Lists.{member}
 use Rattle.spec.specs.Machine.{idle, state-of, task-of}
 use Rattle.spec.specs.Words as Words
 use Rattle.spec.specs.Words.{size, pred, place, count, tags}
 use Rattle.spec.specs.Sound.{sound}
-use Rattle.spec.specs.Listed.{slot}
+use Rattle.spec.specs.Listed.{key, slot}
 use Rattle.spec.specs.Entries.{fresh-machine, opening}
 use Rattle.laws.specs.Soundness.{sound-facts}
 use Rattle.laws.specs.Tests.{tf}
@@ -28,21 +29,18 @@ same-default zero i a = refl
 same-default (suc n) zero a = refl
 same-default (suc n) (suc i) a = same-default n i a
 
--- what of a tag is taken mod a node's size, in spec's `slot`: the tag itself. Nothing else depends on it
-abbrev pub tag-key : ℕ → ℕ
-tag-key k = k
-
-only-0 : (x : ℕ) → Known (opened tag-key) (λ p. no-call) x → x ≡ 0
+-- the model is over any rule for what of a tag is taken mod a node's size: here spec's `key`, in a set opened so
+only-0 : {rule : ℕ → ℕ} (x : ℕ) → Known (opened rule) (λ p. no-call) x → x ≡ 0
 only-0 x (head e) = e
 only-0 x (behind l e) = absurd (tf l refl)
 only-0 x (named p n) = absurd n
 
-module _ (t h b : ℕ) (so : sound (fresh-machine t h b) ≡ true) where
-  no-tags : tags (fresh-machine t h b .buckets) 0 ≡ []
+module _ (g : Config) (h b : ℕ) (so : sound (fresh-machine g h b) ≡ true) where
+  no-tags : tags (fresh-machine g h b .buckets) 0 ≡ []
   unfolding fresh-machine tags count
   no-tags = rw (same-default {A = ℕ} (66 * b - 1) 0 0)
 
-  pub fresh-simulates : Simulates (fresh-machine t h b) (opened tag-key) (λ p. no-call)
+  pub fresh-simulates : Simulates (fresh-machine g h b) (opened (key g)) (λ p. no-call)
   unfolding fresh-machine state-of size pred place Words.changeable task-of member idle slot
   fresh-simulates = record {
     records = record { node = λ x. 0; bucket = λ x i. 0 };
@@ -53,7 +51,7 @@ module _ (t h b : ℕ) (so : sound (fresh-machine t h b) ≡ true) where
       head-known = head refl;
       pred-known = λ l. absurd (tf l refl);
       known-bound = λ x k. let e = only-0 x k in omega arith;
-      node-in-pool = λ x k. sound-facts (fresh-machine t h b) so .H-low;
+      node-in-pool = λ x k. sound-facts (fresh-machine g h b) so .H-low;
       slot≡ = λ k n. refl;
       size≡ = λ x k. refl;
       pred-some = λ l. absurd (tf l refl);
@@ -70,17 +68,16 @@ module _ (t h b : ℕ) (so : sound (fresh-machine t h b) ≡ true) where
     nodes-apart = λ p q n a. absurd a;
   }
 
-pub opening-before : (t : ℕ) (ns bs : List ℕ) → opening t ns bs .refusal ≡ 0 → Before 0 none-started [] (opening t ns bs .machine)
-opening-before t ns bs ok =
-    let e = opened-machine t ns bs ok in
-    let so : sound (fresh-machine t (length ns / 34) (length bs / 66)) ≡ true = rw e at (opening-sound t ns bs ok) in
+pub opening-before : (g : Config) (ns bs : List ℕ) → opening g ns bs .refusal ≡ 0 → Before 0 none-started [] (opening g ns bs .machine)
+opening-before g ns bs ok =
+    let e = opened-machine g ns bs ok in
+    let so : sound (fresh-machine g (length ns / 34) (length bs / 66)) ≡ true = rw e at (opening-sound g ns bs ok) in
     rw e
     (record {
-      configuration = initial tag-key;
-      reach = Reachable.initially tag-key;
+      configuration = initial (key g);
+      reach = Reachable.initially (key g);
       clock = refl;
-      sim = fresh-simulates t (length ns / 34) (length bs / 66) so;
+      sim = fresh-simulates g (length ns / 34) (length bs / 66) so;
       started-as = λ q. tt;
-      steps-done = λ q. tt;
       ended = refl;
     })

@@ -62,7 +62,7 @@ pub record Represents (y : Machine) (h : Heap) (K : ℕ → Type 0) (R : Records
   pub pred-known : h .linked ≡ true → (s : ℕ) → h .head ≡ suc s → K s
   pub known-bound : (x : ℕ) → K x → x ≤ h .head
   pub node-in-pool : (x : ℕ) → K x → R .node x < node-count y
-  pub slot≡ : (k n : ℕ) → slot k n ≡ h .key k % n
+  pub slot≡ : (k n : ℕ) → slot (y .state .config) k n ≡ h .key k % n
   pub size≡ : (x : ℕ) → K x → size (y .nodes) (R .node x) ≡ h .size x
   pub pred-some : h .linked ≡ true → (s : ℕ) → h .head ≡ suc s → Words.pred (y .nodes) (R .node (h .head)) ≡ link (R .node s)
   pub pred-none : (x : ℕ) → K x → NoPred h x → Words.pred (y .nodes) (R .node x) ≡ 0

@@ -15,6 +15,7 @@ use Rattle.spec.specs.Sound.{node-count, listed-size}
 use Rattle.spec.specs.Held.{free-node}
 use Rattle.spec.specs.Listed.{size-of, head-of}
 use Rattle.spec.specs.Lines.{Effect, writes, at-limit, resized, line-20, line-24, line-27, line-28, line-51}
+use Rattle.laws.specs.StepAt.{step-table, sound-at, does-at, taken-at}
 use Rattle.laws.specs.SoundFacts.{SoundFacts}
 use Rattle.laws.specs.Sizes.{ListedSize, size-1, size-2, size-4, size-8, size-16, size-32, is-listed, size-listed}
 use Rattle.laws.specs.Held.{HeldNode}
@@ -26,7 +27,6 @@ use Rattle.model.specs.Lines.{Step, step-20, resize-fills, step-51-next, step-5
 use Rattle.model.specs.Filling.{FillFacts}
 use Rattle.model.specs.PositionFacts.{ResizeFacts}
 use Rattle.linear.specs.Represents.{Represents, Records}
-use Rattle.linear.specs.StepLines.{effect-20, effect-24, effect-27, effect-28, effect-51, sound-20, sound-24, sound-27, sound-28, sound-51, free-27}
 use Rattle.linear.specs.EffectOf.{EffectOf, moves-to, ends-resize, sets-head, freezes, fills, clears-pred, clears-no-pred, takes-node, takes-bucket, Accepts}
 use Rattle.linear.specs.ReadLinks.{not-none, link-number, size-at, head-at}
 use Rattle.linear.specs.FillEffects.{Which51, last, before, which-51, FillEffectOf, fill-moves, fill-freezes, fill-fills, fill-takes-bucket}
@@ -74,13 +74,13 @@ module _ {y : Machine} {h : Heap} {K : ℕ → Type 0} {R : Records} (f : SoundF
   -- ---- line 51
   resize-51 : (b : Bool) (t i : ℕ) → ResizeMatches h R b (Resize.filling t i at-51) c → ResizeFacts h (Resize.filling t i at-51) → ((x : ℕ) → x ≡ t → K x)
       → Accepts rep c (resize b (Resize.filling t i at-51))
-  unfolding line-51 with-line with-i with-s with-b with-m with-n with-new-bucket
+  unfolding step-table line-51 with-line with-i with-s with-b with-m with-n with-new-bucket
   resize-51 b t i m o names =
       let kt = names t refl in
       let bi : c .i < size-of y (c .t) = rw (size-at inv rep t kt (m .0 .t≡), m .0 .i≡) (o .0 .1) in
       record {
-        sound-step = sound-51 y c (m .0 .call-fields .line≡) (not-none (R .node t) (m .0 .t≡)) bi;
-        effect-of = λ x. rw (effect-51 y c (m .0 .call-fields .line≡)) (rw (is-resize b (m .0 .call-fields .call≡)) (go (decLt (suc i) (h .size t))));
+        sound-step = sound-at y c 51 (m .0 .call-fields .line≡) (not-none (R .node t) (m .0 .t≡), bi);
+        effect-of = λ x. rw (does-at y c 51 (m .0 .call-fields .line≡)) (rw (is-resize b (m .0 .call-fields .call≡)) (go (decLt (suc i) (h .size t))));
       }
     where
       is-resize : (b : Bool) → c .call ≡ resize-call b → (eqb (c .call) 4 || eqb (c .call) 5) ≡ true
@@ -111,10 +111,10 @@ module _ {y : Machine} {h : Heap} {K : ℕ → Type 0} {R : Records} (f : SoundF
 
   pub resize-accepts : (b : Bool) (l : Resize) → ResizeMatches h R b l c → ResizeFacts h l → ((x : ℕ) → Names (resize b l) x → K x)
       → Taken y h K R (takes-at (resize b l)) c → Accepts rep c (resize b l)
-  unfolding line-20 line-24 line-27 line-28 at-limit with-line with-i with-t with-new-node
+  unfolding step-table line-20 line-24 line-27 line-28 at-limit with-line with-i with-t with-new-node
   resize-accepts b at-20 m o names v = record {
-    sound-step = sound-20 y c (m .0 .line≡);
-    effect-of = λ x. rw (effect-20 y c (m .0 .line≡)) (go b (m .0 .call≡));
+    sound-step = sound-at y c 20 (m .0 .line≡) tt;
+    effect-of = λ x. rw (does-at y c 20 (m .0 .line≡)) (go b (m .0 .call≡));
   }
     where
       sz : size-of y (head-of y) ≡ h .size (h .head)
@@ -142,8 +142,8 @@ module _ {y : Machine} {h : Heap} {K : ℕ → Type 0} {R : Records} (f : SoundF
           at n (yes e) = rw (eq-eqb (h .size (h .head)) 1 e) (ends-resize Limit step-20-limit)
           at n (no d) = rw (ne-eqb (h .size (h .head)) 1 d) (on false q d)
   resize-accepts b (at-24 t) m o names v = record {
-    sound-step = sound-24 y c (m .0 .line≡) (not-none (R .node t) (m .1));
-    effect-of = λ x. rw (effect-24 y c (m .0 .line≡)) (go (ℕ-discrete t (h .head)));
+    sound-step = sound-at y c 24 (m .0 .line≡) (not-none (R .node t) (m .1));
+    effect-of = λ x. rw (does-at y c 24 (m .0 .line≡)) (go (ℕ-discrete t (h .head)));
   }
     where
       n : number (c .t) ≡ R .node t
@@ -155,8 +155,8 @@ module _ {y : Machine} {h : Heap} {K : ℕ → Type 0} {R : Records} (f : SoundF
           (clears-pred (resize b (at-27 (h .head))) (step-24-head refl) (λ x u. rw u (rep .head-known)) (at-line (m .0) refl refl refl, rw e at (m .1), rw e at (m .2)) refl)
       go (no d) = rw n (clears-no-pred (resize b (at-27 t)) t (names t refl) d (step-24-past d) names (at-line (m .0) refl refl refl, m .1, m .2) refl)
   resize-accepts b (at-27 t) m o names v = record {
-    sound-step = sound-27 y c (m .0 .line≡) (not-none (R .node t) (m .1)) (rw size≡ (made .2));
-    effect-of = λ x. rw (effect-27 y c (m .0 .line≡)) (go (node-taking y f) (free-27 y c (m .0 .line≡) x));
+    sound-step = sound-at y c 27 (m .0 .line≡) (not-none (R .node t) (m .1), rw size≡ (made .2));
+    effect-of = λ x. rw (does-at y c 27 (m .0 .line≡)) (go (node-taking y f) (taken-at y c 27 (m .0 .line≡) x));
   }
     where
       made : (n : ℕ) × (resized (resize-call b) (h .size t) ≡ n) × (listed-size n ≡ true) × Sizes b (h .size t) n
@@ -177,8 +177,8 @@ module _ {y : Machine} {h : Heap} {K : ℕ → Type 0} {R : Records} (f : SoundF
           subst (λ (u : Write). EffectOf rep c (resize b (at-27 t)) (writes u (with-line 28 (with-new-node (free-node y) c)))) (sym place-word)
           (takes-node b t (made .0) r (names t refl) (line b (made .0) (made .3)) (at-line (m .0) refl refl refl, m .1) e lt (first .not-held))
   resize-accepts b (at-28 t n) m o names v = record {
-    sound-step = sound-28 y c (m .0 .line≡) (not-none (R .node t) (m .1)) (not-none (v .0) (v .1));
-    effect-of = λ x. rw (effect-28 y c (m .0 .line≡)) (go (ℕ-discrete t (h .head)));
+    sound-step = sound-at y c 28 (m .0 .line≡) (not-none (R .node t) (m .1), not-none (v .0) (v .1));
+    effect-of = λ x. rw (does-at y c 28 (m .0 .line≡)) (go (ℕ-discrete t (h .head)));
   }
     where
       go : Dec (t ≡ h .head) → EffectOf rep c (resize b (at-28 t n)) (line-28 y c)

@@ -4,6 +4,7 @@ use mathlib.Core.Path.{_≡_, sym, _∙_}
 use mathlib.Core.List.{List, [], _∷_, _++_}
 use Prim.Native.Nat.{ℕ, suc, _≤_, _<_}
 use lib.ListN.{length, drop}
+use Rattle.spec.specs.declared.Config.{Config}
 use Rattle.spec.specs.Machine.{Machine}
 use Rattle.spec.specs.Words as Words
 use Rattle.spec.specs.Listed.{listed}
@@ -19,7 +20,8 @@ use Rattle.laws.specs.SameTags.{rising-same}
 use Rattle.linear.specs.ListedTags.{in-set-abs}
 use Rattle.linear.specs.Simulates.{Simulates}
 use Rattle.spec.specs.Linearizable.{after, NoEight}
-use Rattle.linear.specs.OwnSteps.{AllThreeOrFive, ContainsThreeOrFive}
+use Rattle.spec.specs.ContainsSteps.{Progress, progress, no-progress, Throughout, WithinFive, ContainsWithinFive}
+use Rattle.linear.specs.LookupPace.{ContainsPaced, none-paced, event-paced}
 use Rattle.linear.specs.Events.{Before, event-next}
 use Rattle.spec.specs.Entries.{list, opening}
 use Rattle.spec.specs.declared.Listing.the-variants.{Count, Refused}
@@ -33,14 +35,17 @@ pub record AtEnd (y : Machine) (H : List Ended) : Type 0 where
   pub sim : Simulates y (configuration .heap) (configuration .position)
   pub ended : H ≡ configuration .ended
 
-pub run-simulated : (n : ℕ) (last : ℕ → Started) (H : List Ended) (y : Machine) → Before n last H y → (es : List Event)
-    → AtEnd (run y es .machine) (history-from n last H es (run y es .outs)) × NoEight (run y es .outs) × AllThreeOrFive n last es (run y es .outs)
+pub run-simulated : (n : ℕ) (last : ℕ → Started) (H : List Ended) (y : Machine) → Before n last H y
+    → (r : ℕ → Progress) → ((q : ℕ) → ContainsPaced r y q) → (es : List Event)
+    → AtEnd (run y es .machine) (history-from n last H es (run y es .outs)) × NoEight (run y es .outs) × Throughout WithinFive r es (run y es .outs)
 unfolding run history-from
-run-simulated n last H y s [] = (record { configuration = s .configuration; reach = s .reach; sim = s .sim; ended = s .ended }, tt, tt)
-run-simulated n last H y s (e ∷ es) =
-    let m = event-next n last H y s e in
-    let r = run-simulated (suc n) (note n last e (event y e .out)) (tell n last H e (event y e .out)) (event y e .machine) (m .0) es in
-    (r .0, (m .1, r .1), (m .2, r .2))
+run-simulated n last H y s r paced [] = (record { configuration = s .configuration; reach = s .reach; sim = s .sim; ended = s .ended }, tt, tt)
+run-simulated n last H y s r paced (e ∷ es) =
+    let m = event y e in
+    let u = event-next n last H y s e in
+    let v = event-paced r y (s .sim .sound-now) (s .sim .eight-tasks) paced e in
+    let w = run-simulated (suc n) (note n last e (m .out)) (tell n last H e (m .out)) (m .machine) (u .0) (progress r e (m .out)) (v .0) es in
+    (w .0, (u .1, w .1), (v .1, w .2))
 
 -- ---- the listed tags at the end
 
@@ -70,12 +75,12 @@ module _ (y : Machine) (H : List Ended) (z : AtEnd y H) where
   list-short w h = rw (z .sim .sound-now, le-ltb 64 (length (listed y)) few-listed, lt-leb 64 (length w) h)
 
 -- ---- a schedule, from its opening on
-module _ (t : ℕ) (ns bs : List ℕ) (ok : opening t ns bs .refusal ≡ 0) (es : List Event) where
-  schedule-runs : schedule t ns bs es ≡ run (opening t ns bs .machine) es
+module _ (g : Config) (ns bs : List ℕ) (ok : opening g ns bs .refusal ≡ 0) (es : List Event) where
+  schedule-runs : schedule g ns bs es ≡ run (opening g ns bs .machine) es
   unfolding schedule run-opened
-  schedule-runs = rw (eq-eqb (opening t ns bs .refusal) 0 ok)
+  schedule-runs = rw (eq-eqb (opening g ns bs .refusal) 0 ok)
 
-  pub schedule-simulated : AtEnd (schedule t ns bs es .machine) (history es (schedule t ns bs es .outs)) × NoEight (schedule t ns bs es .outs)
-      × ContainsThreeOrFive es (schedule t ns bs es .outs)
+  pub schedule-simulated : AtEnd (schedule g ns bs es .machine) (history es (schedule g ns bs es .outs)) × NoEight (schedule g ns bs es .outs)
+      × ContainsWithinFive es (schedule g ns bs es .outs)
   unfolding history
-  schedule-simulated = rw schedule-runs (run-simulated 0 none-started [] (opening t ns bs .machine) (opening-before t ns bs ok) es)
+  schedule-simulated = rw schedule-runs (run-simulated 0 none-started [] (opening g ns bs .machine) (opening-before g ns bs ok) no-progress (none-paced _) es)

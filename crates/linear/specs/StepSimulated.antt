@@ -19,7 +19,7 @@ use Rattle.laws.specs.SoundFacts.{SoundFacts}
 use Rattle.laws.specs.Soundness.{run-of}
 use Rattle.laws.specs.Sizes.{size-most}
 use Rattle.laws.specs.Held.{HeldNode, HeldBucket}
-use Rattle.laws.specs.AfterWrites.{SameState, after-head, after-place, after-pred, after-node, after-freeze, after-put, after-bucket}
+use Rattle.laws.specs.AfterWrites.{SameState, same-but, after-head, after-place, after-pred, after-node, after-freeze, after-put, after-bucket}
 use Rattle.laws.specs.Tests.{At, hit, miss, tf, at-hit}
 use Rattle.model.specs.Functions.{upd, upd-at}
 use Rattle.model.specs.PlaceState.{empty, filled-changeable}
@@ -88,7 +88,7 @@ unfolding idle
 rests h R = refl
 
 pub same-state : (y : Machine) → SameState y y
-same-state y = record { T≡ = refl; H≡ = refl; B≡ = refl; task≡ = refl; nodes-length≡ = refl; buckets-length≡ = refl }
+same-state y = same-but _ _ refl refl refl
 
 module _ {y : Machine} {w : Configuration} {L : List Ended} (sim : Simulates y (w .heap) (w .position)) (f : SoundFacts y) (i : Invariant w L) (p : ℕ) (p< : p < 8) where
   abbrev K : ℕ → Type 0

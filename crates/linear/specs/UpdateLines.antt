@@ -18,6 +18,7 @@ use Rattle.spec.specs.Listed.{slot, size-of, place-of, tags-of, listed}
 use Rattle.spec.specs.Lines.{Effect, answers-writing, frozen, line-32, line-33, answer-36, insert-36, remove-36, line-36, line-51}
 use Rattle.spec.specs.Plain.{insert-answer}
 use Rattle.spec.specs.StepRefusals.{gains, overfull-36}
+use Rattle.laws.specs.StepAt.{step-table, sound-at, does-at}
 use Rattle.laws.specs.Answers.{gains-yes, gains-room, insert-writes-tag, insert-writes-nothing}
 use Rattle.laws.specs.StepRefusals.{has-room-36}
 use Rattle.spec.specs.declared.Answer.the-variants.{Yes}
@@ -32,7 +33,6 @@ use Rattle.model.specs.Lines.{Listed, step-32, step-33-filled, step-33-empty, s
 use Rattle.model.specs.Filling.{FillFacts}
 use Rattle.model.specs.PositionFacts.{UpdateFacts, bucket-few}
 use Rattle.linear.specs.Represents.{record-has, Represents, bucket-in-pool, Records}
-use Rattle.linear.specs.StepLines.{effect-32, effect-33, effect-36, effect-51, sound-32, sound-33, sound-36, sound-51}
 use Rattle.linear.specs.EffectOf.{EffectOf, moves-to, ends-call, ends-writing, freezes, fills, takes-bucket, Accepts}
 use Rattle.linear.specs.ReadLinks.{not-none, link-number, size-at, place-filled, for-filled, for-empty, tags-at, has-at, head-at}
 use Rattle.linear.specs.LookupLines.{filled-is}
@@ -109,13 +109,13 @@ module _ {y : Machine} {h : Heap} {K : ℕ → Type 0} {R : Records} (f : SoundF
   -- ---- line 51
   update-51 : (b : Bool) (t i : ℕ) → FillMatches h R (update-call b) k t i at-51 c → UpdateFacts h k (Update.filling t i at-51) → ((x : ℕ) → x ≡ t → K x)
       → Accepts rep c (update b k (Update.filling t i at-51))
-  unfolding line-51 with-line with-s with-b with-m with-n with-new-bucket
+  unfolding step-table line-51 with-line with-s with-b with-m with-n with-new-bucket
   update-51 b t i m o names =
       let kt = names t refl in
       let bi : c .i < size-of y (c .t) = rw (size-at inv rep t kt (m .t≡), m .i≡) (o .0 .1) in
       record {
-        sound-step = sound-51 y c (m .call-fields .line≡) (not-none (R .node t) (m .t≡)) bi;
-        effect-of = λ x. rw (effect-51 y c (m .call-fields .line≡)) (go b (m .call-fields .call≡));
+        sound-step = sound-at y c 51 (m .call-fields .line≡) (not-none (R .node t) (m .t≡), bi);
+        effect-of = λ x. rw (does-at y c 51 (m .call-fields .line≡)) (go b (m .call-fields .call≡));
       }
     where
       b≡ : place-of y (c .t) (c .i) ≡ link (R .bucket t (slot-in h t k))
@@ -131,21 +131,21 @@ module _ {y : Machine} {h : Heap} {K : ℕ → Type 0} {R : Records} (f : SoundF
 
   pub update-accepts : (b : Bool) (l : Update) → UpdateMatches h R b k l c → UpdateFacts h k l → ((x : ℕ) → Names (update b k l) x → K x)
       → Taken y h K R (takes-at (update b k l)) c → Accepts rep c (update b k l)
-  unfolding line-32 line-33 line-36 insert-36 remove-36 with-line with-i with-t with-b without-places
+  unfolding step-table line-32 line-33 line-36 insert-36 remove-36 with-line with-i with-t with-b without-places
   update-accepts b at-32 m o names v = record {
-    sound-step = sound-32 y c (m .0 .line≡);
-    effect-of = λ x. rw (effect-32 y c (m .0 .line≡))
+    sound-step = sound-at y c 32 (m .0 .line≡) tt;
+    effect-of = λ x. rw (does-at y c 32 (m .0 .line≡))
         (moves-to (update b k (at-33 (h .head))) step-32 (λ x q. rw q (rep .head-known)) (at-line (m .0) refl refl refl, head-at inv rep, m .1) refl);
   }
   update-accepts b (at-33 t) m o names v = record {
-    sound-step = sound-33 y c (m .0 .line≡) (not-none (R .node t) (m .1));
-    effect-of = λ x. rw (effect-33 y c (m .0 .line≡)) (go (filled? (state-for h t k)));
+    sound-step = sound-at y c 33 (m .0 .line≡) (not-none (R .node t) (m .1));
+    effect-of = λ x. rw (does-at y c 33 (m .0 .line≡)) (go (filled? (state-for h t k)));
   }
     where
       go : (state-for h t k ≡ empty) ⊎ Filled (state-for h t k) → EffectOf rep c (update b k (at-33 t)) (line-33 y c)
       go (inl e) =
           let q = for-empty inv rep t k (names t refl) (m .1) (m .0 .tag≡) e in
-          let i≡ : slot (c .tag) (size-of y (c .t)) ≡ slot-in h t k = rw (m .0 .tag≡, size-at inv rep t (names t refl) (m .1)) (rep .slot≡ k (h .size t)) in
+          let i≡ : slot (y .state .config) (c .tag) (size-of y (c .t)) ≡ slot-in h t k = rw (m .0 .tag≡, size-at inv rep t (names t refl) (m .1)) (rep .slot≡ k (h .size t)) in
           rw q (moves-to (update b k (Update.filling t (slot-in h t k) at-39)) (step-33-empty e) names
           (record {
             call-fields = at-line (m .0) refl refl refl;
@@ -159,8 +159,8 @@ module _ {y : Machine} {h : Heap} {K : ℕ → Type 0} {R : Records} (f : SoundF
           rw (filled-is _ q)
           (moves-to (update b k (at-36 t)) (step-33-filled p) names (at-line (m .0) refl refl refl, m .1, q) refl)
   update-accepts b (at-36 x) m o names v = record {
-    sound-step = sound-36 y c (m .0 .line≡) (not-none _ (m .2)) (not-overfull x (names x refl) (o .1) (m .2));
-    effect-of = λ z. rw (effect-36 y c (m .0 .line≡)) (go b (m .0 .call≡) (seen (state-for h x k)));
+    sound-step = sound-at y c 36 (m .0 .line≡) (not-none _ (m .2), not-overfull x (names x refl) (o .1) (m .2));
+    effect-of = λ z. rw (does-at y c 36 (m .0 .line≡)) (go b (m .0 .call≡) (seen (state-for h x k)));
   }
     where
       kx : K x

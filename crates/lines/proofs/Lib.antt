@@ -1,3 +1,4 @@
 pub mod Settling
 pub mod Taking
 pub mod Running
+pub mod Giving

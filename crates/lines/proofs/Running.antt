@@ -36,7 +36,7 @@ module _ {y : Machine} {k : ℕ} {c : Task} {ls : List ℕ} (r : Runs y k c ls) 
   numbers =
       let f = sound-facts y (r .is-sound) in
       let t = r .task .below-T in
-      let m = f .T-high in
+      let m = f .config .T-high in
       let h = f .head in
       let n = f .H-high in
       record { number = omega arith; head = omega arith; nodes = n; last-node = f .last-node; nodes-length = f .nodes-length }

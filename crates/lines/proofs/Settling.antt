@@ -3,12 +3,17 @@
 use mathlib.Core.Path.{_≡_, refl}
 use mathlib.Core.List.{List}
 use mathlib.Core.Bool.{true, false}
-use Prim.Native.Nat.{ℕ, _<_, _≤_}
+use Prim.Native.Nat.{ℕ, _+_, _<_, _≤_, min}
 use native.Mathlib.Omega.{arith}
-use borrow.Author.Tests.{le-ltb, ltb-true}
+use borrow.Author.Tests.{le-ltb, lt-ltb, ltb-true}
 use lib.ListN.{set}
-use Rattle.spec.specs.Machine.{machine-of, state-head, state-last-node, state-last-bucket, state-task}
-use Rattle.spec.specs.Entries.{Reply}
+use Rattle.spec.specs.Machine.{machine-of, idle, with-line, with-own, with-state, with-task, set-task}
+use Rattle.spec.specs.Machine.{state-head, state-last-node, state-last-bucket, state-task}
+use Rattle.spec.specs.Words.{apply}
+use Rattle.spec.specs.Lines.{moves, answers}
+use Rattle.spec.specs.Entries.{Reply, finish, accept}
+use Rattle.spec.specs.declared.Task.{Task}
+use Rattle.spec.specs.declared.Answer.{Answer}
 use Rattle.spec.specs.declared.State.{State}
 use Rattle.spec.specs.declared.Output.{Output}
 use Rattle.spec.specs.declared.Output.the-variants.{At, End, Refuse}
@@ -43,6 +48,20 @@ module _ (s : State) (k : ℕ) (m : Moved) (ns bs : List ℕ) {r : Reply} (h : m
   pub moved-off : changes (m .out) k ≡ false → record { out = m .out; machine = machine-of s ns bs } ≡ r
   unfolding settled
   moved-off e = rw e at h
+
+-- the answers of an accepted line: the task goes on at line l, or its call ends
+module _ (s : State) (k : ℕ) (c : Task) (low : k < 8) (ns bs : List ℕ) where
+  abbrev gives : Output → Task → Moved
+  gives o x = record { out = o; head = s .head; «last_node» = s .«last_node»; «last_bucket» = s .«last_bucket»; task = x }
+
+  pub goes-on : (l : ℕ) → moved-reply s k (gives (At l) (with-own (min (c .own + 1) 65535) (with-line l c))) ns bs
+      ≡ accept (machine-of s ns bs) k (c .own) (moves (with-line l c))
+  unfolding accept finish set-task with-task with-state state-head state-last-node state-last-bucket state-task with-line apply settled changes
+  goes-on l = let e = lt-ltb _ _ low in rw e
+
+  pub ends-so : (a : Answer) → moved-reply s k (gives (End a (min (c .own + 1) 65535)) idle) ns bs ≡ accept (machine-of s ns bs) k (c .own) (answers a)
+  unfolding accept finish set-task with-task with-state state-head state-last-node state-last-bucket state-task apply settled changes
+  ends-so a = let e = lt-ltb _ _ low in rw e
 
 -- A line that takes a record or moves the head makes its answer over the state with that change. The answer over the state before is
 -- the same, since what it gives stands in the place of the change.

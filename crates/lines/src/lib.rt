@@ -10,10 +10,10 @@ ghost use mathlib.Core.Path.{_≡_};
 ghost use mathlib.Core.List.{List};
 ghost use mathlib.Core.Bool.{true};
 ghost use Prim.Native.Nat.{ℕ, _+_, _<_, min};
-ghost use Rattle.spec.specs.Machine.{idle, fresh-task, with-line, machine-of};
+ghost use Rattle.spec.specs.Machine.{with-line, machine-of};
 ghost use Rattle.spec.specs.Lines.{moves, answers};
-ghost use Rattle.spec.specs.Entries.{refuse, accept, started};
-ghost use Rattle.lines.specs.Reply.{reply-of, changes, moved-reply};
+ghost use Rattle.spec.specs.Entries.{accept, started};
+ghost use Rattle.lines.specs.Reply.{reply-of, changes, moved-reply, refusal};
 
 // What an entry answers, and the state after it.
 pub struct Stepped {
@@ -22,7 +22,7 @@ pub struct Stepped {
 }
 
 // What a line answers, and what it may change of the state: the head, the node and the bucket last taken, and the record of the task
-// that moves. After a refusal only the answer counts. A caller that keeps the state stores these few words in it, and no copy of
+// that moves. A refusal changes nothing: the numbers of the state and an idle record stand beside it. A caller that keeps the state stores these few words in it, and no copy of
 // the state is made.
 pub struct Moved {
     pub out: Output,
@@ -66,7 +66,7 @@ pub fn settle(s: State, k: u32, m: Moved) -> Stepped
     Stepped { out, state: t }
 }
 
-// ---- a task's record: own steps, a task that runs nothing, a call that starts
+// ---- a task's record: own steps, a call that starts
 
 // One own step more, staying at 65535.
 fn one_more_own_step(n: u16) -> u16
@@ -75,67 +75,25 @@ fn one_more_own_step(n: u16) -> u16
     if n < 65535 { n + 1 } else { 65535 }
 }
 
-// A task that runs nothing.
-pub fn idle() -> Task
-    ensures { λ r. ⌜ r ≡ idle ⌝ }
-{
-    Task {
-        running: false,
-        call: 0,
-        tag: 0,
-        line: 0,
-        i: 0,
-        own: 0,
-        t: 0,
-        s: 0,
-        b: 0,
-        m: 0,
-        n: 0,
-        new_node: 0,
-        new_bucket: 0,
-    }
-}
-
-// A call's number, its tag and its first line; the rest zeros and empty places.
-fn fresh(call: u32, tag: u32, line: u32) -> Task
-    ensures { λ r. ⌜ r ≡ fresh-task call tag line ⌝ }
-{
-    Task {
-        running: true,
-        call,
-        tag,
-        line,
-        i: 0,
-        own: 0,
-        t: 0,
-        s: 0,
-        b: 0,
-        m: 0,
-        n: 0,
-        new_node: 0,
-        new_bucket: 0,
-    }
-}
-
 // The record of a call that starts.
 pub fn begun(call: Call, tag: u32) -> Task
     ensures { λ r. ⌜ r ≡ started call tag ⌝ }
 {
     match call {
-        Call::Insert => fresh(1, tag, 32),
-        Call::Remove => fresh(2, tag, 32),
-        Call::Contains => fresh(3, tag, 12),
-        Call::Grow => fresh(4, 0, 20),
-        Call::Shrink => fresh(5, 0, 20),
+        Call::Insert => state::fresh_task(1, tag, 32),
+        Call::Remove => state::fresh_task(2, tag, 32),
+        Call::Contains => state::fresh_task(3, tag, 12),
+        Call::Grow => state::fresh_task(4, 0, 20),
+        Call::Shrink => state::fresh_task(5, 0, 20),
     }
 }
 
 // ---- the three ways in which a line ends
 
 pub fn refused(s: State, why: u32) -> Moved
-    ensures { λ r. ⌜ ((k : ℕ) (ns bs : List ℕ) → moved-reply s k r ns bs ≡ refuse why (machine-of s ns bs)) ⌝ }
+    ensures { λ r. ⌜ r ≡ refusal s why ⌝ }
 {
-    let x = idle();
+    let x = state::idle();
     Moved {
         out: Output::Refuse(why),
         head: s.head,
@@ -168,7 +126,7 @@ pub fn end(s: State, k: usize, c: Task, a: Answer) -> Moved
     ensures { λ r. ⌜ ((ns bs : List ℕ) → moved-reply s k r ns bs ≡ accept (machine-of s ns bs) k (c .own) (answers a)) × (changes (r .out) k ≡ true) ⌝ }
 {
     let n = one_more_own_step(c.own);
-    let x = idle();
+    let x = state::idle();
     Moved {
         out: Output::End(a, n),
         head: s.head,

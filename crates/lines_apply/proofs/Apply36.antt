@@ -15,12 +15,12 @@ use Rattle.spec.specs.declared.Answer.the-variants as ans
 use Rattle.spec.specs.Words.{number, changeable, tags, overwrite, bucket-of, put-tags}
 use Rattle.spec.specs.Listed.{tags-of, listed}
 use Rattle.laws.specs.Answers.{insert-full, insert-no, insert-yes}
+use Rattle.laws.specs.StepAt.{step-table, here, next, accepted, refused-8}
 use Rattle.spec.specs.Lines.{answer-36, insert-write, moves, answers, answers-writing, insert-36, remove-36, line-36, frozen}
 use Rattle.spec.specs.StepRefusals.{overfull-36}
 use Rattle.spec.specs.Entries.{refuse, accept, step-running}
 use Rattle.bucket.specs.declared.Response.the-variants.{Yes, No, Frozen, Full}
 use Rattle.pool.specs.Pool.{add-answer, add-words, remove-answer, remove-words}
-use Rattle.lines_apply.proofs.Laws.{past-36, pass-36}
 
 -- ---- what a bucket answers, read back
 
@@ -104,14 +104,15 @@ module _ (w : List ℕ) (k x : ℕ) where
 -- ---- line 36
 
 module _ (y : Machine) (k : ℕ) (c : Task) (h : c .line ≡ 36) (nb : c .b ≡ 0 → ⊥) where
-  T : List ℕ
-  T = tags (y .buckets) (number (c .b))
+  passes : overfull-36 y c ≡ false → step-running y k c ≡ accept y k (c .own) (line-36 y c)
+  unfolding step-table
+  passes o = accepted y c 36 h k (nb, o) tt
 
   pub frozen-36 : changeable (y .buckets) (number (c .b)) ≡ 0 → step-running y k c ≡ accept y k (c .own) (moves (with-line 32 (with-i 0 (without-places c))))
   unfolding overfull-36 line-36
   frozen-36 e =
       let o : overfull-36 y c ≡ false = rw (eq-eqb _ _ e) in
-      pass-36 y k c h nb o ∙ rw (eq-eqb _ _ e)
+      passes o ∙ rw (eq-eqb _ _ e)
 
   module _ (nf : changeable (y .buckets) (number (c .b)) ≡ 0 → ⊥) where
     module _ (call : c .call ≡ 1) where
@@ -120,7 +121,7 @@ module _ (y : Machine) (k : ℕ) (c : Task) (h : c .line ≡ 36) (nb : c .b ≡ 
       full-36 e =
           let a : answer-36 y c ≡ ans.Full = insert-full _ _ (leb-true _ _ e) in
           let o : overfull-36 y c ≡ false = rw a (and-false (not (frozen y (c .b)) && eqb (c .call) 1 && leb 64 (length (tags-of y (c .b))))) in
-          pass-36 y k c h nb o ∙ rw (ne-eqb _ _ nf, eq-eqb _ _ call, a)
+          passes o ∙ rw (ne-eqb _ _ nf, eq-eqb _ _ call, a)
 
       module _ (room : leb 64 (length (listed y)) ≡ false) where
         pub yes-36 : member (c .tag) (tags (y .buckets) (number (c .b))) ≡ false → leb 64 (length (tags (y .buckets) (number (c .b)))) ≡ false
@@ -129,21 +130,22 @@ module _ (y : Machine) (k : ℕ) (c : Task) (h : c .line ≡ 36) (nb : c .b ≡ 
         yes-36 m l =
             let a : answer-36 y c ≡ ans.Yes = insert-yes _ _ (leb-false _ _ room) m in
             let o : overfull-36 y c ≡ false = rw (ne-eqb _ _ nf, eq-eqb _ _ call, l) in
-            pass-36 y k c h nb o ∙ rw (ne-eqb _ _ nf, eq-eqb _ _ call, a)
+            passes o ∙ rw (ne-eqb _ _ nf, eq-eqb _ _ call, a)
 
         pub no-36 : member (c .tag) (tags (y .buckets) (number (c .b))) ≡ true → step-running y k c ≡ accept y k (c .own) (answers ans.No)
         unfolding overfull-36 line-36 insert-36 answer-36 insert-write tags-of
         no-36 m =
             let a : answer-36 y c ≡ ans.No = insert-no _ _ (leb-false _ _ room) m in
             let o : overfull-36 y c ≡ false = rw a (and-false (not (frozen y (c .b)) && eqb (c .call) 1 && leb 64 (length (tags-of y (c .b))))) in
-            pass-36 y k c h nb o ∙ rw (ne-eqb _ _ nf, eq-eqb _ _ call, a)
+            passes o ∙ rw (ne-eqb _ _ nf, eq-eqb _ _ call, a)
 
         pub over-36 : member (c .tag) (tags (y .buckets) (number (c .b))) ≡ false → leb 64 (length (tags (y .buckets) (number (c .b)))) ≡ true
             → step-running y k c ≡ refuse 8 y
-        unfolding overfull-36 answer-36 tags-of
+        unfolding step-table overfull-36 answer-36 tags-of
         over-36 m l =
             let a : answer-36 y c ≡ ans.Yes = insert-yes _ _ (leb-false _ _ room) m in
-            past-36 y k c h nb (rw (ne-eqb _ _ nf, eq-eqb _ _ call, l, a))
+            let o : overfull-36 y c ≡ true = rw (ne-eqb _ _ nf, eq-eqb _ _ call, l, a) in
+            refused-8 y c 36 h k (next (here o))
 
     module _ (call : c .call ≡ 1 → ⊥) where
       o : overfull-36 y c ≡ false
@@ -153,8 +155,8 @@ module _ (y : Machine) (k : ℕ) (c : Task) (h : c .line ≡ 36) (nb : c .b ≡ 
       pub gone-36 : member (c .tag) (tags (y .buckets) (number (c .b))) ≡ true
           → step-running y k c ≡ accept y k (c .own) (answers-writing (put-tags (number (c .b)) (remove-tag (c .tag) (tags (y .buckets) (number (c .b))))) ans.Yes)
       unfolding line-36 remove-36 tags-of
-      gone-36 m = pass-36 y k c h nb o ∙ rw (ne-eqb _ _ nf, ne-eqb _ _ call, m)
+      gone-36 m = passes o ∙ rw (ne-eqb _ _ nf, ne-eqb _ _ call, m)
 
       pub absent-36 : member (c .tag) (tags (y .buckets) (number (c .b))) ≡ false → step-running y k c ≡ accept y k (c .own) (answers ans.No)
       unfolding line-36 remove-36 tags-of
-      absent-36 m = pass-36 y k c h nb o ∙ rw (ne-eqb _ _ nf, ne-eqb _ _ call, m)
+      absent-36 m = passes o ∙ rw (ne-eqb _ _ nf, ne-eqb _ _ call, m)

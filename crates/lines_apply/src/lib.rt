@@ -11,44 +11,25 @@ ghost use Prim.Native.Nat.{ℕ, _≤_, _<_};
 ghost use Rattle.spec.specs.Sound.{sound};
 ghost use Rattle.spec.specs.Machine.{machine-of};
 ghost use Rattle.spec.specs.Entries.{step-running};
-ghost use Rattle.lines.specs.Reply.{moved-reply};
+ghost use Rattle.lines.specs.Reply.{Gives};
 ghost use Rattle.lines.specs.Running.{Runs, apply-lines};
-
-// t <- head
-pub fn line32(s: State, k: usize, c: Task) -> Moved
-    requires { ⌜ (k < 8) × (c .line ≡ 32) × (s .head < 64) ⌝ }
-    ensures { λ r. ⌜ ((ns bs : List ℕ) → moved-reply s k r ns bs ≡ step-running (machine-of s ns bs) k c) ⌝ }
-{
-    let mut x = c;
-    x.t = s.head + 1;
-    lines::go(s, k, x, 33)
-}
 
 // b <- t.buckets[k mod t.size]; if b = nil (line 34) INITBUCKET
 pub fn line33(s: State, k: usize, c: Task, ns: &[u32]) -> Moved
     requires { ⌜ (k < 8) × (c .line ≡ 33) ⌝ }
-    ensures { λ r. ⌜ ((bs : List ℕ) → moved-reply s k r (now (ns .entry)) bs ≡ step-running (machine-of s (now (ns .entry)) bs) k c) ⌝ }
+    ensures { λ r. ⌜ ((bs : List ℕ) → Gives s k r (now (ns .entry)) bs (step-running (machine-of s (now (ns .entry)) bs) k c)) ⌝ }
 {
     let t = c.t;
-    if t == 0 {
-        return lines::refused(s, 8);
-    }
-    let b = pool::place_for(ns, t, c.tag);
+    let g = s.config;
     let z = pool::size_of(ns, t);
-    let i = bucket::slot(c.tag, z);
-    let mut x = c;
-    x.b = b;
-    if b == 0 {
-        x.i = i;
-        return lines::go(s, k, x, 39);
-    }
-    lines::go(s, k, x, 36)
+    let i = bucket::slot(g, c.tag, z);
+    lines_contains::read_bucket(s, k, c, t, 36, i, 39, ns)
 }
 
 // INVOKE(b, op): a frozen bucket sends the task back to line 32
 pub fn line36(s: State, k: usize, c: Task, ns: &[u32], bs: &mut [u32]) -> Moved
     requires { ⌜ (k < 8) × (c .line ≡ 36) × (sound (machine-of s (now ns) (now bs)) ≡ true) × (c .b ≤ s .buckets) ⌝ }
-    ensures { λ r. ⌜ moved-reply s k r (now (ns .entry)) (now (bs .exit)) ≡ step-running (machine-of s (now (ns .entry)) (now (bs .entry))) k c ⌝ }
+    ensures { λ r. ⌜ Gives s k r (now (ns .entry)) (now (bs .exit)) (step-running (machine-of s (now (ns .entry)) (now (bs .entry))) k c) ⌝ }
 {
     let b = c.b;
     if b == 0 {
@@ -94,11 +75,12 @@ pub fn line36(s: State, k: usize, c: Task, ns: &[u32], bs: &mut [u32]) -> Moved
 // The line at which task k stands.
 pub fn step(s: State, k: usize, c: Task, ns: &[u32], bs: &mut [u32]) -> Moved
     requires { ⌜ Runs (machine-of s (now ns) (now bs)) k c apply-lines ⌝ }
-    ensures { λ r. ⌜ moved-reply s k r (now (ns .entry)) (now (bs .exit)) ≡ step-running (machine-of s (now (ns .entry)) (now (bs .entry))) k c ⌝ }
+    ensures { λ r. ⌜ Gives s k r (now (ns .entry)) (now (bs .exit)) (step-running (machine-of s (now (ns .entry)) (now (bs .entry))) k c) ⌝ }
 {
     let line = c.line;
     match line {
-        32 => line32(s, k, c),
+        // t <- head
+        32 => lines_contains::read_head(s, k, c, 33),
         33 => line33(s, k, c, ns),
         _ => line36(s, k, c, ns, bs),
     }

@@ -47,14 +47,16 @@ module _ (a b : Bucket) where
       go false p e = leb-false _ _ p
 
   joined-fine : (joined a b .answer ≡ Full → ⊥)
-      → (length (union (tags-in (a .words)) (tags-in (b .words))) ≤ 64) × (joined a b .bucket .words ≡ bucket-of 1 (union (tags-in (a .words)) (tags-in (b .words))))
+      → (length (union (tags-in (a .words)) (tags-in (b .words))) ≤ 64) ×
+      (joined a b .bucket .words ≡ bucket-of 1 (union (tags-in (a .words)) (tags-in (b .words))))
   unfolding joined
   joined-fine = go (leb (length (union (tags-in (a .words)) (tags-in (b .words)))) 64) refl
     where
       go : (t : Bool) → leb (length (union (tags-in (a .words)) (tags-in (b .words)))) 64 ≡ t
           → ((if t then changed (bucket-of 1 (union (tags-in (a .words)) (tags-in (b .words)))) Yes else changed (b .words) Full) .answer ≡ Full → ⊥)
           → (length (union (tags-in (a .words)) (tags-in (b .words))) ≤ 64)
-          × ((if t then changed (bucket-of 1 (union (tags-in (a .words)) (tags-in (b .words)))) Yes else changed (b .words) Full) .bucket .words ≡ bucket-of 1 (union (tags-in (a .words)) (tags-in (b .words))))
+          × ((if t then changed (bucket-of 1 (union (tags-in (a .words)) (tags-in (b .words)))) Yes else changed (b .words) Full) .bucket .words ≡ bucket-of 1
+          (union (tags-in (a .words)) (tags-in (b .words))))
       go true p e = (leb-true _ _ p, refl)
       go false p e = absurd (e refl)
 

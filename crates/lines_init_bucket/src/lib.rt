@@ -1,5 +1,6 @@
 // INITBUCKET, lines 39, 40, 50 and 51 of Figure 2: filling place i of t. What is put there is made by lines 43 to 49, in `lines_gather`.
 use lines::Moved;
+use lines_gather::Field;
 use spec::State;
 use spec::Task;
 ghost use mathlib.Core.Path.{_≡_};
@@ -8,33 +9,13 @@ ghost use Prim.Native.Nat.{ℕ, _<_};
 ghost use Rattle.spec.specs.Sound.{resizes};
 ghost use Rattle.spec.specs.Machine.{machine-of};
 ghost use Rattle.spec.specs.Entries.{step-running};
-ghost use Rattle.lines.specs.Reply.{moved-reply};
+ghost use Rattle.lines.specs.Reply.{Gives};
 ghost use Rattle.lines.specs.Running.{Runs, init-bucket-lines};
-
-// b <- t.buckets[i]
-pub fn line39(s: State, k: usize, c: Task, ns: &[u32]) -> Moved
-    requires { ⌜ (k < 8) × (c .line ≡ 39) ⌝ }
-    ensures { λ r. ⌜ ((bs : List ℕ) → moved-reply s k r (now (ns .entry)) bs ≡ step-running (machine-of s (now (ns .entry)) bs) k c) ⌝ }
-{
-    let t = c.t;
-    if t == 0 {
-        return lines::refused(s, 8);
-    }
-    let i = c.i;
-    let z = pool::size_of(ns, t);
-    if z <= i {
-        return lines::refused(s, 8);
-    }
-    let b = pool::place_of(ns, t, i);
-    let mut x = c;
-    x.b = b;
-    lines::go(s, k, x, 40)
-}
 
 // s <- t.pred, and the tests of lines 41 and 42
 pub fn line40(s: State, k: usize, c: Task, ns: &[u32]) -> Moved
     requires { ⌜ (k < 8) × (c .line ≡ 40) ⌝ }
-    ensures { λ r. ⌜ ((bs : List ℕ) → moved-reply s k r (now (ns .entry)) bs ≡ step-running (machine-of s (now (ns .entry)) bs) k c) ⌝ }
+    ensures { λ r. ⌜ ((bs : List ℕ) → Gives s k r (now (ns .entry)) bs (step-running (machine-of s (now (ns .entry)) bs) k c)) ⌝ }
 {
     let t = c.t;
     if t == 0 {
@@ -61,7 +42,7 @@ pub fn line40(s: State, k: usize, c: Task, ns: &[u32]) -> Moved
 // CAS(t.buckets[i], nil, b')
 pub fn line50(s: State, k: usize, c: Task, ns: &mut [u32]) -> Moved
     requires { ⌜ (k < 8) × (c .line ≡ 50) ⌝ }
-    ensures { λ r. ⌜ ((bs : List ℕ) → moved-reply s k r (now (ns .exit)) bs ≡ step-running (machine-of s (now (ns .entry)) bs) k c) ⌝ }
+    ensures { λ r. ⌜ ((bs : List ℕ) → Gives s k r (now (ns .exit)) bs (step-running (machine-of s (now (ns .entry)) bs) k c)) ⌝ }
 {
     let t = c.t;
     if t == 0 {
@@ -97,7 +78,7 @@ fn is_resize(call: u32) -> bool
 // return t.buckets[i]
 pub fn line51(s: State, k: usize, c: Task, ns: &[u32]) -> Moved
     requires { ⌜ (k < 8) × (c .line ≡ 51) ⌝ }
-    ensures { λ r. ⌜ ((bs : List ℕ) → moved-reply s k r (now (ns .entry)) bs ≡ step-running (machine-of s (now (ns .entry)) bs) k c) ⌝ }
+    ensures { λ r. ⌜ ((bs : List ℕ) → Gives s k r (now (ns .entry)) bs (step-running (machine-of s (now (ns .entry)) bs) k c)) ⌝ }
 {
     let t = c.t;
     if t == 0 {
@@ -128,11 +109,12 @@ pub fn line51(s: State, k: usize, c: Task, ns: &[u32]) -> Moved
 // The line at which task k stands; those from 43 to 49, and 52, are in `lines_gather`.
 pub fn step(s: State, k: usize, c: Task, ns: &mut [u32], bs: &mut [u32]) -> Moved
     requires { ⌜ Runs (machine-of s (now ns) (now bs)) k c init-bucket-lines ⌝ }
-    ensures { λ r. ⌜ moved-reply s k r (now (ns .exit)) (now (bs .exit)) ≡ step-running (machine-of s (now (ns .entry)) (now (bs .entry))) k c ⌝ }
+    ensures { λ r. ⌜ Gives s k r (now (ns .exit)) (now (bs .exit)) (step-running (machine-of s (now (ns .entry)) (now (bs .entry))) k c) ⌝ }
 {
     let line = c.line;
     match line {
-        39 => line39(s, k, c, ns),
+        // b <- t.buckets[i]
+        39 => lines_gather::read_place(s, k, c, Field::B, c.t, c.i as usize, 40, ns),
         40 => line40(s, k, c, ns),
         50 => line50(s, k, c, ns),
         51 => line51(s, k, c, ns),

@@ -10,7 +10,7 @@ ghost use lib.ListN.{length};
 ghost use Rattle.spec.specs.Machine.{machine-of};
 ghost use Rattle.spec.specs.Lines.{at-limit};
 ghost use Rattle.spec.specs.Entries.{step-running};
-ghost use Rattle.lines.specs.Reply.{moved-reply};
+ghost use Rattle.lines.specs.Reply.{Gives};
 ghost use Rattle.lines.specs.Running.{Runs, resize-lines};
 ghost use Rattle.lines_resize.specs.Made.{Sized};
 
@@ -27,7 +27,7 @@ fn at_limit(call: u32, z: u32) -> bool
 // t <- head, and the tests of lines 21 and 22
 pub fn line20(s: State, k: usize, c: Task, ns: &[u32]) -> Moved
     requires { ⌜ (k < 8) × (c .line ≡ 20) × (s .head < 64) ⌝ }
-    ensures { λ r. ⌜ ((bs : List ℕ) → moved-reply s k r (now (ns .entry)) bs ≡ step-running (machine-of s (now (ns .entry)) bs) k c) ⌝ }
+    ensures { λ r. ⌜ ((bs : List ℕ) → Gives s k r (now (ns .entry)) bs (step-running (machine-of s (now (ns .entry)) bs) k c)) ⌝ }
 {
     let h = s.head + 1;
     let z = pool::size_of(ns, h);
@@ -43,7 +43,7 @@ pub fn line20(s: State, k: usize, c: Task, ns: &[u32]) -> Moved
 // t.pred <- nil
 pub fn line24(s: State, k: usize, c: Task, ns: &mut [u32]) -> Moved
     requires { ⌜ (k < 8) × (c .line ≡ 24) ⌝ }
-    ensures { λ r. ⌜ ((bs : List ℕ) → moved-reply s k r (now (ns .exit)) bs ≡ step-running (machine-of s (now (ns .entry)) bs) k c) ⌝ }
+    ensures { λ r. ⌜ ((bs : List ℕ) → Gives s k r (now (ns .exit)) bs (step-running (machine-of s (now (ns .entry)) bs) k c)) ⌝ }
 {
     let t = c.t;
     if t == 0 {
@@ -78,7 +78,7 @@ fn new_size(call: u32, z: u32) -> u32
 // t' <- a new node of twice or half the size, with predecessor t
 pub fn line27(s: State, k: usize, c: Task, ns: &mut [u32]) -> Moved
     requires { ⌜ (k < 8) × (c .line ≡ 27) × (s .head < 64) × (s .nodes ≤ 64) × (s .«last_node» < s .nodes) × (length (now ns) ≡ 34 * s .nodes) ⌝ }
-    ensures { λ r. ⌜ ((bs : List ℕ) → moved-reply s k r (now (ns .exit)) bs ≡ step-running (machine-of s (now (ns .entry)) bs) k c) ⌝ }
+    ensures { λ r. ⌜ ((bs : List ℕ) → Gives s k r (now (ns .exit)) bs (step-running (machine-of s (now (ns .entry)) bs) k c)) ⌝ }
 {
     let t = c.t;
     if t == 0 {
@@ -104,7 +104,7 @@ pub fn line27(s: State, k: usize, c: Task, ns: &mut [u32]) -> Moved
 // CAS(head, t, t')
 pub fn line28(s: State, k: usize, c: Task) -> Moved
     requires { ⌜ (k < 8) × (c .line ≡ 28) × (s .head < 64) ⌝ }
-    ensures { λ r. ⌜ ((ns bs : List ℕ) → moved-reply s k r ns bs ≡ step-running (machine-of s ns bs) k c) ⌝ }
+    ensures { λ r. ⌜ ((ns bs : List ℕ) → Gives s k r ns bs (step-running (machine-of s ns bs) k c)) ⌝ }
 {
     let t = c.t;
     if t == 0 {
@@ -126,7 +126,7 @@ pub fn line28(s: State, k: usize, c: Task) -> Moved
 // The line at which task k stands.
 pub fn step(s: State, k: usize, c: Task, ns: &mut [u32]) -> Moved
     requires { ⌜ ((bs : List ℕ) × Runs (machine-of s (now ns) bs) k c resize-lines) ⌝ }
-    ensures { λ r. ⌜ ((bs : List ℕ) → moved-reply s k r (now (ns .exit)) bs ≡ step-running (machine-of s (now (ns .entry)) bs) k c) ⌝ }
+    ensures { λ r. ⌜ ((bs : List ℕ) → Gives s k r (now (ns .exit)) bs (step-running (machine-of s (now (ns .entry)) bs) k c)) ⌝ }
 {
     let line = c.line;
     match line {

@@ -8,6 +8,7 @@ use native.Mathlib.Omega.{arith}
 use borrow.Author.Tests.{eq-eqb, ne-eqb}
 use lib.ListN.{length, getD, drop, drop-of-length-le}
 use lib.Seq.{drop-cons}
+use Rattle.spec.specs.declared.Config.{Config}
 use Rattle.spec.specs.Lists.{if_then_else_, filter}
 use Rattle.spec.specs.Words.{number, pred, place}
 use Rattle.bucket.specs.declared.Bucket.{Bucket}
@@ -52,33 +53,35 @@ adds-one g x xs = refl
 
 -- ---- a node's places, one by one
 
-module _ (ns bs : List ℕ) (head k : ℕ) (old : Bool) (j : ℕ) where
-  pub places-on : j < 32 → places-tags ns bs head k old j (32 - j) ≡ place-tags ns bs head k old j ++ places-tags ns bs head k old (j + 1) (32 - (j + 1))
+module _ (g : Config) (ns bs : List ℕ) (head k : ℕ) (old : Bool) (j : ℕ) where
+  pub places-on : j < 32 → places-tags g ns bs head k old j (32 - j) ≡ place-tags g ns bs head k old j ++ places-tags g ns bs head k old (j + 1) (32 - (j + 1))
   unfolding places-tags
   places-on h = let e : 32 - j ≡ suc (32 - (j + 1)) = omega arith in rw (e, add-one j)
 
-  pub places-none : 32 ≤ j → places-tags ns bs head k old j (32 - j) ≡ []
+  pub places-none : 32 ≤ j → places-tags g ns bs head k old j (32 - j) ≡ []
   unfolding places-tags
   places-none h = let e : 32 - j ≡ 0 = omega arith in rw e
 
   -- the bucket that the place names, read out of the pool
   module _ (l : ℕ) (e : l ≡ place ns k j) where
-    pub place-empty : l ≡ 0 → place-tags ns bs head k old j ≡ []
+    pub place-empty : l ≡ 0 → place-tags g ns bs head k old j ≡ []
     unfolding place-tags linked-tags filter
     place-empty z = rw (← e, eq-eqb l 0 z)
 
-    pub place-filled : (l ≡ 0 → ⊥) → (b : Bucket) → b ≡ bucket-at bs (l - 1) → place-tags ns bs head k old j ≡ filter (looked-up ns head k old j) (tags-in (b .words))
+    pub place-filled : (l ≡ 0 → ⊥) → (b : Bucket) → b ≡ bucket-at bs (l - 1)
+        → place-tags g ns bs head k old j ≡ filter (looked-up g ns head k old j) (tags-in (b .words))
     unfolding place-tags linked-tags
     place-filled z b q = rw (← e, ne-eqb l 0 z, q)
 
 -- ---- both nodes
 
-module _ (ns bs : List ℕ) (head : ℕ) where
-  pub set-alone : pred ns head ≡ 0 → set-tags ns bs head ≡ places-tags ns bs head head false 0 32
+module _ (g : Config) (ns bs : List ℕ) (head : ℕ) where
+  pub set-alone : pred ns head ≡ 0 → set-tags g ns bs head ≡ places-tags g ns bs head head false 0 32
   unfolding set-tags
-  set-alone z = rw (eq-eqb _ _ z) (append-nil (places-tags ns bs head head false 0 32))
+  set-alone z = rw (eq-eqb _ _ z) (append-nil (places-tags g ns bs head head false 0 32))
 
-  pub set-both : (pred ns head ≡ 0 → ⊥) → set-tags ns bs head ≡ places-tags ns bs head head false 0 32 ++ places-tags ns bs head (number (pred ns head)) true 0 32
+  pub set-both : (pred ns head ≡ 0 → ⊥)
+      → set-tags g ns bs head ≡ places-tags g ns bs head head false 0 32 ++ places-tags g ns bs head (number (pred ns head)) true 0 32
   unfolding set-tags
   set-both z = rw (ne-eqb _ _ z)
 

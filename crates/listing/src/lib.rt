@@ -3,6 +3,7 @@
 // place is looked at once.
 use bucket::Bucket;
 use bucket::Response;
+use spec::Config;
 use spec::State;
 ghost use mathlib.Core.Path.{_≡_};
 ghost use Prim.Native.Nat.{_≤_};
@@ -12,16 +13,16 @@ ghost use Rattle.listing.specs.Listing.{looked-up, place-tags, places-ta
 // ---- where a tag is looked up
 
 // Place j of node k is where the tag is looked up. For the head's predecessor, `old`, the head's own place must be empty.
-fn is_looked_up(ns: &[u32], head: u32, k: u32, old: bool, j: u32, tag: u32) -> bool
-    ensures { λ r. ⌜ r ≡ looked-up (now (ns .entry)) head k old j tag ⌝ }
+fn is_looked_up(g: Config, ns: &[u32], head: u32, k: u32, old: bool, j: u32, tag: u32) -> bool
+    ensures { λ r. ⌜ r ≡ looked-up g (now (ns .entry)) head k old j tag ⌝ }
 {
     let z = pool::size_at(ns, k);
-    let i = bucket::slot(tag, z);
+    let i = bucket::slot(g, tag, z);
     if i != j {
         return false;
     }
     if old {
-        let p = pool::place_for_at(ns, head, tag);
+        let p = pool::place_for_at(ns, head, g, tag);
         return p == 0;
     }
     true
@@ -29,8 +30,8 @@ fn is_looked_up(ns: &[u32], head: u32, k: u32, old: bool, j: u32, tag: u32) -> b
 
 // ---- how many
 
-fn count_place(ns: &[u32], bs: &[u32], head: u32, k: u32, old: bool, j: u32) -> u32
-    ensures { λ r. ⌜ (r ≡ length (place-tags (now (ns .entry)) (now (bs .entry)) head k old j)) × (r ≤ 64) ⌝ }
+fn count_place(g: Config, ns: &[u32], bs: &[u32], head: u32, k: u32, old: bool, j: u32) -> u32
+    ensures { λ r. ⌜ (r ≡ length (place-tags g (now (ns .entry)) (now (bs .entry)) head k old j)) × (r ≤ 64) ⌝ }
 {
     let l = pool::place_at(ns, k, j);
     if l == 0 {
@@ -42,7 +43,7 @@ fn count_place(ns: &[u32], bs: &[u32], head: u32, k: u32, old: bool, j: u32) -> 
     let mut found: u32 = 0;
     let mut i = 0;
     while i < n {
-        if is_looked_up(ns, head, k, old, j, w[2 + i]) {
+        if is_looked_up(g, ns, head, k, old, j, w[2 + i]) {
             found += 1;
         }
         i += 1;
@@ -50,13 +51,13 @@ fn count_place(ns: &[u32], bs: &[u32], head: u32, k: u32, old: bool, j: u32) -> 
     found
 }
 
-fn count_node(ns: &[u32], bs: &[u32], head: u32, k: u32, old: bool) -> u32
-    ensures { λ r. ⌜ (r ≡ length (places-tags (now (ns .entry)) (now (bs .entry)) head k old 0 32)) × (r ≤ 2048) ⌝ }
+fn count_node(g: Config, ns: &[u32], bs: &[u32], head: u32, k: u32, old: bool) -> u32
+    ensures { λ r. ⌜ (r ≡ length (places-tags g (now (ns .entry)) (now (bs .entry)) head k old 0 32)) × (r ≤ 2048) ⌝ }
 {
     let mut found: u32 = 0;
     let mut j: u32 = 0;
-    while j < 32 {
-        let n = count_place(ns, bs, head, k, old, j);
+    while j < pool::PLACES {
+        let n = count_place(g, ns, bs, head, k, old, j);
         found += n;
         j += 1;
     }
@@ -64,16 +65,17 @@ fn count_node(ns: &[u32], bs: &[u32], head: u32, k: u32, old: bool) -> u32
 }
 
 pub fn count(s: State, ns: &[u32], bs: &[u32]) -> u32
-    ensures { λ r. ⌜ r ≡ length (set-tags (now (ns .entry)) (now (bs .entry)) (s .head)) ⌝ }
+    ensures { λ r. ⌜ r ≡ length (set-tags (s .config) (now (ns .entry)) (now (bs .entry)) (s .head)) ⌝ }
 {
+    let g = s.config;
     let head = s.head;
-    let a = count_node(ns, bs, head, head, false);
+    let a = count_node(g, ns, bs, head, head, false);
     let q = pool::pred_at(ns, head);
     if q == 0 {
         return a;
     }
     let k = pool::number_of(q);
-    let b = count_node(ns, bs, head, k, true);
+    let b = count_node(g, ns, bs, head, k, true);
     a + b
 }
 
@@ -109,28 +111,29 @@ fn add_to(g: Gathered, tag: u32) -> Gathered
 }
 
 fn gather_place(
+    g: Config,
     ns: &[u32],
     bs: &[u32],
     head: u32,
     k: u32,
     old: bool,
     j: u32,
-    g: Gathered,
+    had: Gathered,
 ) -> Gathered
-    ensures { λ r. ⌜ r ≡ adds g (place-tags (now (ns .entry)) (now (bs .entry)) head k old j) ⌝ }
+    ensures { λ r. ⌜ r ≡ adds had (place-tags g (now (ns .entry)) (now (bs .entry)) head k old j) ⌝ }
 {
     let l = pool::place_at(ns, k, j);
     if l == 0 {
-        return g;
+        return had;
     }
     let b = pool::buckets::load(bs, l as usize - 1);
     let w = b.words;
     let n = b.count();
-    let mut out = g;
+    let mut out = had;
     let mut i = 0;
     while i < n {
         let t = w[2 + i];
-        if is_looked_up(ns, head, k, old, j, t) {
+        if is_looked_up(g, ns, head, k, old, j, t) {
             let o = add_to(out, t);
             out = o;
         }
@@ -139,13 +142,21 @@ fn gather_place(
     out
 }
 
-fn gather_node(ns: &[u32], bs: &[u32], head: u32, k: u32, old: bool, g: Gathered) -> Gathered
-    ensures { λ r. ⌜ r ≡ adds g (places-tags (now (ns .entry)) (now (bs .entry)) head k old 0 32) ⌝ }
+fn gather_node(
+    g: Config,
+    ns: &[u32],
+    bs: &[u32],
+    head: u32,
+    k: u32,
+    old: bool,
+    had: Gathered,
+) -> Gathered
+    ensures { λ r. ⌜ r ≡ adds had (places-tags g (now (ns .entry)) (now (bs .entry)) head k old 0 32) ⌝ }
 {
-    let mut out = g;
+    let mut out = had;
     let mut j: u32 = 0;
-    while j < 32 {
-        let o = gather_place(ns, bs, head, k, old, j, out);
+    while j < pool::PLACES {
+        let o = gather_place(g, ns, bs, head, k, old, j, out);
         out = o;
         j += 1;
     }
@@ -153,20 +164,21 @@ fn gather_node(ns: &[u32], bs: &[u32], head: u32, k: u32, old: bool, g: Gathered
 }
 
 pub fn gather(s: State, ns: &[u32], bs: &[u32]) -> Gathered
-    ensures { λ r. ⌜ r ≡ adds nothing (set-tags (now (ns .entry)) (now (bs .entry)) (s .head)) ⌝ }
+    ensures { λ r. ⌜ r ≡ adds nothing (set-tags (s .config) (now (ns .entry)) (now (bs .entry)) (s .head)) ⌝ }
 {
+    let g = s.config;
     let head = s.head;
-    let mut w = [0u32; 66];
+    let mut w = [0u32; bucket::WORDS];
     w[0] = 1;
     let z = Gathered {
         full: false,
         bucket: Bucket { words: w },
     };
-    let x = gather_node(ns, bs, head, head, false, z);
+    let x = gather_node(g, ns, bs, head, head, false, z);
     let q = pool::pred_at(ns, head);
     if q == 0 {
         return x;
     }
     let k = pool::number_of(q);
-    gather_node(ns, bs, head, k, true, x)
+    gather_node(g, ns, bs, head, k, true, x)
 }

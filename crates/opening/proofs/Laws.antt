@@ -1,20 +1,24 @@
--- Laws of an opening, a case each.
+-- Laws of an opening: its refusal decides what it gives, and an accepted one has pools that fit.
 -- Assumes nothing.
-use mathlib.Core.Path.{_≡_}
+use mathlib.Core.Path.{_≡_, refl}
 use mathlib.Core.List.{List, _∷_}
-use mathlib.Core.Bool.{Bool, true, false, _&&_}
+use mathlib.Core.Bool.{Bool, true, false, not, _&&_}
 use Prim.Native.Nat.{ℕ, suc, _-_, _*_, _%_, _/_, _<_, _≤_}
 use native.Mathlib.Omega.{arith}
-use borrow.Author.Tests.{le-leb, lt-leb, eqb-true, leb-true}
+use borrow.Author.Tests.{eqb-true, leb-true}
 use lib.Dec.{leb, eqb}
-use lib.ListN.{length, set, replicate}
+use lib.ListN.{length, replicate}
 use Rattle.laws.specs.Tests.{and-left, and-right}
-use Rattle.spec.specs.Entries.{opening, not-opened, fresh-machine, pool-fits}
+use Rattle.spec.specs.declared.Config.{Config}
+use Rattle.spec.specs.Lists.{if_then_else_}
+use Rattle.spec.specs.Sound.{within}
+use Rattle.spec.specs.Entries.{Opened, opening, not-opened, fresh-machine, pool-fits}
+use Rattle.opening.specs.Opening.{refusal-of, first-node, first-bucket}
 
-pub blank-nodes : (n h : ℕ) → n ≡ 34 * h → 0 < h → set {A = ℕ} (set (replicate n 0) 0 1) 2 1 ≡ 1 ∷ 0 ∷ 1 ∷ replicate (34 * h - 3) 0
+pub blank-nodes : (n h : ℕ) → n ≡ 34 * h → 0 < h → first-node n ≡ 1 ∷ 0 ∷ 1 ∷ replicate (34 * h - 3) 0
 blank-nodes n h e z = let q : n ≡ suc (suc (suc (34 * h - 3))) = omega arith in rw q
 
-pub blank-buckets : (n b : ℕ) → n ≡ 66 * b → 0 < b → set {A = ℕ} (replicate n 0) 0 1 ≡ 1 ∷ replicate (66 * b - 1) 0
+pub blank-buckets : (n b : ℕ) → n ≡ 66 * b → 0 < b → first-bucket n ≡ 1 ∷ replicate (66 * b - 1) 0
 blank-buckets n b e z = let q : n ≡ suc (66 * b - 1) = omega arith in rw q
 
 pub record Pool (width most words : ℕ) : Type 0 where
@@ -31,25 +35,63 @@ pool-of width most words e =
     let r : (b && c) ≡ true = and-right a (b && c) e in
     record { even = eqb-true _ _ (and-left a (b && c) e); some = leb-true _ _ (and-left b c r); few = leb-true _ _ (and-right b c r) }
 
-module _ (t : ℕ) (ns bs : List ℕ) where
-  pub open-none : t < 1 → opening t ns bs ≡ not-opened 1 ns bs
-  unfolding opening
-  open-none h = rw (lt-leb _ _ h)
+-- ---- the conditions in their order: the first that fails gives the refusal
 
-  pub open-many : 1 ≤ t → 8 < t → opening t ns bs ≡ not-opened 1 ns bs
-  unfolding opening
-  open-many l h = rw (le-leb _ _ l, lt-leb _ _ h)
+abbrev chosen : {A : Type 0} → (ℕ → A) → A → Bool → Bool → Bool → A
+chosen refused opened tasks nodes buckets =
+    if not tasks then refused 1 else if not nodes then refused 2 else if not buckets then refused 3 else opened
 
-  module _ (l : 1 ≤ t) (h : t ≤ 8) where
-    pub open-nodes : pool-fits 34 64 (length ns) ≡ false → opening t ns bs ≡ not-opened 2 ns bs
-    unfolding opening
-    open-nodes e = rw (le-leb _ _ l, le-leb _ _ h, e)
+first-fails : {A : Type 0} (refused : ℕ → A) (opened : A) (t n b : Bool)
+    → (chosen (λ k. k) 0 t n b ≡ 0 → ⊥) → chosen refused opened t n b ≡ refused (chosen (λ k. k) 0 t n b)
+first-fails refused opened false n b d = refl
+first-fails refused opened true false b d = refl
+first-fails refused opened true true false d = refl
+first-fails refused opened true true true d = absurd (d refl)
 
-    pub open-buckets : pool-fits 34 64 (length ns) ≡ true → pool-fits 66 1024 (length bs) ≡ false → opening t ns bs ≡ not-opened 3 ns bs
-    unfolding opening
-    open-buckets e f = rw (le-leb _ _ l, le-leb _ _ h, e, f)
+all-hold : (t n b : Bool) → chosen (λ k. k) 0 t n b ≡ 0 → (t ≡ true) × (n ≡ true) × (b ≡ true)
+all-hold false n b e = let z : _≡_ {A = ℕ} 1 0 = e in absurd (omega arith)
+all-hold true false b e = let z : _≡_ {A = ℕ} 2 0 = e in absurd (omega arith)
+all-hold true true false e = let z : _≡_ {A = ℕ} 3 0 = e in absurd (omega arith)
+all-hold true true true e = (refl, refl, refl)
 
-    pub open-goes : pool-fits 34 64 (length ns) ≡ true → pool-fits 66 1024 (length bs) ≡ true
-        → opening t ns bs ≡ record { refusal = 0; machine = fresh-machine t (length ns / 34) (length bs / 66) }
-    unfolding opening
-    open-goes e f = rw (le-leb _ _ l, le-leb _ _ h, e, f)
+whichever : {A : Type 0} (P : A → Type 0) (refused : ℕ → A) (opened : A) → ((k : ℕ) → k ≤ 3 → P (refused k)) → P opened
+    → (t n b : Bool) → P (chosen refused opened t n b)
+whichever P refused opened r o false n b = r 1 (omega arith)
+whichever P refused opened r o true false b = r 2 (omega arith)
+whichever P refused opened r o true true false = r 3 (omega arith)
+whichever P refused opened r o true true true = o
+
+module _ (g : Config) (ns bs : List ℕ) where
+  abbrev T-fits : Bool
+  T-fits = within 1 8 (g .tasks)
+
+  abbrev H-fits : Bool
+  H-fits = pool-fits 34 64 (length ns)
+
+  abbrev B-fits : Bool
+  B-fits = pool-fits 66 1024 (length bs)
+
+  abbrev why : ℕ
+  why = refusal-of g (length ns) (length bs)
+
+  abbrev opened : Opened
+  opened = record { refusal = 0; machine = fresh-machine g (length ns / 34) (length bs / 66) }
+
+  pub is-refused : (why ≡ 0 → ⊥) → opening g ns bs ≡ not-opened why ns bs
+  unfolding opening refusal-of
+  is-refused d = first-fails (λ r. not-opened r ns bs) opened T-fits H-fits B-fits d
+
+  pub record Accepted : Type 0 where
+    pub nodes-fit : Pool 34 64 (length ns)
+    pub buckets-fit : Pool 66 1024 (length bs)
+    pub gives : opening g ns bs ≡ opened
+
+  pub is-accepted : why ≡ 0 → Accepted
+  unfolding opening refusal-of
+  is-accepted e =
+      let p = all-hold T-fits H-fits B-fits e in
+      record { nodes-fit = pool-of 34 64 (length ns) (p .1); buckets-fit = pool-of 66 1024 (length bs) (p .2); gives = rw (p .0, p .1, p .2) }
+
+  pub refusal-small : opening g ns bs .refusal ≤ 9
+  unfolding opening not-opened
+  refusal-small = whichever (λ (o : Opened). o .refusal ≤ 9) (λ r. not-opened r ns bs) opened (λ k h. omega arith) (omega arith) T-fits H-fits B-fits

@@ -1,10 +1,16 @@
 // Opening the yard set on two lent pools.
+use spec::Config;
 use spec::State;
 ghost use mathlib.Core.Path.{_≡_};
 ghost use Prim.Native.Nat.{_<_};
 ghost use lib.ListN.{length, replicate};
 ghost use Rattle.spec.specs.Entries.{opening, pool-fits};
-ghost use Rattle.spec.specs.Machine.{state-of, machine-of};
+ghost use Rattle.spec.specs.Machine.{zero-config, state-of, machine-of};
+ghost use Rattle.opening.specs.Opening.{refusal-of, first-node, first-bucket};
+
+const MOST_NODES: usize = pool::MOST_NODES as usize;
+
+const MOST_BUCKETS: usize = pool::MOST_BUCKETS as usize;
 
 // What an opening gives: 0 or a refusal, and the state.
 pub struct Opened {
@@ -12,41 +18,7 @@ pub struct Opened {
     pub state: State,
 }
 
-fn zero(s: &mut [u32])
-    ensures { λ _. ⌜ now (s .exit) ≡ replicate (length (now (s .entry))) 0 ⌝ }
-{
-    let n = s.len();
-    let mut i = 0;
-    while i < n {
-        s[i] = 0;
-        i += 1;
-    }
-}
-
-fn state_with(t: u32, h: u32, b: u32) -> State
-    ensures { λ r. ⌜ r ≡ state-of t h b ⌝ }
-{
-    let c = lines::idle();
-    State {
-        tasks: t,
-        nodes: h,
-        buckets: b,
-        head: 0,
-        last_node: 0,
-        last_bucket: 0,
-        task: [c; 8],
-    }
-}
-
-fn not_open(why: u32) -> Opened
-    ensures { λ r. ⌜ (r .refusal ≡ why) × (r .state ≡ state-of 0 0 0) ⌝ }
-{
-    let z = state_with(0, 0, 0);
-    Opened {
-        refusal: why,
-        state: z,
-    }
-}
+// ---- which refusal
 
 // So many words are records of this width, 1 up to most.
 fn fits(width: usize, most: usize, words: usize) -> bool
@@ -66,32 +38,75 @@ fn fits(width: usize, most: usize, words: usize) -> bool
     true
 }
 
-// Opens the set on two lent pools.
-pub fn open(t: u32, ns: &mut [u32], bs: &mut [u32]) -> Opened
-    ensures { λ r. ⌜ (r .refusal ≡ opening t (now (ns .entry)) (now (bs .entry)) .refusal) × (machine-of (r .state) (now (ns .exit)) (now (bs .exit)) ≡ opening t (now (ns .entry)) (now (bs .entry)) .machine) ⌝ }
+// The refusal of an opening with these lengths of the slices, 0 for none.
+fn refusal(g: Config, n: usize, m: usize) -> u32
+    ensures { λ r. ⌜ r ≡ refusal-of g n m ⌝ }
 {
-    if t < 1 {
-        return not_open(1);
+    if !sound_records::within(1, 8, g.tasks) {
+        return 1;
     }
-    if 8 < t {
-        return not_open(1);
+    if !fits(pool::NODE_WORDS, MOST_NODES, n) {
+        return 2;
     }
-    let n = ns.len();
-    if !fits(34, 64, n) {
-        return not_open(2);
+    if !fits(pool::BUCKET_WORDS, MOST_BUCKETS, m) {
+        return 3;
     }
-    let m = bs.len();
-    if !fits(66, 1024, m) {
-        return not_open(3);
+    0
+}
+
+fn not_open(why: u32) -> Opened
+    ensures { λ r. ⌜ (r .refusal ≡ why) × (r .state ≡ state-of zero-config 0 0) ⌝ }
+{
+    let z = state::zero_state();
+    Opened {
+        refusal: why,
+        state: z,
     }
+}
+
+// ---- what an accepted opening writes
+
+fn zero(s: &mut [u32])
+    ensures { λ _. ⌜ now (s .exit) ≡ replicate (length (now (s .entry))) 0 ⌝ }
+{
+    let n = s.len();
+    let mut i = 0;
+    while i < n {
+        s[i] = 0;
+        i += 1;
+    }
+}
+
+fn put_first_node(ns: &mut [u32])
+    ensures { λ _. ⌜ now (ns .exit) ≡ first-node (length (now (ns .entry))) ⌝ }
+{
     zero(ns);
     pool::put(ns, 0, 1);
     pool::put(ns, 2, 1);
+}
+
+fn put_first_bucket(bs: &mut [u32])
+    ensures { λ _. ⌜ now (bs .exit) ≡ first-bucket (length (now (bs .entry))) ⌝ }
+{
     zero(bs);
     pool::put(bs, 0, 1);
-    let h = (n / 34) as u32;
-    let b = (m / 66) as u32;
-    let z = state_with(t, h, b);
+}
+
+// Opens the set on two lent pools.
+pub fn open(g: Config, ns: &mut [u32], bs: &mut [u32]) -> Opened
+    ensures { λ r. ⌜ (r .refusal ≡ opening g (now (ns .entry)) (now (bs .entry)) .refusal) × (machine-of (r .state) (now (ns .exit)) (now (bs .exit)) ≡ opening g (now (ns .entry)) (now (bs .entry)) .machine) ⌝ }
+{
+    let n = ns.len();
+    let m = bs.len();
+    let why = refusal(g, n, m);
+    if why != 0 {
+        return not_open(why);
+    }
+    let h = (n / pool::NODE_WORDS) as u32;
+    let b = (m / pool::BUCKET_WORDS) as u32;
+    put_first_node(ns);
+    put_first_bucket(bs);
+    let z = state::fresh_state(g, h, b);
     Opened {
         refusal: 0,
         state: z,

@@ -143,7 +143,7 @@ module _ (y : Machine) (s : sound y ≡ true) where
   pub runs-fact : (k : ℕ) (c : Task) → sound-running y k c ≡ true → Runs c
   unfolding sound-running every node-link bucket-link size
   runs-fact k c g =
-      let A : Bool = ltb k (y .state .tasks) in
+      let A : Bool = ltb k (y .state .config .tasks) in
       let B : Bool = member (c .line) (lines-of (c .call)) in
       let C : Bool = leb (c .i) 32 in
       let D : Bool = not (resizes (c .call)) || eqb (c .tag) 0 in

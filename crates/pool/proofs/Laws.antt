@@ -13,6 +13,10 @@ use Rattle.laws.specs.Tests.{or-case, and-right}
 use Rattle.spec.specs.Lists.{if_then_else_, member}
 use Rattle.spec.specs.Machine.{Machine}
 use Rattle.spec.specs.Words.{size}
+use Rattle.laws.specs.Tests.{passes}
+use Rattle.laws.specs.Links.{filled-true}
+use Rattle.laws.specs.SoundFacts.{ConfigFacts}
+use Rattle.laws.specs.Soundness.{config-facts, within-facts}
 use Rattle.spec.specs.Sound.{listed-size, fill-lines, lines-of, sound-running, zero-task, sound-task, sound-numbers}
 use Rattle.spec.specs.declared.Task.{Task}
 
@@ -81,7 +85,7 @@ task-idle y k c e = ap (λ (b : Bool). if b then sound-running y k c else zero-t
 
 -- what sound numbers say of the pools' lengths
 pub record Numbers (y : Machine) : Type 0 where
-  pub tasks-most : y .state .tasks ≤ 8
+  pub tasks-most : y .state .config .tasks ≤ 8
   pub nodes-most : y .state .nodes ≤ 64
   pub buckets-most : y .state .buckets ≤ 1024
   pub nodes-length : length (y .nodes) ≡ 34 * y .state .nodes
@@ -91,32 +95,20 @@ pub record Numbers (y : Machine) : Type 0 where
   pub last-bucket-in : y .state .«last_bucket» < y .state .buckets
   pub head-sized : size (y .nodes) (y .state .head) ≡ 0 → ⊥
 
-and9 : (a b c d e f g h i : Bool) → (a && b && c && d && e && f && g && h && i) ≡ true
-    → (a ≡ true) × (b ≡ true) × (c ≡ true) × (d ≡ true) × (e ≡ true) × (f ≡ true) × (g ≡ true) × (h ≡ true) × (i ≡ true)
-and9 true true true true true true true true i h = (refl, refl, refl, refl, refl, refl, refl, refl, h)
-and9 false b c d e f g h i p = absurd (false≢true p)
-and9 true false c d e f g h i p = absurd (false≢true p)
-and9 true true false d e f g h i p = absurd (false≢true p)
-and9 true true true false e f g h i p = absurd (false≢true p)
-and9 true true true true false f g h i p = absurd (false≢true p)
-and9 true true true true true false g h i p = absurd (false≢true p)
-and9 true true true true true true false h i p = absurd (false≢true p)
-and9 true true true true true true true false i p = absurd (false≢true p)
-
 pub numbers : (y : Machine) → sound-numbers y ≡ true → Numbers y
 unfolding sound-numbers
 numbers y s =
-    let p = and9 _ _ _ _ _ _ _ _ _ s in
+    let n = passes _ s in
     record {
-      tasks-most = leb-true _ _ (and-right (leb 1 (y .state .tasks)) (leb (y .state .tasks) 8) (p .0));
-      nodes-most = leb-true _ _ (and-right (leb 1 (y .state .nodes)) (leb (y .state .nodes) 64) (p .1));
-      buckets-most = leb-true _ _ (and-right (leb 1 (y .state .buckets)) (leb (y .state .buckets) 1024) (p .2));
-      nodes-length = eqb-true _ _ (p .3);
-      buckets-length = eqb-true _ _ (p .4);
-      head-in = ltb-true _ _ (p .5);
-      last-node-in = ltb-true _ _ (p .6);
-      last-bucket-in = ltb-true _ _ (p .7);
-      head-sized = λ z. false≢true (sym (ap not (eq-eqb _ _ z)) ∙ p .8);
+      tasks-most = config-facts _ (n 0) .T-high;
+      nodes-most = within-facts 1 64 _ (n 1) .1;
+      buckets-most = within-facts 1 1024 _ (n 2) .1;
+      nodes-length = eqb-true _ _ (n 3);
+      buckets-length = eqb-true _ _ (n 4);
+      head-in = ltb-true _ _ (n 5);
+      last-node-in = ltb-true _ _ (n 6);
+      last-bucket-in = ltb-true _ _ (n 7);
+      head-sized = filled-true _ (n 8);
     }
 
 -- the length of a field that is an array of structs

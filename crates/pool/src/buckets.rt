@@ -2,6 +2,7 @@
 // part of the pool that begins at its first word. For a number past the pool: zero words, and nothing is changed.
 use bucket::Bucket;
 use bucket::Response;
+use bucket::WORDS;
 ghost use mathlib.Core.Path.{_≡_};
 ghost use Prim.Native.Nat.{_≤_};
 ghost use lib.ListN.{length, take, set};
@@ -14,9 +15,9 @@ fn front(part: &[u32]) -> Bucket
     requires { ⌜ 66 ≤ length (now part) ⌝ }
     ensures { λ r. ⌜ r ≡ front-of (now (part .entry)) ⌝ }
 {
-    let mut w = [0u32; 66];
+    let mut w = [0u32; WORDS];
     let mut i = 0;
-    while i < 66 {
+    while i < WORDS {
         w[i] = part[i];
         i += 1;
     }
@@ -29,7 +30,7 @@ fn store(part: &mut [u32], b: Bucket)
 {
     let w = b.words;
     let mut i = 0;
-    while i < 66 {
+    while i < WORDS {
         part[i] = w[i];
         i += 1;
     }
@@ -70,10 +71,12 @@ fn freeze(part: &mut [u32])
 pub fn load(pool: &[u32], k: usize) -> Bucket
     ensures { λ r. ⌜ r ≡ bucket-at (now (pool .entry)) k ⌝ }
 {
-    if pool.len() / 66 <= k {
-        return Bucket { words: [0u32; 66] };
+    if pool.len() / WORDS <= k {
+        return Bucket {
+            words: [0u32; WORDS],
+        };
     }
-    let at = 66 * k;
+    let at = WORDS * k;
     front(&pool[at..])
 }
 
@@ -87,39 +90,39 @@ pub fn has_at(pool: &[u32], k: usize, tag: u32) -> bool
 pub fn store_at(pool: &mut [u32], k: usize, b: Bucket)
     ensures { λ _. ⌜ now (pool .exit) ≡ store-bucket (now (pool .entry)) k b ⌝ }
 {
-    if pool.len() / 66 <= k {
+    if pool.len() / WORDS <= k {
         return;
     }
-    let at = 66 * k;
+    let at = WORDS * k;
     store(&mut pool[at..], b)
 }
 
 pub fn add_at(pool: &mut [u32], k: usize, tag: u32) -> Response
     ensures { λ r. ⌜ (r ≡ added (bucket-at (now (pool .entry)) k) tag .answer) × (now (pool .exit) ≡ store-bucket (now (pool .entry)) k (added (bucket-at (now (pool .entry)) k) tag .bucket)) ⌝ }
 {
-    if pool.len() / 66 <= k {
+    if pool.len() / WORDS <= k {
         return Response::Frozen;
     }
-    let at = 66 * k;
+    let at = WORDS * k;
     add(&mut pool[at..], tag)
 }
 
 pub fn remove_at(pool: &mut [u32], k: usize, tag: u32) -> Response
     ensures { λ r. ⌜ (r ≡ removed (bucket-at (now (pool .entry)) k) tag .answer) × (now (pool .exit) ≡ store-bucket (now (pool .entry)) k (removed (bucket-at (now (pool .entry)) k) tag .bucket)) ⌝ }
 {
-    if pool.len() / 66 <= k {
+    if pool.len() / WORDS <= k {
         return Response::Frozen;
     }
-    let at = 66 * k;
+    let at = WORDS * k;
     remove(&mut pool[at..], tag)
 }
 
 pub fn freeze_at(pool: &mut [u32], k: usize)
     ensures { λ _. ⌜ now (pool .exit) ≡ store-bucket (now (pool .entry)) k (frozen-of (bucket-at (now (pool .entry)) k)) ⌝ }
 {
-    if pool.len() / 66 <= k {
+    if pool.len() / WORDS <= k {
         return;
     }
-    let at = 66 * k;
+    let at = WORDS * k;
     freeze(&mut pool[at..])
 }

@@ -2,11 +2,25 @@
 // number. Every function takes any words and numbers: a read past the end gives 0, and a write past the end changes nothing.
 pub mod buckets;
 
+use spec::Config;
 ghost use mathlib.Core.Path.{_≡_};
 ghost use lib.ListN.{getD, set};
 ghost use Rattle.spec.specs.Words.{number, size, pred, place};
 ghost use Rattle.spec.specs.Listed.{slot};
 ghost use Rattle.pool.specs.Pool.{write-front, store-node};
+
+// A node's words and how many of them are places, a bucket's words and its most tags, the most nodes and buckets.
+pub const NODE_WORDS: usize = 34;
+
+pub const PLACES: u32 = 32;
+
+pub const BUCKET_WORDS: usize = bucket::WORDS;
+
+pub const MOST_TAGS: usize = bucket::MOST_TAGS;
+
+pub const MOST_NODES: u32 = 64;
+
+pub const MOST_BUCKETS: u32 = 1024;
 
 // ---- reads, 0 past the end
 
@@ -27,27 +41,27 @@ pub fn number_of(l: u32) -> u32
 pub fn size_at(ns: &[u32], k: u32) -> u32
     ensures { λ r. ⌜ r ≡ size (now (ns .entry)) k ⌝ }
 {
-    word(ns, 34 * (k as usize))
+    word(ns, NODE_WORDS * (k as usize))
 }
 
 pub fn pred_at(ns: &[u32], k: u32) -> u32
     ensures { λ r. ⌜ r ≡ pred (now (ns .entry)) k ⌝ }
 {
-    word(ns, 34 * (k as usize) + 1)
+    word(ns, NODE_WORDS * (k as usize) + 1)
 }
 
 pub fn place_at(ns: &[u32], k: u32, i: u32) -> u32
     ensures { λ r. ⌜ r ≡ place (now (ns .entry)) k i ⌝ }
 {
-    word(ns, 34 * (k as usize) + 2 + i as usize)
+    word(ns, NODE_WORDS * (k as usize) + 2 + i as usize)
 }
 
-// The place where the tag is looked up.
-pub fn place_for_at(ns: &[u32], k: u32, tag: u32) -> u32
-    ensures { λ r. ⌜ r ≡ place (now (ns .entry)) k (slot tag (size (now (ns .entry)) k)) ⌝ }
+// The place where the tag is looked up in a set opened so.
+pub fn place_for_at(ns: &[u32], k: u32, g: Config, tag: u32) -> u32
+    ensures { λ r. ⌜ r ≡ place (now (ns .entry)) k (slot g tag (size (now (ns .entry)) k)) ⌝ }
 {
     let z = size_at(ns, k);
-    let i = bucket::slot(tag, z);
+    let i = bucket::slot(g, tag, z);
     place_at(ns, k, i)
 }
 
@@ -72,11 +86,11 @@ pub fn place_of(ns: &[u32], l: u32, i: u32) -> u32
     place_at(ns, k, i)
 }
 
-pub fn place_for(ns: &[u32], l: u32, tag: u32) -> u32
-    ensures { λ r. ⌜ r ≡ place (now (ns .entry)) (number l) (slot tag (size (now (ns .entry)) (number l))) ⌝ }
+pub fn place_for(ns: &[u32], l: u32, g: Config, tag: u32) -> u32
+    ensures { λ r. ⌜ r ≡ place (now (ns .entry)) (number l) (slot g tag (size (now (ns .entry)) (number l))) ⌝ }
 {
     let k = number_of(l);
-    place_for_at(ns, k, tag)
+    place_for_at(ns, k, g, tag)
 }
 
 // ---- writes
@@ -109,12 +123,12 @@ pub fn write_over(part: &mut [u32], v: &[u32])
 pub fn new_node(ns: &mut [u32], k: usize, size: u32, pred: u32)
     ensures { λ _. ⌜ now (ns .exit) ≡ store-node (now (ns .entry)) k size pred ⌝ }
 {
-    if ns.len() / 34 <= k {
+    if ns.len() / NODE_WORDS <= k {
         return;
     }
-    let mut w = [0u32; 34];
+    let mut w = [0u32; NODE_WORDS];
     w[0] = size;
     w[1] = pred;
-    let at = 34 * k;
+    let at = NODE_WORDS * k;
     write_over(&mut ns[at..], &w)
 }

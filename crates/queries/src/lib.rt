@@ -17,7 +17,7 @@ pub fn list(s: State, ns: &[u32], bs: &[u32], out: &mut [u32]) -> Listing
     if full {
         return Listing::Refused(8);
     }
-    if out.len() < 64 {
+    if out.len() < bucket::MOST_TAGS {
         return Listing::Refused(9);
     }
     let b = g.bucket;
@@ -38,10 +38,10 @@ pub fn show<'a>(s: State, ns: &[u32], bs: &'a [u32], k: u32) -> &'a [u32]
     if s.buckets <= k {
         return &bs[0..0];
     }
-    if 1024 <= k {
+    if pool::MOST_BUCKETS <= k {
         return &bs[0..0];
     }
-    let a = 66 * (k as usize);
+    let a = bucket::WORDS * (k as usize);
     let n = pool::word(bs, a + 1);
     let f = a + 2;
     let e = f + n as usize;

@@ -1,250 +1,236 @@
 // A second implementation of the yard set of paper 01, to be compared word by word with the first.
-// Its shape: a step reads all that its line can see into plain numbers, the scene (scene.rt); what the line does is a table, written column by
-// column as pure functions of the scene (columns.rt, writes.rt); then every word that may change is written. Spoilt memory is found by
-// counting faults (faults.rt), held records by spreading flags (flags.rt); sets of tags are gone through upwards, and listed tags found by
-// asking of each tag which bucket decides on it (tags.rt).
-// No function has a requirement: any words, numbers and lengths may be lent.
-//
-// The state is 110 words: T, H, B, head, last node, last bucket, then eight tasks of 13 words: running, call, tag, line, i, own steps, t, s, b,
-// m, n, new node, new bucket. The reply is the three words after them, and words lent to a list come after these.
-mod columns;
-mod scene;
-mod writes;
+// Its shape: state, pools, what is asked and the reply are words of one memory (reference_words::words has their addresses). The paper's lines are
+// the rows of a table of letters (reference_words::table); a letter stands for something that a line can see, a number (sight.rt). A call first
+// works out what it gives and what every word becomes, from unchanged memory, then stores (stores.rt). Spoilt memory is found word by word, held
+// records by flags, and sets of tags are gone through upwards, asking of each tag which bucket decides on it (reference_words).
+// No function has a requirement: any words and numbers may be lent.
+// A function is best straight, its choices in small functions beside: what follows a choice is proved once for each way to it.
+mod sight;
+mod stores;
 
-use columns::answer;
-use columns::next_line;
-use columns::refusal;
-use reference_words::faults::faults;
-use reference_words::tags::listed;
+use reference_words::faults::spoilt;
+use reference_words::flags::free_record;
+use reference_words::tags::AFTER_36;
+use reference_words::tags::LISTED_TAGS;
+use reference_words::tags::MADE_BY_49;
+use reference_words::tags::NO_TAGS;
+use reference_words::tags::gather;
+use reference_words::words::ASKED_K;
+use reference_words::words::AT_T;
+use reference_words::words::B;
+use reference_words::words::BEFORE;
+use reference_words::words::BUCKET_WORDS;
+use reference_words::words::BUCKETS;
+use reference_words::words::FREE;
+use reference_words::words::LINE;
+use reference_words::words::MADE;
+use reference_words::words::NODE_WORDS;
+use reference_words::words::NODES;
+use reference_words::words::REPLY;
+use reference_words::words::SPOILT;
+use reference_words::words::STATE_END;
+use reference_words::words::T;
+use reference_words::words::WHAT;
+use reference_words::words::WHY;
 use reference_words::words::bucket;
+use reference_words::words::clear;
 use reference_words::words::copy;
+use reference_words::words::either;
+use reference_words::words::field_at;
 use reference_words::words::get;
-use reference_words::words::one_more;
-use reference_words::words::part;
-use reference_words::words::reset;
-use scene::Around;
-use scene::Task;
-use scene::scene_of;
-use scene::task_of;
-use writes::bucket_after;
-use writes::bucket_target;
-use writes::own_after;
-use writes::write_bucket;
-use writes::write_node;
-use writes::write_state;
-
-// Kind 0: the task is at line `value` (an opening: 0; a list: the count). 1: the call ended with answer `value` (1 yes, 2 no, 3 full, 4 done, 5
-// lost, 6 limit) and own steps `own`. 2: refused with number `value`.
-struct Reply {
-    kind: u32,
-    value: u32,
-    own: u32,
-}
-
-fn answered(kind: u32, value: u32, own: u32) -> Reply {
-    Reply { kind, value, own }
-}
+use reference_words::words::node;
+use reference_words::words::plus;
+use reference_words::words::put;
+use reference_words::words::put_words;
+use reference_words::words::rest;
 
 // How many records of `width` words make up `len` words; 0 where none from 1 to `most` does.
-fn records_in(len: usize, width: usize, most: u32) -> u32 {
-    if width == 0 || len % width != 0 {
+fn records_in(len: u32, width: u32, most: u32) -> u32 {
+    if width == 0 || rest(len, width) != 0 || most < len / width {
         return 0;
     }
-    let n = len / width;
-    if n <= (most as usize) { n as u32 } else { 0 }
+    len / width
+}
+
+fn nodes_lent(w: &[u32]) -> u32 {
+    records_in(get(w, NODE_WORDS), 34, 64)
+}
+
+fn buckets_lent(w: &[u32]) -> u32 {
+    records_in(get(w, BUCKET_WORDS), 66, 1024)
 }
 
 // "1 T outside its bounds; 2 node slice not 34 × H words for an H within bounds; 3 bucket slice not 66 × B words for a B within bounds."
-fn opening_refusal(t: u32, h: u32, b: u32) -> u32 {
+fn opening_refusal(w: &[u32]) -> u32 {
+    let t = get(w, ASKED_K);
     if t < 1 || 8 < t {
         return 1;
     }
-    if h == 0 {
+    if nodes_lent(w) == 0 {
         return 2;
     }
-    if b == 0 { 3 } else { 0 }
+    either(buckets_lent(w) == 0, 3, 0)
 }
 
 // "Opening zeroes both pools, puts changeable empty bucket 0 into node 0 of size 1, makes it head, and sets both "last taken" to 0; no task runs."
+fn write_opening(w: &mut [u32]) {
+    put_words(w, T, &[get(w, ASKED_K), nodes_lent(w), buckets_lent(w)]);
+    clear(w, NODES, NODES + get(w, NODE_WORDS) as usize);
+    clear(w, BUCKETS, BUCKETS + get(w, BUCKET_WORDS) as usize);
+    put_words(w, NODES, &[1, 0, 1]);
+    put(w, BUCKETS, 1);
+}
+
 // "A refused opening gives a state of all zeros."
-fn open(state: &mut [u32], t: u32, nodes: &mut [u32], buckets: &mut [u32]) -> Reply {
-    let h = records_in(nodes.len(), 34, 64);
-    let b = records_in(buckets.len(), 66, 1024);
-    let why = opening_refusal(t, h, b);
-    copy(state, 0, &[0u32; 110]);
-    if why != 0 {
-        return answered(2, why, 0);
+fn open(w: &mut [u32]) {
+    let why = opening_refusal(w);
+    clear(w, T, STATE_END);
+    put_words(w, REPLY, &[either(why == 0, 0, 2), why, 0]);
+    if why == 0 {
+        write_opening(w);
     }
-    write_opening(state, &[t, h, b], nodes, buckets);
-    answered(0, 0, 0)
 }
 
-fn write_opening(state: &mut [u32], sizes: &[u32], nodes: &mut [u32], buckets: &mut [u32]) {
-    copy(state, 0, sizes);
-    reset(nodes, &[1, 0, 1]);
-    reset(buckets, &[1]);
-}
-
-// "Start: 8, 4, 5. Step: 8, 4, 6": the refusal of a task that must run, or must not; 0 for none.
-fn turned_away(state: &[u32], task: u32, runs: bool, nodes: &[u32], buckets: &[u32]) -> u32 {
-    if faults(state, nodes, buckets) != 0 {
-        return 8;
-    }
-    if get(state, 0) <= task {
+// "Start: 8, 4, 5. Step: 8, 4, 6, 8 of the step, 7."
+fn event_refusal(w: &[u32], steps: bool) -> u32 {
+    let k = get(w, ASKED_K);
+    if get(w, T) <= k {
         return 4;
     }
-    if (get(state, (task as usize) * 13 + 6) != 0) == runs {
+    if get(w, field_at(k, 0)) == 0 {
+        return either(steps, 6, 0);
+    }
+    if steps { sight::line_refusal(w) } else { 5 }
+}
+
+// "List: 8, 9", 8 "also if more than 64 tags are listed". ASKED_K is the length of the list slice.
+fn list_refusal(w: &[u32]) -> u32 {
+    if 64 < get(w, MADE + 1) {
+        return 8;
+    }
+    either(get(w, ASKED_K) < 64, 9, 0)
+}
+
+fn refusal(w: &[u32]) -> u32 {
+    let what = get(w, WHAT);
+    if what == 7 {
         return 0;
     }
-    if runs { 6 } else { 5 }
-}
-
-// The first line of a call.
-fn first_line(call: u32) -> u32 {
-    match call {
-        3 => 12,
-        4 | 5 => 20,
-        _ => 32,
+    if get(w, SPOILT) != 0 {
+        return 8;
     }
-}
-
-// "A start sets the call, the tag (0 for a resize) and the first line (12, 32 or 20), and leaves the rest so."
-fn start(
-    state: &mut [u32],
-    task: u32,
-    call: u32,
-    tag: u32,
-    nodes: &[u32],
-    buckets: &[u32],
-) -> Reply {
-    let why = turned_away(state, task, false, nodes, buckets);
-    let line = first_line(call);
-    let kept = if call < 4 { tag } else { 0 };
-    if why != 0 {
-        return answered(2, why, 0);
-    }
-    copy(state, (task as usize) * 13 + 6, &[1, call, kept, line]);
-    answered(0, line, 0)
-}
-
-// "Step: 8, 4, 6, 8 of the step, 7."
-fn step(state: &mut [u32], task: u32, nodes: &mut [u32], buckets: &mut [u32]) -> Reply {
-    let why = turned_away(state, task, true, nodes, buckets);
-    if why != 0 {
-        return answered(2, why, 0);
-    }
-    let c = task_of(state, task);
-    let x = scene_of(state, c, nodes, buckets);
-    go(state, task, c, x, nodes, buckets)
-}
-
-fn go(
-    state: &mut [u32],
-    task: u32,
-    c: Task,
-    x: Around,
-    nodes: &mut [u32],
-    buckets: &mut [u32],
-) -> Reply {
-    let made = bucket_after(c, x, buckets);
-    let why = refusal(c, x, made[1]);
-    if why != 0 {
-        return answered(2, why, 0);
-    }
-    write_state(state, c, x, task);
-    write_pools(c, x, &made, nodes, buckets);
-    moved(c, x)
-}
-
-fn write_pools(c: Task, x: Around, made: &[u32], nodes: &mut [u32], buckets: &mut [u32]) {
-    write_node(nodes, c, x);
-    write_bucket(buckets, bucket_target(c, x), made);
-}
-
-// The call ends, or the task stands at its next line.
-fn moved(c: Task, x: Around) -> Reply {
-    let line = next_line(c, x);
-    if line == 0 {
-        return answered(1, answer(c, x), own_after(c));
-    }
-    answered(0, line, 0)
-}
-
-// "List: 8, 9; it writes the tags ascending, gives their number, and keeps later words." The words lent are the first ones after the reply.
-fn list(w: &mut [u32], nodes: &[u32], buckets: &[u32], room: u32) -> Reply {
-    if faults(w, nodes, buckets) != 0 {
-        return answered(2, 8, 0);
-    }
-    let tags = listed(w, nodes, buckets);
-    let count = tags[64];
-    if 64 < count {
-        return answered(2, 8, 0);
-    }
-    if room < 64 {
-        return answered(2, 9, 0);
-    }
-    copy(w, 113, part(&tags, 0, count as usize));
-    answered(0, count, 0)
-}
-
-// "Showing a bucket gives back the part of the lent words that holds its tags; a bad number or spoilt memory gives an empty part." The tags
-// are copied to the words after the reply.
-fn show(w: &mut [u32], nodes: &[u32], buckets: &[u32], k: u32) -> Reply {
-    if faults(w, nodes, buckets) != 0 || get(w, 2) <= k {
-        return answered(0, 0, 0);
-    }
-    let x = bucket(buckets, one_more(k, 1024));
-    let count = get(x, 1);
-    copy(w, 113, part(x, 2, count as usize + 2));
-    answered(0, count, 0)
-}
-
-// A start or a step.
-fn event(
-    w: &mut [u32],
-    nodes: &mut [u32],
-    buckets: &mut [u32],
-    what: u32,
-    k: u32,
-    tag: u32,
-) -> Reply {
-    if what == 0 {
-        return step(w, k, nodes, buckets);
-    }
-    start(w, k, what, tag, nodes, buckets)
-}
-
-// A list or a show.
-fn look(w: &mut [u32], nodes: &[u32], buckets: &[u32], what: u32, k: u32) -> Reply {
     if what == 6 {
-        return list(w, nodes, buckets, k);
+        return list_refusal(w);
     }
-    show(w, nodes, buckets, k)
+    event_refusal(w, what == 0)
 }
 
-fn acted(
-    w: &mut [u32],
-    nodes: &mut [u32],
-    buckets: &mut [u32],
-    what: u32,
-    k: u32,
-    tag: u32,
-) -> Reply {
-    if what < 6 {
-        return event(w, nodes, buckets, what, k, tag);
+// The task's record is copied if a task steps that may: it has a line then.
+fn words_aside(w: &[u32]) -> usize {
+    if get(w, SPOILT) != 0 || get(w, WHAT) != 0 || get(w, T) <= get(w, ASKED_K) {
+        return 0;
     }
+    13
+}
+
+fn put_aside(w: &mut [u32]) {
+    put(w, SPOILT, either(spoilt(w), 1, 0));
+    clear(w, BEFORE, BEFORE + 13);
+    copy(w, field_at(get(w, ASKED_K), 0), BEFORE, words_aside(w));
+}
+
+// The set of tags that a call makes: a list the listed tags, line 36 b as it will be if it changes, line 49 the new bucket.
+fn set_made(w: &[u32]) -> u32 {
+    let line = get(w, LINE);
+    match line {
+        36 => either(sight::is_change(w), AFTER_36, NO_TAGS),
+        49 => MADE_BY_49,
+        _ => either(
+            get(w, WHAT) == 6 && get(w, SPOILT) == 0,
+            LISTED_TAGS,
+            NO_TAGS,
+        ),
+    }
+}
+
+// The first two words of the record that is made: of a new node "twice or half the size, predecessor t", of a bucket 1, where there is one.
+fn first_made(w: &[u32], set: u32) -> u32 {
+    if get(w, LINE) == 27 {
+        return sight::resized(w, node(w, get(w, AT_T), 0));
+    }
+    either(set == NO_TAGS, 0, 1)
+}
+
+fn second_made(w: &[u32]) -> u32 {
+    either(get(w, LINE) == 27, get(w, AT_T), 0)
+}
+
+// What a call asks of the whole of memory: lines 27 and 49 for the record that would be taken, and sets of tags.
+fn prepare(w: &mut [u32]) {
+    put_aside(w);
+    let free = free_record(w, get(w, LINE));
+    put(w, FREE, free);
+    let set = set_made(w);
+    gather(w, first_made(w, set), second_made(w), set);
+    put(w, WHY, refusal(w));
+}
+
+fn ends(w: &[u32]) -> bool {
+    get(w, WHAT) == 0 && sight::next_line(w) == 0
+}
+
+// "Showing a bucket gives back the part of the lent words that holds its tags; a bad number or spoilt memory gives an empty part."
+fn shown(w: &[u32]) -> u32 {
+    let k = get(w, ASKED_K);
+    if get(w, SPOILT) != 0 || get(w, B) <= k {
+        return 0;
+    }
+    bucket(w, plus(k, 1), 1)
+}
+
+fn value(w: &[u32]) -> u32 {
+    let what = get(w, WHAT);
+    match what {
+        0 => either(ends(w), sight::answer(w), sight::next_line(w)),
+        6 => get(w, MADE + 1),
+        7 => shown(w),
+        _ => stores::first_line(what),
+    }
+}
+
+// The reply. Kind 0: the task is at line `value` (an opening: 0; a list or a show: the count). 1: the call ended with answer `value` (1 yes, 2 no,
+// 3 full, 4 done, 5 lost, 6 limit) and own steps `own`. 2: refused with number `value`.
+fn accept(w: &mut [u32]) {
+    let end = ends(w);
+    put_words(
+        w,
+        REPLY,
+        &[
+            either(end, 1, 0),
+            value(w),
+            either(end, sight::own_after(w), 0),
+        ],
+    );
+    stores::store(w);
+}
+
+fn enter(w: &mut [u32]) {
+    prepare(w);
+    let why = get(w, WHY);
+    if why == 0 {
+        return accept(w);
+    }
+    put_words(w, REPLY, &[2, why, 0]);
+}
+
+// What WHAT asks: a step of task ASKED_K (0), the start of a call of it with ASKED_TAG (1 insert, 2 remove, 3 contains, 4 grow, 5 shrink), a list
+// into so many words (6), a show of this bucket (7), an opening with so many tasks (8); nothing for other numbers.
+pub fn act(w: &mut [u32]) {
+    let what = get(w, WHAT);
     if what < 8 {
-        return look(w, nodes, buckets, what, k);
+        return enter(w);
     }
-    open(w, k, nodes, buckets)
-}
-
-// A step of task k (0), the start of a call (1 insert, 2 remove, 3 contains, 4 grow, 5 shrink), a list into k words (6), a show of bucket k (7),
-// an opening with k tasks (8); nothing for other numbers.
-pub fn act(w: &mut [u32], nodes: &mut [u32], buckets: &mut [u32], what: u32, k: u32, tag: u32) {
-    if 8 < what {
-        return;
+    if what == 8 {
+        open(w);
     }
-    let r = acted(w, nodes, buckets, what, k, tag);
-    copy(w, 110, &[r.kind, r.value, r.own]);
 }

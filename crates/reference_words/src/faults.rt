@@ -1,54 +1,59 @@
-// Refusal 8, general part: "Spoilt memory". The faults of state and pools are counted; memory is sound if there are none.
-use super::words::among;
-use super::words::bucket;
+// Refusal 8, general part: "Spoilt memory". Memory is sound if no word of it is bad.
+use super::table::KIND;
+use super::table::entry;
+use super::words::B;
+use super::words::BUCKET_WORDS;
+use super::words::BUCKETS;
+use super::words::H;
+use super::words::HEAD;
+use super::words::LAST_BUCKET;
+use super::words::LAST_NODE;
+use super::words::NODE_WORDS;
+use super::words::NODES;
+use super::words::RECORDS;
+use super::words::STATE_END;
+use super::words::T;
 use super::words::get;
-use super::words::letter;
+use super::words::head;
+use super::words::is_size;
 use super::words::node;
-use super::words::one_more;
 
-// One fault more where something is bad. The count stops at a million, so it never comes round to 0.
-fn note(faults: u32, bad: bool) -> u32 {
-    if bad {
-        return one_more(faults, 1000000);
-    }
-    faults
+fn outside(x: u32, least: u32, most: u32) -> bool {
+    x < least || most < x
 }
 
 // "if T, H, B or a slice length is wrong"
-fn bad_shape(t: u32, h: u32, b: u32, node_words: usize, bucket_words: usize) -> bool {
-    if t < 1 || 8 < t || h < 1 || 64 < h {
+fn bad_shape(w: &[u32]) -> bool {
+    let h = get(w, H);
+    let b = get(w, B);
+    if outside(get(w, T), 1, 8) || outside(h, 1, 64) || outside(b, 1, 1024) {
         return true;
     }
-    if b < 1 || 1024 < b {
-        return true;
-    }
-    node_words != (h as usize) * 34 || bucket_words != (b as usize) * 66
+    (get(w, NODE_WORDS) as usize) != (h as usize) * 34
+        || (get(w, BUCKET_WORDS) as usize) != (b as usize) * 66
 }
 
 // "a record number is past its pool", of a place; "the head, a task's node or a predecessor has size 0".
-fn bad_node(nodes: &[u32], h: u32, place: u32) -> bool {
-    h < place || (place != 0 && get(node(nodes, place), 0) == 0)
-}
-
-// The same of the head, and "a record number is past its pool" of both last taken.
-fn bad_header(state: &[u32], nodes: &[u32]) -> bool {
-    let h = get(state, 1);
-    let head = get(state, 3);
-    if h <= head || h <= get(state, 4) {
-        return true;
+fn bad_node(w: &[u32], place: u32) -> bool {
+    if place == 0 {
+        return false;
     }
-    get(state, 2) <= get(state, 5) || bad_node(nodes, h, one_more(head, 64))
+    get(w, H) < place || node(w, place, 0) == 0
 }
 
-// The kind of a line: c "contains: 12 .. 18", u "insert, remove: 32 .. 36", r "grow, shrink: 20 .. 28", f "filling place i: 39 .. 51".
-fn kind_of(line: u32) -> u8 {
-    letter(
-        b"............cc.cccc.r...r..rr...uu..u..ff..ff.fffffff",
-        line,
-    )
+// "a record number is past its pool", of the head and of both last taken.
+fn bad_header_word(w: &[u32], at: usize) -> bool {
+    match at {
+        HEAD => get(w, H) <= get(w, HEAD) || bad_node(w, head(w)),
+        LAST_NODE => get(w, H) <= get(w, LAST_NODE),
+        LAST_BUCKET => get(w, B) <= get(w, LAST_BUCKET),
+        _ => false,
+    }
 }
 
-fn bad_line(call: u32, kind: u8) -> bool {
+// "a running task's line is not one of its call's"
+fn bad_line(call: u32, line: u32) -> bool {
+    let kind = entry(line, KIND);
     match call {
         1 | 2 => kind != b'u' && kind != b'f',
         3 => kind != b'c',
@@ -59,118 +64,79 @@ fn bad_line(call: u32, kind: u8) -> bool {
 
 // Word j of task k. "a record number is past its pool; .. a task's node .. has size 0; a running task's line is not one of its call's, its i is
 // over 32, or a resize has a tag; a task from T on runs; an idle task's record is not zeros and empty places"
-fn bad_task_word(state: &[u32], nodes: &[u32], k: u32, j: u32) -> bool {
-    let at = (k as usize) * 13 + 6;
-    let x = get(state, at + j as usize);
-    let call = get(state, at + 1);
-    if get(state, at) == 0 {
+fn bad_task_word(w: &[u32], k: usize, j: usize, x: u32) -> bool {
+    let first = RECORDS + k % 8 * 13;
+    if get(w, first) == 0 {
         return x != 0;
     }
     match j {
-        0 => get(state, 0) <= k,
-        2 => 4 <= call && x != 0,
-        3 => bad_line(call, kind_of(x)),
+        0 => (get(w, T) as usize) <= k,
+        2 => x != 0 && 4 <= get(w, first + 1),
+        3 => bad_line(get(w, first + 1), x),
         4 => 32 < x,
-        6 | 7 | 11 => bad_node(nodes, get(state, 1), x),
-        8 | 9 | 10 | 12 => get(state, 2) < x,
+        6 | 7 | 11 => bad_node(w, x),
+        8 | 9 | 10 | 12 => get(w, B) < x,
         _ => false,
     }
 }
 
-fn of_tasks(faults: u32, state: &[u32], nodes: &[u32]) -> u32 {
-    let mut v = faults;
-    let mut at: u32 = 0;
-    while at < 104 {
-        let more = note(v, bad_task_word(state, nodes, at / 13, at % 13));
-        v = more;
-        at += 1;
-    }
-    v
-}
-
-// Word j of a node. "a node's size is neither 0 nor a listed one, or a place at or past it is filled"; "a record number is past its pool";
+// Word j of node k. "a node's size is neither 0 nor a listed one, or a place at or past it is filled"; "a record number is past its pool";
 // "a predecessor has size 0".
-fn bad_node_word(nodes: &[u32], size: u32, j: usize, x: u32, h: u32, b: u32) -> bool {
+fn bad_node_word(w: &[u32], k: usize, j: usize, x: u32) -> bool {
+    if x == 0 {
+        return false;
+    }
     if j == 0 {
-        return !among(size, &[0, 1, 2, 4, 8, 16, 32]);
+        return !is_size(x);
     }
     if j == 1 {
-        return bad_node(nodes, h, x);
+        return bad_node(w, x);
     }
-    b < x || (x != 0 && size as usize + 2 <= j)
+    get(w, B) < x || (get(w, NODES + k % 65 * 34) as usize) + 2 <= j
 }
 
-fn of_node(faults: u32, nodes: &[u32], place: u32, h: u32, b: u32) -> u32 {
-    let words = node(nodes, place);
-    let size = get(words, 0);
-    let mut v = faults;
-    let mut j: usize = 0;
-    while j < words.len() {
-        let more = note(v, bad_node_word(nodes, size, j, words[j], h, b));
-        v = more;
-        j += 1;
-    }
-    v
-}
-
-// Word j of a bucket and the word before it. "a bucket's first word is over 1, its count over 64, its tags not strictly ascending or a word
-// after them not 0"
-fn bad_bucket_word(count: u32, j: usize, x: u32, before: u32) -> bool {
+// Word j of bucket k. "a bucket's first word is over 1, its count over 64, its tags not strictly ascending or a word after them not 0"
+fn bad_bucket_word(w: &[u32], k: usize, j: usize, x: u32) -> bool {
+    let first = BUCKETS + k % 1025 * 66;
     if j < 2 {
         return (j == 0 && 1 < x) || 64 < x;
     }
-    if j < count as usize + 2 {
-        return 2 < j && x <= before;
+    if (get(w, first + 1) as usize) + 2 <= j {
+        return x != 0;
     }
-    x != 0
+    2 < j && x <= get(w, first + (j - 1) % 66)
 }
 
-fn of_bucket(faults: u32, words: &[u32]) -> u32 {
-    let count = get(words, 1);
-    let mut v = faults;
-    let mut before: u32 = 0;
-    let mut j: usize = 0;
-    while j < words.len() {
-        let x = words[j];
-        let more = note(v, bad_bucket_word(count, j, x, before));
-        v = more;
-        before = x;
-        j += 1;
+fn bad_word(w: &[u32], at: usize) -> bool {
+    let x = get(w, at);
+    if at < RECORDS {
+        return bad_header_word(w, at);
     }
-    v
+    if at < NODES {
+        return bad_task_word(w, (at - RECORDS) / 13, (at - RECORDS) % 13, x);
+    }
+    if at < BUCKETS {
+        return bad_node_word(w, (at - NODES) / 34, (at - NODES) % 34, x);
+    }
+    bad_bucket_word(w, (at - BUCKETS) / 66, (at - BUCKETS) % 66, x)
 }
 
-fn of_nodes(faults: u32, nodes: &[u32], h: u32, b: u32) -> u32 {
-    let mut v = faults;
-    let mut k: u32 = 0;
-    while k < h {
-        k += 1;
-        let more = of_node(v, nodes, k, h, b);
-        v = more;
+fn bad_among(w: &[u32], from: usize, end: usize) -> bool {
+    let mut at = from;
+    while at < end {
+        if bad_word(w, at) {
+            return true;
+        }
+        at += 1;
     }
-    v
+    false
 }
 
-fn of_buckets(faults: u32, buckets: &[u32], b: u32) -> u32 {
-    let mut v = faults;
-    let mut k: u32 = 0;
-    while k < b {
-        k += 1;
-        let more = of_bucket(v, bucket(buckets, k));
-        v = more;
+// Where T, H, B or a length is wrong nothing else is looked at.
+pub fn spoilt(w: &[u32]) -> bool {
+    if bad_shape(w) || bad_among(w, 0, STATE_END) {
+        return true;
     }
-    v
-}
-
-// All faults. Where T, H, B or a length is wrong nothing else is looked at.
-pub fn faults(state: &[u32], nodes: &[u32], buckets: &[u32]) -> u32 {
-    let h = get(state, 1);
-    let b = get(state, 2);
-    if bad_shape(get(state, 0), h, b, nodes.len(), buckets.len()) {
-        return 1;
-    }
-    let v = note(0, bad_header(state, nodes));
-    let w = of_tasks(v, state, nodes);
-    let x = of_nodes(w, nodes, h, b);
-    of_buckets(x, buckets, b)
+    bad_among(w, NODES, NODES + get(w, NODE_WORDS) as usize)
+        || bad_among(w, BUCKETS, BUCKETS + get(w, BUCKET_WORDS) as usize)
 }

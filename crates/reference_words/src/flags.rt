@@ -1,106 +1,123 @@
-// "Held": a flag for each node's place, spread until nothing can change, and the record that would be taken. The flag of the empty place,
-// 0, is never asked for.
-use super::words::among;
+// "Held": a flag for each held node and bucket, by place, and the record that would be taken. A flag of the empty place is never asked for.
+// Memory is sound here, so an idle task's record has no filled place.
+use super::words::B;
+use super::words::BUCKET_FLAGS;
+use super::words::END;
+use super::words::H;
+use super::words::LAST_BUCKET;
+use super::words::LAST_NODE;
+use super::words::NODE_FLAGS;
+use super::words::NODE_WORDS;
+use super::words::NODES;
+use super::words::clear;
+use super::words::field_at;
 use super::words::get;
+use super::words::head;
 use super::words::node;
-use super::words::one_more;
+use super::words::plus;
+use super::words::put;
 use super::words::rest;
 
-// Whether a running task has this place in one of these words of its record.
-fn in_tasks(state: &[u32], columns: &[u32], place: u32) -> bool {
+// "the head, the t, s or new node of a running task": the place numbered r, r from 0 to 24.
+fn root(w: &[u32], r: u32) -> u32 {
+    if r == 24 {
+        return head(w);
+    }
+    let j = r % 3;
+    match j {
+        0 => get(w, field_at(r / 3, 6)),
+        1 => get(w, field_at(r / 3, 7)),
+        _ => get(w, field_at(r / 3, 11)),
+    }
+}
+
+// "or the predecessor of a held node": 64 nodes from each root on, one after the other, which always do, also round a cycle.
+fn chained(w: &[u32], at: u32, before: u32) -> u32 {
+    if at % 64 == 0 {
+        return root(w, at / 64);
+    }
+    node(w, before, 1)
+}
+
+fn flag_nodes(w: &mut [u32]) {
+    let mut place: u32 = 0;
     let mut at: u32 = 0;
-    while at < 104 {
-        let running = get(state, (at / 13 * 13) as usize + 6);
-        let same = get(state, at as usize + 6) == place;
-        if running != 0 && same && among(at % 13, columns) {
-            return true;
-        }
+    while at < 1600 {
+        let next = chained(w, at, place);
+        place = next;
+        put(w, NODE_FLAGS + place as usize, 1);
         at += 1;
     }
-    false
 }
 
-// "A node is held if it is the head, the t, s or new node of a running task": the flags that the spreading starts from.
-fn first_flags(state: &[u32]) -> [bool; 65] {
-    let head = one_more(get(state, 3), 64);
-    let mut held = [false; 65];
-    let mut k: usize = 0;
-    while k < 65 {
-        let up = k as u32 == head || in_tasks(state, &[6, 7, 11], k as u32);
-        held[k] = up;
-        k += 1;
+// "the b, m, n or new bucket of a running task": the place numbered r, r from 0 to 31.
+fn own_bucket(w: &[u32], r: u32) -> u32 {
+    if r % 4 == 3 {
+        return get(w, field_at(r / 4, 12));
     }
-    held
+    get(w, field_at(r / 4, 8 + r % 4))
 }
 
-// "or the predecessor of a held node": 64 rounds over all nodes, which always do, also round a cycle.
-fn spread(first: [bool; 65], nodes: &[u32], all: u32) -> [bool; 65] {
-    let n = all % 65;
-    let mut held = first;
-    let mut left = n * 64;
-    while 0 < left {
-        let k = one_more(rest(left, n), 64);
-        let pred = get(node(nodes, k), 1) as usize;
-        let j = k as usize;
-        if j < 65 && pred < 65 {
-            let up = held[pred] || held[j];
-            held[pred] = up;
-        }
-        left -= 1;
+// "A bucket is held if a held node places it": word `at` of the nodes if it is such a place, otherwise 0.
+fn placed(w: &[u32], at: u32) -> u32 {
+    if at % 34 < 2 {
+        return 0;
     }
-    held
+    if get(w, NODE_FLAGS + 1 + (at / 34) as usize) == 0 {
+        return 0;
+    }
+    get(w, NODES + at as usize)
 }
 
-// "a held node places it"
-fn placed(nodes: &[u32], held: [bool; 65], place: u32) -> bool {
-    let mut at: usize = 0;
-    while at < nodes.len() {
-        let k = at / 34 + 1;
-        if nodes[at] == place && 2 <= at % 34 && k < 65 {
-            if held[k] {
-                return true;
-            }
-        }
-        at += 1;
+// All that hold buckets: 32 words of the tasks, then 34 words of each node.
+fn holder(w: &[u32], r: u32) -> u32 {
+    if r < 32 {
+        return own_bucket(w, r);
     }
-    false
+    placed(w, r - 32)
 }
 
-// Whether the node (for line 27) or the bucket (for line 49) in a place is held. "A bucket is held if a held node places it, or it is the b, m, n
-// or new bucket of a running task."
-fn is_held(line: u32, state: &[u32], nodes: &[u32], held: [bool; 65], place: u32) -> bool {
-    let k = place as usize;
-    if line == 49 {
-        return in_tasks(state, &[8, 9, 10, 12], place) || placed(nodes, held, place);
+fn flag_buckets(w: &mut [u32]) {
+    let all = 32 + get(w, NODE_WORDS) % 4096;
+    let mut r: u32 = 0;
+    while r < all {
+        let place = holder(w, r);
+        put(w, BUCKET_FLAGS + place as usize, 1);
+        r += 1;
     }
-    k < 65 && held[k]
 }
 
 // "A record is taken as the first one not held after the last taken, going round and trying the last taken itself at the end": its place,
 // or 0 where all of `count` records are held.
-fn first_free(line: u32, state: &[u32], nodes: &[u32], count: u32, last: u32) -> u32 {
-    let held = spread(first_flags(state), nodes, get(state, 1));
+fn first_free(w: &[u32], flags: usize, count: u32, last: u32) -> u32 {
+    let from = flags % 100000;
     let mut k = last;
     let mut tried: u32 = 0;
     while tried < count {
-        let next = rest(one_more(k, 1024), count);
+        let next = rest(plus(k, 1), count);
         k = next;
-        let place = one_more(k, 1024);
-        if !is_held(line, state, nodes, held, place) {
-            return place;
+        if get(w, from + 1 + k as usize) == 0 {
+            return plus(k, 1);
         }
         tried += 1;
     }
     0
 }
 
-// The place of the node that line 27 would take, or of the bucket that 49 would; 0 for none, and at any other line.
-pub fn free_record(line: u32, state: &[u32], nodes: &[u32]) -> u32 {
+fn taken(w: &mut [u32], line: u32) -> u32 {
+    clear(w, NODE_FLAGS, END);
+    flag_nodes(w);
+    flag_buckets(w);
     if line == 27 {
-        return first_free(27, state, nodes, get(state, 1), get(state, 4));
+        return first_free(w, NODE_FLAGS, get(w, H), get(w, LAST_NODE));
     }
-    if line == 49 {
-        return first_free(49, state, nodes, get(state, 2), get(state, 5));
+    first_free(w, BUCKET_FLAGS, get(w, B), get(w, LAST_BUCKET))
+}
+
+// The place of the node that line 27 would take, or of the bucket that 49 would; 0 for none, and at any other line.
+pub fn free_record(w: &mut [u32], line: u32) -> u32 {
+    match line {
+        27 | 49 => taken(w, line),
+        _ => 0,
     }
-    0
 }

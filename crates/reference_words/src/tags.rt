@@ -1,94 +1,146 @@
-// Sets of tags, gone through upwards: each time the smallest tag from a number on is asked for. NONE stands for no such tag.
+// Sets of tags, gone through upwards: each time the smallest tag from a number on is asked for, of all buckets that give tags to the set.
+use super::words::AT_B;
+use super::words::AT_M;
+use super::words::AT_N;
+use super::words::AT_T;
+use super::words::B;
+use super::words::CALL;
+use super::words::I;
+use super::words::MADE;
+use super::words::TAG;
+use super::words::at_home;
 use super::words::bucket;
+use super::words::clear;
+use super::words::either;
 use super::words::get;
+use super::words::head;
+use super::words::home;
 use super::words::node;
-use super::words::one_more;
-use super::words::rest;
+use super::words::plus;
+use super::words::put;
+use super::words::put_words;
 
+// Stands for no tag.
 pub const NONE: u64 = 4294967296;
+// The sets: no tags, the listed tags, b's tags, what b has after line 36, what line 49 makes.
+pub const NO_TAGS: u32 = 0;
 
-// Whether a bucket has a tag.
-pub fn has(x: &[u32], tag: u32) -> bool {
-    smallest(x, 1, 0, tag as u64) == tag as u64
-}
+pub const LISTED_TAGS: u32 = 1;
 
-// The smaller of the best tag so far and one that is wanted.
-fn better(best: u64, from: u64, tag: u64, wanted: bool) -> u64 {
-    if wanted && from <= tag && tag < best {
-        return tag;
-    }
-    best
-}
+pub const TAGS_OF_B: u32 = 18;
 
-// The smallest tag of a bucket from `from` on with tag mod size = i; any tag for size 1 and i 0.
-pub fn smallest(x: &[u32], size: u32, i: u32, from: u64) -> u64 {
-    let count = get(x, 1);
-    let mut best = NONE;
-    let mut j: u32 = 0;
-    while j < 64 {
-        let tag = get(x, j as usize + 2);
-        let b = better(best, from, tag as u64, j < count && rest(tag, size) == i);
-        best = b;
-        j += 1;
-    }
-    best
-}
+pub const AFTER_36: u32 = 36;
+
+pub const MADE_BY_49: u32 = 49;
 
 // "Tag k is in the set if the head's place k mod size names a bucket with k; where that place is empty, the predecessor's place k mod (its
 // size) decides": the place of the bucket that decides on a tag.
-fn decider(nodes: &[u32], head: u32, tag: u32) -> u32 {
-    let h = node(nodes, head);
-    let own = get(h, rest(tag, get(h, 0)) as usize + 2);
+fn decider(w: &[u32], tag: u32) -> u32 {
+    let own = at_home(w, head(w), tag);
     if own != 0 {
         return own;
     }
-    let p = node(nodes, get(h, 1));
-    get(p, rest(tag, get(p, 0)) as usize + 2)
+    at_home(w, node(w, head(w), 1), tag)
 }
 
-// The smallest tag from `from` on, below `best`, of the bucket in a place that decides on it; otherwise `best`.
-fn decided(nodes: &[u32], head: u32, x: &[u32], place: u32, from: u64, best: u64) -> u64 {
-    let count = get(x, 1);
+// "m's tags with tag mod (t's size) = i, or with n filled the union of m and n"
+fn poured(w: &[u32], place: u32, tag: u32) -> bool {
+    if get(w, AT_N) == 0 {
+        return place == get(w, AT_M) && home(w, get(w, AT_T), tag) == get(w, I);
+    }
+    place == get(w, AT_M) || place == get(w, AT_N)
+}
+
+// Whether the bucket in a place gives this tag of its own to a set.
+fn gives(w: &[u32], set: u32, place: u32, tag: u32) -> bool {
+    match set {
+        LISTED_TAGS => decider(w, tag) == place,
+        TAGS_OF_B => place == get(w, AT_B),
+        AFTER_36 => place == get(w, AT_B) && tag != get(w, TAG),
+        _ => poured(w, place, tag),
+    }
+}
+
+// The smaller of the best tag so far and a bucket's tag.
+fn better(w: &[u32], set: u32, place: u32, tag: u32, from: u64, best: u64) -> u64 {
+    if (tag as u64) < from || best <= (tag as u64) {
+        return best;
+    }
+    if gives(w, set, place, tag) {
+        tag as u64
+    } else {
+        best
+    }
+}
+
+fn best_in(w: &[u32], set: u32, place: u32, from: u64, most: u64) -> u64 {
+    let count = bucket(w, place, 1);
+    let mut best = most;
     let mut j: u32 = 0;
     while j < count {
-        let tag = get(x, j as usize + 2);
-        if from <= tag as u64 && decider(nodes, head, tag) == place {
-            return better(best, from, tag as u64, true);
-        }
+        let b = better(w, set, place, bucket(w, place, plus(j, 2)), from, best);
+        best = b;
         j += 1;
     }
     best
 }
 
-// "Listed tags": the smallest one from `from` on. Every bucket of the pool is asked.
-fn listed_from(state: &[u32], nodes: &[u32], buckets: &[u32], from: u64) -> u64 {
-    let head = one_more(get(state, 3), 64);
-    let all = get(state, 2);
-    let mut best = NONE;
+// The tag that an insert brings: b has it after line 36.
+fn brought(w: &[u32], set: u32, from: u64) -> u64 {
+    let tag = get(w, TAG) as u64;
+    if set != AFTER_36 || get(w, CALL) != 1 || tag < from {
+        return NONE;
+    }
+    tag
+}
+
+// The smallest tag of a set from `from` on.
+pub fn smallest(w: &[u32], set: u32, from: u64) -> u64 {
+    let all = either(set == NO_TAGS, 0, get(w, B));
+    let mut best = brought(w, set, from);
     let mut k: u32 = 0;
     while k < all {
         k += 1;
-        let b = decided(nodes, head, bucket(buckets, k), k, from, best);
+        let b = best_in(w, set, k, from, best);
         best = b;
     }
     best
 }
 
-// The count of listed tags, from 65 on as 65, and the first 64 of them.
-pub fn listed(state: &[u32], nodes: &[u32], buckets: &[u32]) -> [u32; 65] {
-    let mut tags = [0u32; 65];
+// How many tags are listed, from 64 on as 64.
+pub fn listed(w: &[u32]) -> u32 {
     let mut from: u64 = 0;
-    let mut n: usize = 0;
-    while n < 65 {
-        let tag = listed_from(state, nodes, buckets, from);
+    let mut n: u32 = 0;
+    while n < 64 {
+        let tag = smallest(w, LISTED_TAGS, from);
         if NONE <= tag {
-            tags[64] = n as u32;
-            return tags;
+            return n;
         }
-        tags[n] = tag as u32;
         from = tag + 1;
         n += 1;
     }
-    tags[64] = 65;
-    tags
+    n
+}
+
+fn add_tag(w: &mut [u32], n: u32, tag: u64) {
+    put(w, MADE + 1, plus(n, 1));
+    put(w, MADE + 2 + n as usize, (tag % NONE) as u32);
+}
+
+// A record is made: a first and a second word, then zeros; but for the tags of a set, if there are any, and their count. A count of 65 says
+// that there are more than 64.
+pub fn gather(w: &mut [u32], first: u32, second: u32, set: u32) {
+    clear(w, MADE, MADE + 67);
+    put_words(w, MADE, &[first, second]);
+    let mut from: u64 = 0;
+    let mut n: u32 = 0;
+    while n < 65 {
+        let tag = smallest(w, set, from);
+        if NONE <= tag {
+            return;
+        }
+        add_tag(w, n, tag);
+        from = tag + 1;
+        n += 1;
+    }
 }

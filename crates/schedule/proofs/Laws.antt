@@ -9,19 +9,21 @@ use borrow.Author.Tests.{eq-eqb, ne-eqb, ltb-false}
 use lib.Dec.{eqb, leb, ltb}
 use lib.ListN.{length, getD, take, drop, length-append, take-append-drop}
 use lib.Seq.{length-take-le, take-at, drop-append-add, getD-drop, drop-drop}
+use Rattle.spec.specs.declared.Config.{Config}
 use Rattle.spec.specs.declared.Listing.{Listing}
 use Rattle.spec.specs.declared.Listing.the-variants.{Refused}
 use Rattle.spec.specs.Lists.{concat-map}
 use Rattle.spec.specs.Numbers.{output-words}
 use Rattle.spec.specs.Machine.{Machine}
 use Rattle.spec.specs.Words.{overwrite}
-use Rattle.spec.specs.Sound.{within, sound}
+use Rattle.spec.specs.Sound.{sound}
 use Rattle.spec.specs.Listed.{listed}
-use Rattle.spec.specs.Entries.{Opened, opening, not-opened, pool-fits, Reply, Written, list}
+use Rattle.spec.specs.Entries.{opening, Reply, Written, list}
 use Rattle.laws.specs.Tests.{choose, or-none}
 use Rattle.spec.specs.Schedule.{Event, event, run, run-opened, schedule}
 use Rattle.schedule_words.specs.Events.{event-of, events-of, listing-number}
 use Rattle.schedule_words.proofs.Laws.{three}
+use Rattle.opening.proofs.Laws.{refusal-small}
 use Rattle.schedule.specs.Encoding.{room-for, decoded, list-opened, run-words}
 
 -- ---- words written one after the other
@@ -119,41 +121,37 @@ events-length (suc n) w = ap suc (events-length n (drop 4 w))
 
 -- ---- the whole
 
-module _ (t : ℕ) (ns bs ws os ts : List ℕ) (refusal : ℕ) (r : refusal ≡ opening t ns bs .refusal) (y₀ : Machine) (o : y₀ ≡ opening t ns bs .machine) where
+module _ (g : Config) (ns bs ws os ts : List ℕ) (refusal : ℕ) (r : refusal ≡ opening g ns bs .refusal) (y₀ : Machine) (o : y₀ ≡ opening g ns bs .machine) where
   pub not-run : (refusal ≡ 0 → ⊥)
-      → record { refusal = refusal; ran = 0; machine = y₀; outs = os; listing = Refused refusal; tags = ts } ≡ run-words t ns bs ws os ts
+      → record { refusal = refusal; ran = 0; machine = y₀; outs = os; listing = Refused refusal; tags = ts } ≡ run-words g ns bs ws os ts
   unfolding run-words schedule run-opened list-opened concat-map
   not-run d = rw (← r, ← o, ne-eqb refusal 0 d, over-none os 0)
 
   module _ (z : refusal ≡ 0) (n : ℕ) (m : n ≡ room-for ws os) (y : Machine) (e : y ≡ run y₀ (events-of n ws) .machine)
       (os′ : List ℕ) (f : os′ ≡ overwrite os 0 (concat-map output-words (run y₀ (events-of n ws) .outs)))
-      (l : Listing) (g : l ≡ list y ts .says) (ts′ : List ℕ) (h : ts′ ≡ list y ts .words) where
-    pub all-run : record { refusal = 0; ran = n; machine = y; outs = os′; listing = l; tags = ts′ } ≡ run-words t ns bs ws os ts
+      (l : Listing) (says≡ : l ≡ list y ts .says) (ts′ : List ℕ) (words≡ : ts′ ≡ list y ts .words) where
+    pub all-run : record { refusal = 0; ran = n; machine = y; outs = os′; listing = l; tags = ts′ } ≡ run-words g ns bs ws os ts
     unfolding run-words schedule run-opened list-opened decoded
     all-run =
         let q : length (run y₀ (events-of n ws) .outs) ≡ n = outs-length y₀ (events-of n ws) ∙ events-length n ws in
-        rw (← r, ← o, eq-eqb refusal 0 z, ← m, ← e, ← f, q, ← g, ← h)
+        rw (← r, ← o, eq-eqb refusal 0 z, ← m, ← e, ← f, q, ← says≡, ← words≡)
         (ap (λ (x : ℕ). record { refusal = x; ran = n; machine = y; outs = os′; listing = l; tags = ts′ }) (sym z))
 
 -- ---- the number for C is small: at most 64 tags are listed, and refusals are numbered to 9
 
-opening-small : (t : ℕ) (ns bs : List ℕ) → opening t ns bs .refusal ≤ 9
-unfolding opening not-opened
-opening-small t ns bs =
-    choose (λ (o : Opened). o .refusal ≤ 9) (not (within 1 8 t)) _ _ (λ p. omega arith) (λ p.
-    choose (λ (o : Opened). o .refusal ≤ 9) (not (pool-fits 34 64 (length ns))) _ _ (λ q. omega arith) (λ q.
-    choose (λ (o : Opened). o .refusal ≤ 9) (not (pool-fits 66 1024 (length bs))) _ _ (λ r. omega arith) (λ r. omega arith)))
+abbrev Small : Written → Type 0
+Small l = listing-number (l .says) ≤ 265
 
-list-small : (y : Machine) (w : List ℕ) → listing-number (list y w .says) ≤ 265
+list-small : (y : Machine) (w : List ℕ) → Small (list y w)
 unfolding list
 list-small y w =
-    choose (λ (l : Written). listing-number (l .says) ≤ 265) (not (sound y) || ltb 64 (length (listed y))) _ _ (λ p. omega arith) (λ p.
-    choose (λ (l : Written). listing-number (l .says) ≤ 265) (not (leb 64 (length w))) _ _ (λ q. omega arith) (λ q.
+    choose Small (not (sound y) || ltb 64 (length (listed y))) _ _ (λ p. omega arith) (λ p.
+    choose Small (not (leb 64 (length w))) _ _ (λ q. omega arith) (λ q.
     let z = ltb-false 64 (length (listed y)) (or-none (not (sound y)) (ltb 64 (length (listed y))) p .1) in omega arith))
 
-pub number-small : (t : ℕ) (ns bs ws os ts : List ℕ) → listing-number (run-words t ns bs ws os ts .listing) ≤ 265
+pub number-small : (g : Config) (ns bs ws os ts : List ℕ) → listing-number (run-words g ns bs ws os ts .listing) ≤ 265
 unfolding run-words list-opened
-number-small t ns bs ws os ts =
-    let o = opening t ns bs .refusal in
-    let y = schedule t ns bs (decoded ws os) .machine in
-    choose (λ (l : Written). listing-number (l .says) ≤ 265) (eqb o 0) (list y ts) _ (λ p. list-small y ts) (λ p. let z = opening-small t ns bs in omega arith)
+number-small g ns bs ws os ts =
+    let o = opening g ns bs .refusal in
+    let y = schedule g ns bs (decoded ws os) .machine in
+    choose Small (eqb o 0) (list y ts) _ (λ p. list-small y ts) (λ p. let z = refusal-small g ns bs in omega arith)

@@ -4,6 +4,7 @@ use Prim.Native.Nat.{ℕ, _/_, min}
 use mathlib.Core.List.{List}
 use lib.Dec.{eqb}
 use lib.ListN.{length}
+use Rattle.spec.specs.declared.Config.{Config}
 use Rattle.spec.specs.declared.Listing.{Listing}
 use Rattle.spec.specs.declared.Listing.the-variants.{Refused}
 use Rattle.spec.specs.Lists.{if_then_else_, concat-map}
@@ -41,12 +42,12 @@ pub record Result : Type 0 where
 unfoldable pub list-opened : ℕ → Machine → List ℕ → Written
 list-opened refusal y w = if eqb refusal 0 then list y w else record { says = Refused refusal; words = w }
 
--- T, and what the slices hold before: both pools, the events, the words for outputs and for tags. The outputs are written one
+-- what the opening is given, and what the slices hold before: both pools, the events, the words for outputs and for tags. The outputs are written one
 -- after the other from the first word on; the words after them are kept.
-unfoldable pub run-words : ℕ → List ℕ → List ℕ → List ℕ → List ℕ → List ℕ → Result
-run-words t ns bs events outs tags =
-    let o = opening t ns bs in
-    let r = schedule t ns bs (decoded events outs) in
+unfoldable pub run-words : Config → List ℕ → List ℕ → List ℕ → List ℕ → List ℕ → Result
+run-words g ns bs events outs tags =
+    let o = opening g ns bs in
+    let r = schedule g ns bs (decoded events outs) in
     let l = list-opened (o .refusal) (r .machine) tags in
     record {
       refusal = o .refusal;

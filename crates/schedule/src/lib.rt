@@ -1,6 +1,7 @@
 // A whole schedule in one call: the opening, then starts and steps given as words, then the list.
 use lines::Moved;
 use schedule_words::Asked;
+use spec::Config;
 use spec::Listing;
 use spec::State;
 ghost use mathlib.Core.Path.{_≡_};
@@ -8,7 +9,7 @@ ghost use Prim.Native.Nat.{_*_, _≤_};
 ghost use lib.ListN.{length};
 ghost use Rattle.spec.specs.Lists.{concat-map};
 ghost use Rattle.spec.specs.Numbers.{output-words};
-ghost use Rattle.spec.specs.Machine.{machine-of};
+ghost use Rattle.spec.specs.Machine.{config-of, machine-of};
 ghost use Rattle.spec.specs.Words.{overwrite};
 ghost use Rattle.spec.specs.Schedule.{event, run};
 ghost use Rattle.spec.specs.Linearizable.{Linearizable};
@@ -25,8 +26,8 @@ pub struct Outcome {
     pub listing: Listing,
 }
 
-// Runs one event; gives what it changes of the state.
-fn one(s: State, kind: u32, task: u32, tag: u32, ns: &mut [u32], bs: &mut [u32]) -> Moved
+// Runs one event, given by its words; gives what it changes of the state.
+fn run_event(s: State, kind: u32, task: u32, tag: u32, ns: &mut [u32], bs: &mut [u32]) -> Moved
     ensures { λ r. ⌜ moved-reply s task r (now (ns .exit)) (now (bs .exit)) ≡ event (machine-of s (now (ns .entry)) (now (bs .entry))) (event-of kind task tag) ⌝ }
 {
     match schedule_words::asked_by(kind) {
@@ -54,7 +55,7 @@ fn run_events(
         let next = i + 1;
         let at = 4 * i;
         let k = events[at + 1];
-        let m = one(t, events[at], k, events[at + 2], ns, bs);
+        let m = run_event(t, events[at], k, events[at + 2], ns, bs);
         let out = m.out;
         schedule_words::write_output(outs, i, out);
         if lines::changes(out, k) {
@@ -72,7 +73,7 @@ fn run_events(
 
 // Opens, runs the events that have room for their outputs, and lists.
 pub fn run(
-    tasks: u32,
+    g: Config,
     ns: &mut [u32],
     bs: &mut [u32],
     events: &[u32],
@@ -80,10 +81,10 @@ pub fn run(
     tags: &mut [u32],
 ) -> Outcome
     ensures words { λ r. ⌜ result-of r (now (ns .exit)) (now (bs .exit)) (now (outs .exit)) (now (tags .exit))
-        ≡ run-words tasks (now (ns .entry)) (now (bs .entry)) (now (events .entry)) (now (outs .entry)) (now (tags .entry)) ⌝ }
-    ensures linearizable { λ r. ⌜ (r .refusal ≡ 0 → Linearizable tasks (now (ns .entry)) (now (bs .entry)) (decoded (now (events .entry)) (now (outs .entry)))) ⌝ }
+        ≡ run-words g (now (ns .entry)) (now (bs .entry)) (now (events .entry)) (now (outs .entry)) (now (tags .entry)) ⌝ }
+    ensures linearizable { λ r. ⌜ (r .refusal ≡ 0 → Linearizable g (now (ns .entry)) (now (bs .entry)) (decoded (now (events .entry)) (now (outs .entry)))) ⌝ }
 {
-    let o = opening::open(tasks, ns, bs);
+    let o = opening::open(g, ns, bs);
     let refusal = o.refusal;
     let s = o.state;
     if refusal != 0 {
@@ -116,9 +117,10 @@ pub extern "C" fn schedule_run(
     tags: &mut [u32],
 ) -> u32
     ensures { λ r. ⌜ c-result r (now (ns .exit)) (now (bs .exit)) (now (outs .exit)) (now (tags .exit))
-        ≡ c-result-of (run-words tasks (now (ns .entry)) (now (bs .entry)) (now (events .entry)) (now (outs .entry)) (now (tags .entry))) ⌝ }
+        ≡ c-result-of (run-words (config-of tasks) (now (ns .entry)) (now (bs .entry)) (now (events .entry)) (now (outs .entry)) (now (tags .entry))) ⌝ }
 {
-    let o = run(tasks, ns, bs, events, outs, tags);
+    let g = state::config(tasks);
+    let o = run(g, ns, bs, events, outs, tags);
     let l = o.listing;
     schedule_words::listing_number(l)
 }

@@ -13,9 +13,10 @@ use Rattle.spec.specs.Listed.{head-of, size-of}
 use Rattle.spec.specs.Entries.{Opened, list}
 use Rattle.spec.specs.Schedule.{run}
 use Rattle.session.specs.Grammar.{InputLine, input-lines}
+use Rattle.session.specs.Header.{HeaderRead, complete, incomplete, read-header}
 use Rattle.session.specs.Keys.{size-key}
 use Rattle.session.specs.Print.{key-line, refusal-line, listing-lines}
-use Rattle.session.specs.Transcript.{events, all-events, final-listing, end-lines, ran-lines, event-lines, session-opening, opened-lines, Header, header, no-header, read-header, header-lines, lines-transcript, transcript}
+use Rattle.session.specs.Transcript.{events, all-events, final-listing, end-lines, ran-lines, event-lines, session-opening, opened-lines, header-lines, lines-transcript, transcript}
 
 key-some : (key : List ℕ) (n : ℕ) → 1 ≤ length (key-line key n)
 unfolding key-line
@@ -47,10 +48,10 @@ opened-some o ls = go (eqb (o .refusal) 0)
     go true = events-some (o .machine) ls
     go false = refusal-some (o .refusal)
 
-header-some : (h : Header) → 1 ≤ length (header-lines h)
+header-some : (r : HeaderRead) → 1 ≤ length (header-lines r)
 unfolding header-lines
-header-some (header t h b ls) = opened-some (session-opening t h b) ls
-header-some no-header = refusal-some 10
+header-some (complete h ls) = opened-some (session-opening h) ls
+header-some incomplete = refusal-some 10
 
 pub answered : (input : List ℕ) → 1 ≤ length (transcript input)
 unfolding transcript lines-transcript

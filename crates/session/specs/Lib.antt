@@ -1,6 +1,7 @@
 pub mod Ascii
 pub mod Keys
 pub mod Grammar
+pub mod Header
 pub mod Print
 pub mod Buffer
 pub mod BufferLaws

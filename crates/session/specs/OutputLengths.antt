@@ -1,5 +1,5 @@
--- The greatest lengths of the lines that a session prints: 52 bytes for an event's line, 1,652 for the final listing of at most
--- 64 tags. They tell a caller how much room to lend. Assumes nothing.
+-- The greatest lengths of the lines that a session prints, for an event and for the final listing of at most 64 tags. They tell a
+-- caller how much room to lend. Assumes nothing.
 use mathlib.Core.List.{List, [], _∷_, _++_}
 use mathlib.Core.Bool.{Bool, true, false}
 use Prim.Native.Nat.{ℕ, zero, suc, _+_, _*_, _/_, _%_, _≤_}
@@ -14,12 +14,23 @@ use Rattle.spec.specs.Lists.{if_then_else_}
 use Rattle.session.specs.Keys.{tag-key, size-key, tags-key}
 use Rattle.session.specs.Print.{decimal-digits, decimal, key-line, answer-word, refusal-line, output-line, tag-lines, listing-lines}
 
+-- how many bytes an input's line prints at most: `end=`, two numbers, a word, two commas and byte 10
+abbrev pub longest-line : ℕ
+longest-line = 52
+
+-- how many bytes the end of an input prints at most: the listing of 64 tags
+abbrev pub longest-end : ℕ
+longest-end = 1652
+
 digits-length : (p n : ℕ) → length (decimal-digits p n) ≤ p
 unfolding decimal-digits
 digits-length zero n = omega arith
 digits-length (suc p) n = go (digits-length p (n / 10)) (ltb n 10)
   where
-    go : length (decimal-digits p (n / 10)) ≤ p → (b : Bool) → length (if b then ((48 + n) ∷ []) else (decimal-digits p (n / 10) ++ ((48 + n % 10) ∷ []))) ≤ suc p
+    front : List ℕ
+    front = decimal-digits p (n / 10)
+
+    go : length front ≤ p → (b : Bool) → length (if b then ((48 + n) ∷ []) else (front ++ ((48 + n % 10) ∷ []))) ≤ suc p
     go ih true = omega arith
     go ih false = simp length-append (omega arith)
 
@@ -44,7 +55,7 @@ word-length Done = omega arith
 word-length Lost = omega arith
 word-length Limit = omega arith
 
-pub output-length : (k : ℕ) (o : Output) → length (output-line k o) ≤ 52
+pub output-length : (k : ℕ) (o : Output) → length (output-line k o) ≤ longest-line
 unfolding output-line
 output-length k (At l) = simp length-append (omega (arith, decimal-length k, decimal-length l))
 output-length k (End a own) = simp length-append (omega (arith, decimal-length k, word-length a, decimal-length own))
@@ -55,7 +66,7 @@ unfolding tag-lines
 tags-length [] = omega arith
 tags-length (t ∷ ts) = simp length-append (omega (arith, key-length tag-key t, tags-length ts))
 
-pub listing-length : (size : ℕ) (ts : List ℕ) → length ts ≤ 64 → length (listing-lines size ts) ≤ 1652
+pub listing-length : (size : ℕ) (ts : List ℕ) → length ts ≤ 64 → length (listing-lines size ts) ≤ longest-end
 unfolding listing-lines
 listing-length size ts h =
     simp length-append (omega (arith, key-length size-key size, key-length tags-key (length ts), tags-length ts))

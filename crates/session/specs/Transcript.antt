@@ -1,5 +1,5 @@
--- What a session prints for an input, whole: `transcript`. The header's numbers open the machine, the event lines are a
--- schedule, and the outputs of its run are printed, then the final listing. Assumes nothing.
+-- What a session prints for an input, whole: `transcript`. The header is read, its numbers open the machine, the lines after it
+-- are a schedule, and the outputs of its run are printed, then the final listing. Assumes nothing.
 use Prim.Native.Nat.{ℕ, _*_}
 use mathlib.Core.List.{List, [], _∷_, _++_}
 use mathlib.Core.Bool.{Bool, true, false, _&&_}
@@ -14,12 +14,11 @@ use Rattle.spec.specs.Sound.{within}
 use Rattle.spec.specs.Listed.{listed, head-of, size-of}
 use Rattle.spec.specs.Entries.{Opened, opening, list}
 use Rattle.spec.specs.Schedule.{Event, starts, steps, Ran, run}
-use Rattle.session.specs.declared.Decimal.{Decimal}
-use Rattle.session.specs.declared.Decimal.the-variants.{Value, NotDecimal}
 use Rattle.session.specs.declared.EventLine.{EventLine}
 use Rattle.session.specs.declared.EventLine.the-variants.{Start, Step, Outside}
-use Rattle.session.specs.Keys.{tasks-key, nodes-key, buckets-key}
-use Rattle.session.specs.Grammar.{InputLine, input-lines, parse-header-line, parse-event-line}
+use Rattle.session.specs.declared.Header.{Header}
+use Rattle.session.specs.Grammar.{InputLine, input-lines, parse-event-line}
+use Rattle.session.specs.Header.{HeaderRead, complete, incomplete, read-header}
 use Rattle.session.specs.Print.{refusal-line, output-line, listing-lines}
 
 -- ---- the events
@@ -80,39 +79,20 @@ event-lines y ls = ran-lines ls (run y (events ls))
 unfoldable pub pool-words : ℕ → ℕ → ℕ → List ℕ
 pool-words width most n = if within 1 most n then replicate (width * n) 0 else []
 
-unfoldable pub session-opening : ℕ → ℕ → ℕ → Opened
-session-opening t h b = opening t (pool-words 34 64 h) (pool-words 66 200 b)
+-- judged once, when the header is complete
+unfoldable pub session-opening : Header → Opened
+session-opening h = opening (h .config) (pool-words 34 64 (h .nodes)) (pool-words 66 200 (h .buckets))
 
 -- "After .. a refused opening, it prints nothing more."
 unfoldable pub opened-lines : Opened → List InputLine → List ℕ
 opened-lines o ls = if eqb (o .refusal) 0 then event-lines (o .machine) ls else refusal-line (o .refusal)
 
--- ---- the header
-
--- "First `tasks=`, `nodes=`, `buckets=`, in that order": the three numbers and the lines after them, or no header
-pub data Header : Type 0 where
-  header : ℕ → ℕ → ℕ → List InputLine → Header
-  no-header : Header
-
-unfoldable pub header-of : Decimal → Decimal → Decimal → List InputLine → Header
-header-of (Value t) (Value h) (Value b) ls = header t h b ls
-header-of (Value t) (Value h) NotDecimal ls = no-header
-header-of (Value t) NotDecimal b ls = no-header
-header-of NotDecimal h b ls = no-header
-
-unfoldable pub read-header : List InputLine → Header
-read-header [] = no-header
-read-header (l ∷ []) = no-header
-read-header (l ∷ m ∷ []) = no-header
-read-header (l ∷ m ∷ n ∷ ls) =
-    header-of (parse-header-line tasks-key l) (parse-header-line nodes-key m) (parse-header-line buckets-key n) ls
-
 -- ---- the whole
 
 -- "Input without three full header lines is 10."
-unfoldable pub header-lines : Header → List ℕ
-header-lines (header t h b ls) = opened-lines (session-opening t h b) ls
-header-lines no-header = refusal-line 10
+unfoldable pub header-lines : HeaderRead → List ℕ
+header-lines (complete h ls) = opened-lines (session-opening h) ls
+header-lines incomplete = refusal-line 10
 
 -- what a session prints for these lines, and for these bytes
 unfoldable pub lines-transcript : List InputLine → List ℕ

@@ -2,6 +2,7 @@
 // whole input.
 
 use spec::Call;
+use spec::Config;
 
 // What bytes that should be a decimal number are.
 pub enum Decimal {
@@ -15,4 +16,27 @@ pub enum EventLine {
     Start(u32, Call, u32),
     Step(u32),
     Outside,
+}
+
+// The header's numbers, as far as they are read: what the opening is given besides the two slices, and how many records each slice
+// has.
+pub struct Header {
+    pub config: Config,
+    pub nodes: u32,
+    pub buckets: u32,
+}
+
+// The header lines, in their order: which one is due.
+pub enum HeaderLine {
+    Tasks,
+    Nodes,
+    Buckets,
+}
+
+// What a line says where a header line is due: it is that line, and then another one is due, or the header is complete; or it is
+// another line, and the header line is missing.
+pub enum HeaderStep {
+    Next(HeaderLine, Header),
+    Complete(Header),
+    Missing,
 }

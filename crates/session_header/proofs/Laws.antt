@@ -8,43 +8,43 @@ use Rattle.spec.specs.declared.State.{State}
 use Rattle.spec.specs.Machine.{Machine, machine-of}
 use Rattle.spec.specs.Entries as entries
 use Rattle.spec.specs.Entries.{opening}
+use Rattle.session.specs.declared.Header.{Header}
 use Rattle.session.specs.Print.{refusal-line}
 use Rattle.session.specs.Buffer.{buffer, append}
 use Rattle.session_state.specs.declared.Phase.the-variants.{Events, Stopped}
-use Rattle.session_state.specs.declared.Session.{Session}
-use Rattle.session_state.specs.Handling.{session, LineHandled, node-extent, bucket-extent, node-part, bucket-part, with-machine, opened-effect, open-effect}
-use Rattle.session_state.proofs.Laws.{handled, nothing-appended, puts-back}
+use Rattle.session_state.specs.Handling.{session, handled, LineHandled, node-extent, bucket-extent, node-part, bucket-part, with-machine, opened-effect, open-effect}
+use Rattle.session_state.proofs.Laws.{nothing-appended, puts-back}
 
-module _ (s : Session) (ns bs : List ℕ) (a b : ℕ) (ea : a ≡ node-extent s ns) (eb : b ≡ bucket-extent s bs) where
+module _ (h : Header) (ns bs : List ℕ) (a b : ℕ) (ea : a ≡ node-extent h ns) (eb : b ≡ bucket-extent h bs) where
   -- the opening: its refusal, and what it leaves
   module _ (m : State) (n' b' : List ℕ) (refusal : ℕ)
-      (hr : refusal ≡ opening (s .tasks) (take a ns) (take b bs) .refusal)
-      (hm : machine-of m n' b' ≡ opening (s .tasks) (take a ns) (take b bs) .machine) where
-    same-opening : opening (s .tasks) (take a ns) (take b bs) ≡ opening (s .tasks) (node-part s ns) (bucket-part s bs)
+      (hr : refusal ≡ opening (h .config) (take a ns) (take b bs) .refusal)
+      (hm : machine-of m n' b' ≡ opening (h .config) (take a ns) (take b bs) .machine) where
+    same-opening : opening (h .config) (take a ns) (take b bs) ≡ opening (h .config) (node-part h ns) (bucket-part h bs)
     same-opening =
-        ap (λ (n : ℕ). opening (s .tasks) (take n ns) (take b bs)) ea
-        ∙ ap (λ (n : ℕ). opening (s .tasks) (node-part s ns) (take n bs)) eb
+        ap (λ (n : ℕ). opening (h .config) (take n ns) (take b bs)) ea
+        ∙ ap (λ (n : ℕ). opening (h .config) (node-part h ns) (take n bs)) eb
 
-    refusal-is : refusal ≡ opening (s .tasks) (node-part s ns) (bucket-part s bs) .refusal
+    refusal-is : refusal ≡ opening (h .config) (node-part h ns) (bucket-part h bs) .refusal
     refusal-is = hr ∙ ap (λ (o : entries.Opened). o .refusal) same-opening
 
-    machine-is : machine-of m n' b' ≡ opening (s .tasks) (node-part s ns) (bucket-part s bs) .machine
+    machine-is : machine-of m n' b' ≡ opening (h .config) (node-part h ns) (bucket-part h bs) .machine
     machine-is = hm ∙ ap (λ (o : entries.Opened). o .machine) same-opening
 
     pub opens : (before : List ℕ) → refusal ≡ 0
-        → LineHandled (open-effect s ns bs) (handled (session Events (s .tasks) (s .nodes) (s .buckets) m) 0) (n' ++ drop a ns) (b' ++ drop b bs) before before
+        → LineHandled (open-effect h ns bs) (handled (session Events h m) 0) (n' ++ drop a ns) (b' ++ drop b bs) before before
     unfolding open-effect opened-effect
     opens before z =
-        let o = opening (s .tasks) (node-part s ns) (bucket-part s bs) in
+        let o = opening (h .config) (node-part h ns) (bucket-part h bs) in
         rw (eq-eqb (o .refusal) 0 (sym refusal-is ∙ z))
-        (puts-back s ns bs a b ea eb Events [] (o .machine) m n' b' 0 before before machine-is (nothing-appended (buffer before 0)))
+        (puts-back h ns bs a b ea eb Events [] (o .machine) m n' b' 0 before before machine-is (nothing-appended (buffer before 0)))
 
     pub refuses : (count : ℕ) (before after : List ℕ) → (refusal ≡ 0 → ⊥)
         → buffer after count ≡ append (refusal-line refusal) (buffer before 0)
-        → LineHandled (open-effect s ns bs) (handled (session Stopped (s .tasks) (s .nodes) (s .buckets) m) count) (n' ++ drop a ns) (b' ++ drop b bs) before after
+        → LineHandled (open-effect h ns bs) (handled (session Stopped h m) count) (n' ++ drop a ns) (b' ++ drop b bs) before after
     unfolding open-effect opened-effect
     refuses count before after n t =
-        let o = opening (s .tasks) (node-part s ns) (bucket-part s bs) in
+        let o = opening (h .config) (node-part h ns) (bucket-part h bs) in
         rw (ne-eqb (o .refusal) 0 (λ e. n (refusal-is ∙ e)))
-        (puts-back s ns bs a b ea eb Stopped (refusal-line (o .refusal)) (o .machine) m n' b' count before after machine-is
+        (puts-back h ns bs a b ea eb Stopped (refusal-line (o .refusal)) (o .machine) m n' b' count before after machine-is
         (t ∙ ap (λ (x : ℕ). append (refusal-line x) (buffer before 0)) refusal-is))

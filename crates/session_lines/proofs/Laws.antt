@@ -20,30 +20,34 @@ use Rattle.spec.specs.Entries as entries
 use Rattle.spec.specs.Entries.{list}
 use Rattle.lines.specs.declared.Stepped.{Stepped}
 use Rattle.lines.specs.Reply.{reply-of}
+use Rattle.session.specs.declared.Header.{Header}
+use Rattle.session.specs.declared.HeaderLine.{HeaderLine}
+use Rattle.session.specs.declared.HeaderStep.the-variants.{Next}
 use Rattle.session.specs.Grammar.{InputLine}
 use Rattle.session.specs.Print.{refusal-line, output-line, listing-lines}
 use Rattle.session.specs.Transcript.{final-listing}
 use Rattle.session.specs.Buffer.{Buffer, buffer, append}
 use Rattle.session_state.specs.declared.Phase.{Phase}
-use Rattle.session_state.specs.declared.Phase.the-variants.{Events, Stopped}
+use Rattle.session_state.specs.declared.Phase.the-variants.{Due, Events}
 use Rattle.session_state.specs.declared.Session.{Session}
 use Rattle.session_state.specs.declared.Handled.{Handled}
-use Rattle.session_state.specs.Handling.{session, LineHandled, pools-kept, node-extent, bucket-extent, node-part, session-machine, reply-effect, phase-effect, line-effect, phase-end, end-output}
-use Rattle.session_state.proofs.Laws.{handled, nothing-appended, puts-back, same-machine}
+use Rattle.session_state.specs.Handling.{session, handled, LineHandled, pools-kept, silent, node-extent, bucket-extent, node-part, session-machine, header-effect, reply-effect, phase-effect, line-effect, phase-end, end-effect}
+use Rattle.session_state.proofs.Laws.{nothing-appended, puts-back, same-machine}
 
 -- ---- a start or a step over the session's part of the pools
 
-module _ (s : Session) (ns bs : List ℕ) (a b : ℕ) (ea : a ≡ node-extent s ns) (eb : b ≡ bucket-extent s bs) where
+module _ (s : Session) (ns bs : List ℕ) (a b : ℕ) (ea : a ≡ node-extent (s .header) ns) (eb : b ≡ bucket-extent (s .header) bs) where
   -- a start or a step f of task k, and its printed line
   pub replies : (k : ℕ) (f : Machine → entries.Reply) (r : Stepped) (n' b' : List ℕ) (count : ℕ) (before after : List ℕ)
       → reply-of r n' b' ≡ f (machine-of (s .state) (take a ns) (take b bs))
       → buffer after count ≡ append (output-line k (r .out)) (buffer before 0)
-      → LineHandled (reply-effect k (f (session-machine s ns bs)) s ns bs) (handled (session Events (s .tasks) (s .nodes) (s .buckets) (r .state)) count) (n' ++ drop a ns) (b' ++ drop b bs) before after
+      → LineHandled (reply-effect k (f (session-machine s ns bs)) s ns bs) (handled (session Events (s .header) (r .state)) count)
+      (n' ++ drop a ns) (b' ++ drop b bs) before after
   unfolding reply-effect
   replies k f r n' b' count before after h t =
-      let g : reply-of r n' b' ≡ f (session-machine s ns bs) = h ∙ ap f (same-machine s ns bs a b ea eb) in
+      let g : reply-of r n' b' ≡ f (session-machine s ns bs) = h ∙ ap f (same-machine (s .header) ns bs a b ea eb (s .state)) in
       let m = f (session-machine s ns bs) in
-      puts-back s ns bs a b ea eb Events (output-line k (m .out)) (m .machine) (r .state) n' b' count before after
+      puts-back (s .header) ns bs a b ea eb Events (output-line k (m .out)) (m .machine) (r .state) n' b' count before after
       (ap (λ (v : entries.Reply). v .machine) g)
       (t ∙ ap (λ (v : entries.Reply). append (output-line k (v .out)) (buffer before 0)) g)
 
@@ -51,7 +55,7 @@ module _ (s : Session) (ns bs : List ℕ) (a b : ℕ) (ea : a ≡ node-extent s 
   pub replies-reading : (k : ℕ) (f : Machine → entries.Reply) (r : Stepped) (count : ℕ) (before after : List ℕ)
       → reply-of r (take a ns) (take b bs) ≡ f (machine-of (s .state) (take a ns) (take b bs))
       → buffer after count ≡ append (output-line k (r .out)) (buffer before 0)
-      → LineHandled (reply-effect k (f (session-machine s ns bs)) s ns bs) (handled (session Events (s .tasks) (s .nodes) (s .buckets) (r .state)) count) ns bs before after
+      → LineHandled (reply-effect k (f (session-machine s ns bs)) s ns bs) (handled (session Events (s .header) (r .state)) count) ns bs before after
   replies-reading k f r count before after h t =
       let d = replies k f r (take a ns) (take b bs) count before after h t in
       record {
@@ -94,15 +98,15 @@ lists y w n h = let r = go (not (sound y)) (ltb 64 (length (listed y))) (not (le
 pub few-listed : (y : Machine) (w : List ℕ) (n : ℕ) (r : Listing) → r ≡ list y w .says → r ≡ Count n → n ≤ 64
 few-listed y w n r h e = lists y w n (sym h ∙ e) .few
 
-module _ (s : Session) (ns bs : List ℕ) (a b : ℕ) (ea : a ≡ node-extent s ns) (eb : b ≡ bucket-extent s bs)
+module _ (s : Session) (ns bs : List ℕ) (a b : ℕ) (ea : a ≡ node-extent (s .header) ns) (eb : b ≡ bucket-extent (s .header) bs)
     (r : Listing) (w w' : List ℕ)
     (hr : r ≡ list (machine-of (s .state) (take a ns) (take b bs)) w .says)
     (hw : w' ≡ list (machine-of (s .state) (take a ns) (take b bs)) w .words) where
   says-is : r ≡ list (session-machine s ns bs) w .says
-  says-is = hr ∙ ap (λ (y : Machine). list y w .says) (same-machine s ns bs a b ea eb)
+  says-is = hr ∙ ap (λ (y : Machine). list y w .says) (same-machine (s .header) ns bs a b ea eb (s .state))
 
   words-is : w' ≡ list (session-machine s ns bs) w .words
-  words-is = hw ∙ ap (λ (y : Machine). list y w .words) (same-machine s ns bs a b ea eb)
+  words-is = hw ∙ ap (λ (y : Machine). list y w .words) (same-machine (s .header) ns bs a b ea eb (s .state))
 
   pub lists-count : (n z : ℕ) (t u : Buffer) → r ≡ Count n → z ≡ size (take a ns) (s .state .head)
       → u ≡ append (listing-lines z (take n w')) t → u ≡ append (final-listing (session-machine s ns bs) (list (session-machine s ns bs) w .says)) t
@@ -112,8 +116,10 @@ module _ (s : Session) (ns bs : List ℕ) (a b : ℕ) (ea : a ≡ node-extent s 
       let q : list y w .says ≡ Count n = sym says-is ∙ e in
       let v : take n w' ≡ listed y = ap (take n) words-is ∙ lists y w n q .tags in
       let k : s .state .head ≡ s .state .head + 1 - 1 = omega arith in
-      let g : z ≡ size (node-part s ns) (s .state .head + 1 - 1) = f ∙ ap (λ (x : ℕ). size (take x ns) (s .state .head)) ea ∙ ap (size (node-part s ns)) k in
-      rw q (p ∙ ap (λ (x : ℕ). append (listing-lines x (take n w')) t) g ∙ ap (λ (l : List ℕ). append (listing-lines (size (node-part s ns) (s .state .head + 1 - 1)) l) t) v)
+      let part = node-part (s .header) ns in
+      let at-head = size part (s .state .head + 1 - 1) in
+      let g : z ≡ at-head = f ∙ ap (λ (x : ℕ). size (take x ns) (s .state .head)) ea ∙ ap (size part) k in
+      rw q (p ∙ ap (λ (x : ℕ). append (listing-lines x (take n w')) t) g ∙ ap (λ (l : List ℕ). append (listing-lines at-head l) t) v)
 
   pub lists-refused : (n : ℕ) (t u : Buffer) → r ≡ Refused n → u ≡ append (refusal-line n) t
       → u ≡ append (final-listing (session-machine s ns bs) (list (session-machine s ns bs) w .says)) t
@@ -124,19 +130,23 @@ module _ (s : Session) (ns bs : List ℕ) (a b : ℕ) (ea : a ≡ node-extent s 
 
 -- ---- a line, and the end of the input, by where the session stands
 
-module _ (s : Session) (p : Phase) (e : s .phase ≡ p) where
-  pub handles : (ns bs : List ℕ) (l : InputLine) (r : Handled) (n' b' before after : List ℕ)
-      → LineHandled (phase-effect p s ns bs l) r n' b' before after → LineHandled (line-effect s ns bs l) r n' b' before after
+module _ (s : Session) (p : Phase) (e : s .phase ≡ p) (ns bs : List ℕ) (r : Handled) (n' b' before after : List ℕ) where
+  pub handles : (l : InputLine) → LineHandled (phase-effect p s ns bs l) r n' b' before after
+      → LineHandled (line-effect s ns bs l) r n' b' before after
   unfolding line-effect
-  handles ns bs l r n' b' before after h =
-      subst (λ (q : Phase). LineHandled (phase-effect q s ns bs l) r n' b' before after) (sym e) h
+  handles l h = subst (λ (q : Phase). LineHandled (phase-effect q s ns bs l) r n' b' before after) (sym e) h
 
-  pub ends : (ns bs : List ℕ) (t u : Buffer) → u ≡ append (phase-end p (session-machine s ns bs)) t → u ≡ append (end-output s ns bs) t
-  unfolding end-output
-  ends ns bs t u h = h ∙ ap (λ (q : Phase). append (phase-end q (session-machine s ns bs)) t) (sym e)
+  pub ends : LineHandled (phase-end p s ns bs) r n' b' before after → LineHandled (end-effect s ns bs) r n' b' before after
+  unfolding end-effect
+  ends h = subst (λ (q : Phase). LineHandled (phase-end q s ns bs) r n' b' before after) (sym e) h
 
 -- nothing is done once the session has stopped
-pub does-nothing : (s : Session) (ns bs : List ℕ) (l : InputLine) (before : List ℕ)
-    → LineHandled (phase-effect Stopped s ns bs l) (handled s 0) ns bs before before
-unfolding phase-effect pools-kept
-does-nothing s ns bs l before = record { next = refl; nodes = refl; buckets = refl; wrote = nothing-appended (buffer before 0) }
+pub does-nothing : (s : Session) (ns bs before : List ℕ) → LineHandled (pools-kept (silent s) ns bs) (handled s 0) ns bs before before
+unfolding pools-kept silent
+does-nothing s ns bs before = record { next = refl; nodes = refl; buckets = refl; wrote = nothing-appended (buffer before 0) }
+
+-- another header line is due, and nothing is printed
+pub goes-on : (s : Session) (due : HeaderLine) (h : Header) (ns bs before : List ℕ)
+    → LineHandled (header-effect (Next due h) s ns bs) (handled (session (Due due) h (s .state)) 0) ns bs before before
+unfolding header-effect pools-kept
+goes-on s due h ns bs before = record { next = refl; nodes = refl; buckets = refl; wrote = nothing-appended (buffer before 0) }

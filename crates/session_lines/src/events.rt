@@ -1,11 +1,9 @@
 // The event lines, each a start or a step, and the final listing.
 ghost use mathlib.Core.Path.{_≡_};
-ghost use lib.ListN.{replicate};
 ghost use Rattle.session.specs.Grammar.{closed-line, parse-event-line};
 ghost use Rattle.session.specs.Buffer.{buffer, append};
-ghost use Rattle.session.specs.Transcript.{final-listing};
-ghost use Rattle.spec.specs.Entries.{start as start-of, step as step-of, list as list-of};
-ghost use Rattle.session_state.specs.Handling.{session-machine, reply-effect, event-effect, LineHandled};
+ghost use Rattle.spec.specs.Entries.{start as start-of, step as step-of};
+ghost use Rattle.session_state.specs.Handling.{prints-last, session-machine, reply-effect, event-effect, final-output, SessionHandled, LineHandled};
 use session::EventLine;
 use session_state::Handled;
 use session_state::Phase;
@@ -25,48 +23,30 @@ fn start_task(
 ) -> Handled
     ensures { λ r. ⌜ LineHandled (reply-effect k (start-of (session-machine s (now (ns .entry)) (now (bs .entry))) k call tag) s (now (ns .entry)) (now (bs .entry))) r (now (ns .entry)) (now (bs .entry)) (now (out .entry)) (now (out .exit)) ⌝ }
 {
-    let a = session_state::pools::node_extent(s.nodes, ns.len());
-    let b = session_state::pools::bucket_extent(s.buckets, bs.len());
+    let header = s.header;
+    let a = session_state::pools::node_extent(header.nodes, ns.len());
+    let b = session_state::pools::bucket_extent(header.buckets, bs.len());
     let before = s.state;
     let d = lent::begin(before, k, call, tag, &ns[..a], &bs[..b]);
     let answered = d.out;
     let m = d.state;
     let c = session_print::output(out, 0, k, answered);
-    let next = Session {
-        phase: Phase::Events,
-        tasks: s.tasks,
-        nodes: s.nodes,
-        buckets: s.buckets,
-        state: m,
-    };
-    Handled {
-        session: next,
-        printed: c,
-    }
+    session_state::after_line(Phase::Events, header, m, c)
 }
 
 // Steps a task by one line of Figure 2, and prints the answer.
 fn step_task(s: Session, k: u32, ns: &mut [u32], bs: &mut [u32], out: &mut [u8]) -> Handled
     ensures { λ r. ⌜ LineHandled (reply-effect k (step-of (session-machine s (now (ns .entry)) (now (bs .entry))) k) s (now (ns .entry)) (now (bs .entry))) r (now (ns .exit)) (now (bs .exit)) (now (out .entry)) (now (out .exit)) ⌝ }
 {
-    let a = session_state::pools::node_extent(s.nodes, ns.len());
-    let b = session_state::pools::bucket_extent(s.buckets, bs.len());
+    let header = s.header;
+    let a = session_state::pools::node_extent(header.nodes, ns.len());
+    let b = session_state::pools::bucket_extent(header.buckets, bs.len());
     let before = s.state;
     let d = lent::turn(before, k, &mut ns[..a], &mut bs[..b]);
     let answered = d.out;
     let m = d.state;
     let c = session_print::output(out, 0, k, answered);
-    let next = Session {
-        phase: Phase::Events,
-        tasks: s.tasks,
-        nodes: s.nodes,
-        buckets: s.buckets,
-        state: m,
-    };
-    Handled {
-        session: next,
-        printed: c,
-    }
+    session_state::after_line(Phase::Events, header, m, c)
 }
 
 pub fn event_line(
@@ -85,12 +65,13 @@ pub fn event_line(
     }
 }
 
-// The final listing.
-pub fn listing(s: Session, ns: &[u32], bs: &[u32], out: &mut [u8]) -> usize
-    ensures { λ r. ⌜ buffer (now (out .exit)) r ≡ append (final-listing (session-machine s (now (ns .entry)) (now (bs .entry))) (list-of (session-machine s (now (ns .entry)) (now (bs .entry))) (replicate 64 0) .says)) (buffer (now (out .entry)) 0) ⌝ }
+// The final listing, and how many bytes it has.
+fn list_tags(s: Session, ns: &[u32], bs: &[u32], out: &mut [u8]) -> usize
+    ensures { λ r. ⌜ buffer (now (out .exit)) r ≡ append (final-output s (now (ns .entry)) (now (bs .entry))) (buffer (now (out .entry)) 0) ⌝ }
 {
-    let a = session_state::pools::node_extent(s.nodes, ns.len());
-    let b = session_state::pools::bucket_extent(s.buckets, bs.len());
+    let header = s.header;
+    let a = session_state::pools::node_extent(header.nodes, ns.len());
+    let b = session_state::pools::bucket_extent(header.buckets, bs.len());
     let m = s.state;
     let head = m.head;
     let size = session_state::pools::node_size(&ns[..a], head);
@@ -103,4 +84,14 @@ pub fn listing(s: Session, ns: &[u32], bs: &[u32], out: &mut [u8]) -> usize
         }
         Listing::Refused(r) => session_bytes::refusal(out, 0, r),
     }
+}
+
+// Prints the final listing, after which nothing more is printed.
+pub fn listing(s: Session, ns: &[u32], bs: &[u32], out: &mut [u8]) -> Handled
+    ensures { λ r. ⌜ SessionHandled (prints-last s (final-output s (now (ns .entry)) (now (bs .entry)))) r (now (out .entry)) (now (out .exit)) ⌝ }
+{
+    let c = list_tags(s, ns, bs, out);
+    let header = s.header;
+    let m = s.state;
+    session_state::after_line(Phase::Stopped, header, m, c)
 }

@@ -28,7 +28,8 @@ module _ (key s : List ℕ) (i : ℕ) where
   unfolding starts-with
   starts-other h l n = rw (drop-cons key i 0 h, drop-cons s i 0 l, ne-eqb _ _ n)
 
-  pub starts-on : i < length key → i < length s → getD s i 0 ≡ getD key i 0 → starts-with (drop i key) (drop i s) ≡ starts-with (drop (i + 1) key) (drop (i + 1) s)
+  pub starts-on : i < length key → i < length s → getD s i 0 ≡ getD key i 0
+      → starts-with (drop i key) (drop i s) ≡ starts-with (drop (i + 1) key) (drop (i + 1) s)
   unfolding starts-with
   starts-on h l e = rw (add-one, drop-cons key i 0 h, drop-cons s i 0 l, eq-eqb _ _ e)
 

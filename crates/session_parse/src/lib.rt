@@ -4,8 +4,12 @@ ghost use mathlib.Core.Path.{_≡_};
 ghost use Prim.Native.Nat.{_≤_};
 ghost use lib.ListN.{length};
 ghost use Rattle.session.specs.Grammar.{starts-with, equals, comma-position, parse-keyed-number, tagged-start, parse-call, parse-start, step-event, parse-event, closed-line, parse-header-line, parse-event-line};
+ghost use Rattle.session.specs.Header.{header-key, with-number, header-step};
 use session::Decimal;
 use session::EventLine;
+use session::Header;
+use session::HeaderLine;
+use session::HeaderStep;
 use spec::Call;
 
 // Whether s starts with the bytes of key.
@@ -132,14 +136,70 @@ pub fn event(s: &[u8]) -> EventLine
     EventLine::Outside
 }
 
-// The number of a closed header line, given without the closing byte.
-pub fn header_line(key: &[u8], s: &[u8]) -> Decimal
+// The number of a closed header line with this key, given without the closing byte.
+pub fn header_number(key: &[u8], s: &[u8]) -> Decimal
     ensures { λ r. ⌜ r ≡ parse-header-line (now (key .entry)) (closed-line (now (s .entry))) ⌝ }
 {
     if s.len() <= 40 {
         return keyed_number(s, key);
     }
     Decimal::NotDecimal
+}
+
+// The number of a closed line, where this header line is due.
+pub fn due_number(due: HeaderLine, s: &[u8]) -> Decimal
+    ensures { λ r. ⌜ r ≡ parse-header-line (header-key due) (closed-line (now (s .entry))) ⌝ }
+{
+    match due {
+        HeaderLine::Tasks => header_number(b"tasks=", s),
+        HeaderLine::Nodes => header_number(b"nodes=", s),
+        HeaderLine::Buckets => header_number(b"buckets=", s),
+    }
+}
+
+// The header with the number of the line that was due.
+pub fn with_number(due: HeaderLine, h: Header, n: u32) -> HeaderStep
+    ensures { λ r. ⌜ r ≡ with-number due h n ⌝ }
+{
+    match due {
+        HeaderLine::Tasks => {
+            let config = state::config(n);
+            let next = Header {
+                config,
+                nodes: h.nodes,
+                buckets: h.buckets,
+            };
+            HeaderStep::Next(HeaderLine::Nodes, next)
+        }
+        HeaderLine::Nodes => {
+            let config = h.config;
+            let next = Header {
+                config,
+                nodes: n,
+                buckets: h.buckets,
+            };
+            HeaderStep::Next(HeaderLine::Buckets, next)
+        }
+        HeaderLine::Buckets => {
+            let config = h.config;
+            let next = Header {
+                config,
+                nodes: h.nodes,
+                buckets: n,
+            };
+            HeaderStep::Complete(next)
+        }
+    }
+}
+
+// What a closed line says where a header line is due.
+pub fn header_line(due: HeaderLine, h: Header, s: &[u8]) -> HeaderStep
+    ensures { λ r. ⌜ r ≡ header-step due h (closed-line (now (s .entry))) ⌝ }
+{
+    match due_number(due, s) {
+        Decimal::Value(n) => with_number(due, h, n),
+        Decimal::NotDecimal => HeaderStep::Missing,
+    }
 }
 
 // What a closed event line asks for, given without the closing byte.

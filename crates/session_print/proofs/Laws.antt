@@ -7,11 +7,13 @@ use native.Mathlib.Numerals.{add-one}
 use lib.ListN.{length, getD, drop, drop-of-length-le}
 use lib.Seq.{drop-cons}
 use Rattle.session.specs.Print.{key-line, tag-lines}
+use Rattle.session.specs.Keys.{tag-key}
 use Rattle.session.specs.BufferLaws.{append-both}
 use Rattle.session.specs.Buffer.{Buffer, append}
 use Rattle.session_bytes.proofs.Laws.{append-3}
 
-pub tags-on : (ts : List ℕ) (i : ℕ) (t : Buffer) → i < length ts → append (tag-lines (drop i ts)) t ≡ append (tag-lines (drop (i + 1) ts)) (append (key-line (116 ∷ 97 ∷ 103 ∷ 61 ∷ []) (getD ts i 0)) t)
+pub tags-on : (ts : List ℕ) (i : ℕ) (t : Buffer) → i < length ts
+    → append (tag-lines (drop i ts)) t ≡ append (tag-lines (drop (i + 1) ts)) (append (key-line tag-key (getD ts i 0)) t)
 unfolding tag-lines
 tags-on ts i t h = rw (add-one, drop-cons ts i 0 h) (append-both _ _ t)
 
@@ -20,5 +22,6 @@ unfolding tag-lines append
 tags-end ts i t h = rw (drop-of-length-le ts h)
 
 -- several printed one after the other
-pub append-5 : (x y z a c : List ℕ) (t u v w b d : Buffer) → u ≡ append x t → v ≡ append y u → w ≡ append z v → b ≡ append a w → d ≡ append c b → d ≡ append (x ++ y ++ z ++ a ++ c) t
+pub append-5 : (x y z a c : List ℕ) (t u v w b d : Buffer) → u ≡ append x t → v ≡ append y u → w ≡ append z v → b ≡ append a w → d ≡ append c b
+    → d ≡ append (x ++ y ++ z ++ a ++ c) t
 append-5 x y z a c t u v w b d p q r s e = append-3 (x ++ y ++ z) a c t w b d (append-3 x y z t u v w p q r) s e

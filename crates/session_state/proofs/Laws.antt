@@ -1,6 +1,6 @@
 -- Laws that the proofs of the functions cite, over plain lists and numbers: the extent of a pool's part, an entry's machine put
 -- back into the lent pools, a line that is not closed yet. Assumes nothing.
-use mathlib.Core.Path.{_≡_, refl, sym, ap, _∙_}
+use mathlib.Core.Path.{_≡_, refl, sym, ap, subst, _∙_}
 use mathlib.Core.List.{List, [], _++_}
 use Prim.Native.Nat.{ℕ, _+_, _*_, _<_, _≤_}
 use native.Mathlib.Omega.{arith}
@@ -10,16 +10,15 @@ use lib.Seq.{take-all}
 use Rattle.spec.specs.declared.State.{State}
 use Rattle.spec.specs.Machine.{Machine, machine-of}
 use Rattle.spec.specs.Words.{size}
+use Rattle.session.specs.declared.Header.{Header}
 use Rattle.session.specs.Buffer.{Buffer, buffer, append}
 use Rattle.session_state.specs.declared.Phase.{Phase}
+use Rattle.session_state.specs.declared.Phase.the-variants.{Stopped}
 use Rattle.session_state.specs.declared.Session.{Session}
 use Rattle.session_state.specs.declared.Handled.{Handled}
 use Rattle.session_state.specs.declared.partial_line.PartialLine.{PartialLine}
 use Rattle.session_state.specs.PartialLines.{partial, pushed}
-use Rattle.session_state.specs.Handling.{session, SessionEffect, SessionHandled, LineHandled, pools-kept, extent, node-extent, bucket-extent, session-machine, with-machine, phase-unclosed, unclosed-output}
-
-abbrev pub handled : Session → ℕ → Handled
-handled s n = record { session = s; printed = n }
+use Rattle.session_state.specs.Handling.{session, handled, SessionEffect, SessionHandled, LineEffect, LineHandled, pools-kept, extent, node-extent, bucket-extent, session-machine, with-machine}
 
 -- ---- the extent of a part
 
@@ -60,33 +59,35 @@ pub keeps : (d : SessionEffect) (r : Handled) (ns bs before after : List ℕ) �
 unfolding pools-kept
 keeps d r ns bs before after h = record { next = h .next; nodes = refl; buckets = refl; wrote = h .wrote }
 
+-- ---- what was built by a call
+
+pub session-as : (d : SessionEffect) (r r' : Handled) (before after : List ℕ) → r ≡ r' → SessionHandled d r' before after → SessionHandled d r before after
+session-as d r r' before after e h = subst (λ (x : Handled). SessionHandled d x before after) (sym e) h
+
+pub line-as : (d : LineEffect) (r r' : Handled) (ns bs before after : List ℕ) → r ≡ r' → LineHandled d r' ns bs before after
+    → LineHandled d r ns bs before after
+line-as d r r' ns bs before after e h = subst (λ (x : Handled). LineHandled d x ns bs before after) (sym e) h
+
 -- ---- an entry over the session's part of the pools
 
-module _ (s : Session) (ns bs : List ℕ) (a b : ℕ) (ea : a ≡ node-extent s ns) (eb : b ≡ bucket-extent s bs) where
+module _ (h : Header) (ns bs : List ℕ) (a b : ℕ) (ea : a ≡ node-extent h ns) (eb : b ≡ bucket-extent h bs) where
   -- the entry's machine put back
   pub puts-back : (phase : Phase) (prints : List ℕ) (y : Machine) (m : State) (n' b' : List ℕ) (count : ℕ) (before after : List ℕ)
       → machine-of m n' b' ≡ y → buffer after count ≡ append prints (buffer before 0)
-      → LineHandled (with-machine phase prints y s ns bs) (handled (session phase (s .tasks) (s .nodes) (s .buckets) m) count) (n' ++ drop a ns) (b' ++ drop b bs) before after
+      → LineHandled (with-machine phase prints y h ns bs) (handled (session phase h m) count) (n' ++ drop a ns) (b' ++ drop b bs) before after
   unfolding with-machine
   puts-back phase prints y m n' b' count before after e t =
       record {
-        next = ap (λ (x : Machine). session phase (s .tasks) (s .nodes) (s .buckets) (x .state)) e;
+        next = ap (λ (x : Machine). session phase h (x .state)) e;
         nodes = ap (λ (x : Machine). x .nodes ++ drop a ns) e ∙ ap (λ (n : ℕ). y .nodes ++ drop n ns) ea;
         buckets = ap (λ (x : Machine). x .buckets ++ drop b bs) e ∙ ap (λ (n : ℕ). y .buckets ++ drop n bs) eb;
         wrote = t;
       }
 
-  pub same-machine : machine-of (s .state) (take a ns) (take b bs) ≡ session-machine s ns bs
-  same-machine =
-      ap (λ (n : ℕ). machine-of (s .state) (take n ns) (take b bs)) ea
-      ∙ ap (λ (n : ℕ). machine-of (s .state) (take (node-extent s ns) ns) (take n bs)) eb
-
--- ---- the end of the input, by where the session stands
-
-module _ (s : Session) (p : Phase) (e : s .phase ≡ p) where
-  pub ends-unclosed : (t u : Buffer) → u ≡ append (phase-unclosed p) t → u ≡ append (unclosed-output s) t
-  unfolding unclosed-output
-  ends-unclosed t u h = h ∙ ap (λ (q : Phase). append (phase-unclosed q) t) (sym e)
+  pub same-machine : (m : State) → machine-of m (take a ns) (take b bs) ≡ session-machine (session Stopped h m) ns bs
+  same-machine m =
+      ap (λ (n : ℕ). machine-of m (take n ns) (take b bs)) ea
+      ∙ ap (λ (n : ℕ). machine-of m (take (node-extent h ns) ns) (take n bs)) eb
 
 -- ---- a line that is not closed yet
 

@@ -19,11 +19,11 @@ use Rattle.session.specs.Transcript.{transcript}
 use Rattle.session_state.specs.declared.Session.{Session}
 use Rattle.session_state.specs.declared.Handled.{Handled}
 use Rattle.session_state.specs.PartialLines.{partial, empty-line, line-bytes, pushed}
-use Rattle.session_state.specs.Handling.{LineEffect, new-session, line-effect, end-output, unclosed-output, LineHandled}
+use Rattle.session_state.specs.Handling.{LineEffect, new-session, line-effect, end-effect, LineHandled}
 use Rattle.session_state.specs.declared.partial_line.PartialLine.{PartialLine}
 use Rattle.session_stream.specs.declared.Fed.{Fed}
-use Rattle.session_stream.specs.Stream.{Progress, begin, handled, kept, feed, feeds, stream-end, stream-output, streamed, FedAs, EndedAs}
-use Rattle.session_stream.specs.PrintsTranscript.{stream-prints-transcript}
+use Rattle.session_stream.specs.Stream.{Progress, begin, handled, kept, feed, feeds, stream-end, stream-output, streamed, FedAs, EndedBy, EndedAs}
+use Rattle.session_stream.specs.PrintsTranscript.{unclosed-too-long, stream-prints-transcript}
 
 abbrev pub fed : Session → PartialLine → ℕ → Fed
 fed s h n = record { session = s; line = h; printed = n }
@@ -50,17 +50,27 @@ module _ (s : Session) (h : PartialLine) (ns bs : List ℕ) where
   feeds-byte x q before z e =
       rw z (record { session = refl; line = e; nodes = refl; buckets = refl; wrote = nothing-appended (buffer before 0) })
 
-  module _ (n : ℕ) (t u : Buffer) (e : length (h .bytes) ≡ 41) (l : n ≤ 41) (f : take n (h .bytes) ≡ line-bytes h) where
+  module _ (n : ℕ) (e : length (h .bytes) ≡ 41) (l : n ≤ 41) (f : take n (h .bytes) ≡ line-bytes h)
+      (r : Handled) (n' b' before after : List ℕ) where
     bytes-count : length (line-bytes h) ≡ n
     bytes-count = ap length (sym f) ∙ length-take-le n (h .bytes) (omega arith)
 
-    pub ends-closed : n ≡ 0 → u ≡ append (end-output s ns bs) t → u ≡ append (stream-end (begin s h ns bs)) t
-    unfolding stream-end
-    ends-closed z p = rw (eq-eqb _ _ (bytes-count ∙ z)) p
+    -- what a line or the end did, without the session
+    ended : (d : LineEffect) → LineHandled d r n' b' before after → EndedBy d (r .printed) n' b' before after
+    ended d p = record { nodes = p .nodes; buckets = p .buckets; wrote = p .wrote }
 
-    pub ends-unclosed : (n ≡ 0 → ⊥) → u ≡ append (unclosed-output s) t → u ≡ append (stream-end (begin s h ns bs)) t
+    pub ends-closed : n ≡ 0 → LineHandled (end-effect s ns bs) r n' b' before after
+        → EndedBy (stream-end (begin s h ns bs)) (r .printed) n' b' before after
     unfolding stream-end
-    ends-unclosed z p = rw (ne-eqb (length (line-bytes h)) 0 (λ q. z (sym bytes-count ∙ q))) p
+    ends-closed z p = rw (eq-eqb _ _ (bytes-count ∙ z)) (ended _ p)
+
+    pub ends-unclosed : (long : List ℕ) → LineHandled (line-effect s ns bs (closed-line long)) r n' b' before after → 40 < length long
+        → (n ≡ 0 → ⊥) → EndedBy (stream-end (begin s h ns bs)) (r .printed) n' b' before after
+    unfolding stream-end
+    ends-unclosed long p q z =
+        let same = unclosed-too-long (line-bytes h) long s ns bs q in
+        rw (ne-eqb (length (line-bytes h)) 0 (λ o. z (sym bytes-count ∙ o)))
+        (ended _ (subst (λ (d : LineEffect). LineHandled d r n' b' before after) same p))
 
 -- ---- a part of the buffer, lent and put back
 
@@ -180,24 +190,25 @@ feeds-none s h ns bs out = record { session = refl; line = refl; nodes = refl; b
 -- ---- a whole session
 
 pub ends-session : (s : Session) (h : PartialLine) → s ≡ new-session → h ≡ empty-line
-    → (input ns bs first : List ℕ) (f : Fed) (n' b' out q : List ℕ) (n : ℕ)
-    → FedAs (feeds (begin s h ns bs) input) f n' b' first out → length out ≡ length first
-    → buffer q n ≡ append (stream-end (begin (f .session) (f .line) n' b')) (buffer (take (length out - f .printed) (drop (f .printed) out)) 0)
-    → EndedAs input ns bs first (f .printed + n) n' b' (take (f .printed) out ++ (q ++ drop (length out - f .printed) (drop (f .printed) out)))
+    → (input ns bs first : List ℕ) (f : Fed) (n' b' out : List ℕ) → FedAs (feeds (begin s h ns bs) input) f n' b' first out → length out ≡ length first
+    → (n : ℕ) (n'' b'' q : List ℕ)
+    → EndedBy (stream-end (begin (f .session) (f .line) n' b')) n n'' b'' (take (length out - f .printed) (drop (f .printed) out)) q
+    → EndedAs input ns bs first (f .printed + n) n'' b'' (take (f .printed) out ++ (q ++ drop (length out - f .printed) (drop (f .printed) out)))
 unfolding streamed stream-output stream-end
-ends-session s h es eh input ns bs first f n' b' out q n g' l e =
+ends-session s h es eh input ns bs first f n' b' out g' l n n'' b'' q e =
     let p = feeds (begin new-session empty-line ns bs) input in
     let x : begin s h ns bs ≡ begin new-session empty-line ns bs = cc (es, eh) in
     let g : FedAs p f n' b' first out = subst (λ (r : Progress). FedAs (feeds r input) f n' b' first out) x g' in
     let w : f .printed ≤ length out = omega (arith, append-within (p .prints) first out (f .printed) (g .wrote)) in
-    let z : begin (f .session) (f .line) n' b' ≡ begin (p .session) (p .line) (p .nodes) (p .buckets) = cc (g .session, g .line, g .nodes, g .buckets) in
+    let left = begin (f .session) (f .line) n' b' in
+    let z : left ≡ begin (p .session) (p .line) (p .nodes) (p .buckets) = cc (g .session, g .line, g .nodes, g .buckets) in
     record {
-      nodes = g .nodes;
-      buckets = g .buckets;
+      nodes = e .nodes ∙ ap (λ (k : Progress). stream-end k .nodes) z;
+      buckets = e .buckets ∙ ap (λ (k : Progress). stream-end k .buckets) z;
       wrote =
           append-written _ _ _ _
-          (appends-on (p .prints) (stream-end (begin (f .session) (f .line) n' b')) first out q (f .printed) n w (g .wrote) e
-          ∙ ap (λ (k : Progress). append (p .prints ++ stream-end k) (buffer first 0)) z);
+          (appends-on (p .prints) (stream-end left .prints) first out q (f .printed) n w (g .wrote) (e .wrote)
+          ∙ ap (λ (k : Progress). append (p .prints ++ stream-end k .prints) (buffer first 0)) z);
     }
 
 -- over pools that are long enough it is the transcript

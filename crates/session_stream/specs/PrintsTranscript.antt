@@ -6,21 +6,22 @@ use mathlib.Core.Bool.{Bool, true, false}
 use Prim.Native.Nat.{ℕ, _+_, _<_, _≤_, min}
 use native.Mathlib.Numerals.{add-one}
 use native.Mathlib.Omega.{arith}
-use borrow.Author.Tests.{ne-eqb, leb-true, leb-false, eqb-true, eqb-false, ltb-true, ltb-false}
+use borrow.Author.Tests.{ne-eqb, lt-leb, leb-true, leb-false, eqb-true, eqb-false, ltb-true, ltb-false}
 use lib.Dec.{leb, eqb, ltb}
 use lib.ListN.{length, take, set, replicate, length-append, length-take, length-set}
 use lib.Seq.{length-take-le, take-all, take-append-le, take-suc-set}
 use Rattle.spec.specs.Lists.{if_then_else_}
 use Rattle.session.specs.declared.Decimal.{Decimal}
 use Rattle.session.specs.declared.EventLine.{EventLine}
-use Rattle.session.specs.Keys.{newline, tasks-key, nodes-key, buckets-key}
+use Rattle.session.specs.Keys.{newline}
 use Rattle.session.specs.Grammar.{InputLine, closed-line, open-line, split-lines, input-lines, admissible, parse-header-line, parse-event-line}
+use Rattle.session.specs.Header.{header-key, number-step, header-step}
 use Rattle.session.specs.Transcript.{transcript}
 use Rattle.session_state.specs.declared.Phase.{Phase}
-use Rattle.session_state.specs.declared.Phase.the-variants.{Tasks, Nodes, Buckets, Events, Stopped}
+use Rattle.session_state.specs.declared.Phase.the-variants.{Due, Events, Stopped}
 use Rattle.session_state.specs.declared.Session.{Session}
 use Rattle.session_state.specs.PartialLines.{partial, empty-line, line-bytes, pushed}
-use Rattle.session_state.specs.Handling.{LineEffect, new-session, session-machine, pools-kept, stopped, tasks-effect, nodes-effect, buckets-effect, event-effect, phase-effect, line-effect, phase-end, end-output, phase-unclosed, unclosed-output, lines-output}
+use Rattle.session_state.specs.Handling.{LineEffect, new-session, pools-kept, stopped, silent, header-effect, event-effect, phase-effect, line-effect, phase-end, end-effect, lines-output}
 use Rattle.session_lines.specs.PrintsTranscript.{lines-print-transcript}
 use Rattle.session_state.specs.declared.partial_line.PartialLine.{PartialLine}
 use Rattle.session_stream.specs.Stream.{Progress, begin, handled, kept, feed, feeds, stream-end, stream-output, streamed}
@@ -63,33 +64,45 @@ module _ (l : List ℕ) where
       go false e = rw (short-admissible ∙ e, e)
 
   short-effect : (s : Session) (ns bs : List ℕ) → line-effect s ns bs (closed-line (take 41 l)) ≡ line-effect s ns bs (closed-line l)
-  unfolding line-effect phase-effect
+  unfolding line-effect phase-effect header-step
   short-effect s ns bs = go (s .phase)
     where
       go : (p : Phase) → phase-effect p s ns bs (closed-line (take 41 l)) ≡ phase-effect p s ns bs (closed-line l)
-      go Tasks = ap (λ (x : Decimal). pools-kept (tasks-effect s x) ns bs) (short-header tasks-key)
-      go Nodes = ap (λ (x : Decimal). pools-kept (nodes-effect s x) ns bs) (short-header nodes-key)
-      go Buckets = ap (λ (x : Decimal). buckets-effect s x ns bs) (short-header buckets-key)
+      go (Due due) = ap (λ (x : Decimal). header-effect (number-step due (s .header) x) s ns bs) (short-header (header-key due))
       go Events = ap (λ (x : EventLine). event-effect s x ns bs) short-event
       go Stopped = refl
 
--- ---- a line that is not closed is the last one
+-- ---- a line that is not closed: it is outside the grammar, as a line that is too long, and the last one
 
-unclosed-last : (l : List ℕ) (s : Session) (ns bs : List ℕ) → lines-output s ns bs (open-line l ∷ []) ≡ unclosed-output s
-unfolding lines-output line-effect unclosed-output phase-effect pools-kept stopped tasks-effect nodes-effect buckets-effect event-effect parse-header-line parse-event-line admissible end-output phase-end phase-unclosed
+pub unclosed-too-long : (l long : List ℕ) (s : Session) (ns bs : List ℕ) → 40 < length long
+    → line-effect s ns bs (closed-line long) ≡ line-effect s ns bs (open-line l)
+unfolding line-effect phase-effect header-step parse-header-line parse-event-line admissible
+unclosed-too-long l long s ns bs h = go (s .phase)
+  where
+    go : (p : Phase) → phase-effect p s ns bs (closed-line long) ≡ phase-effect p s ns bs (open-line l)
+    go (Due due) = rw (lt-leb _ _ h)
+    go Events = rw (lt-leb _ _ h)
+    go Stopped = refl
+
+-- whatever its bytes are
+unclosed-any : (l k : List ℕ) (s : Session) (ns bs : List ℕ) → line-effect s ns bs (open-line l) ≡ line-effect s ns bs (open-line k)
+unclosed-any l k s ns bs =
+    let long = replicate {A = ℕ} 41 0 in
+    sym (unclosed-too-long l long s ns bs (omega arith)) ∙ unclosed-too-long k long s ns bs (omega arith)
+
+unclosed-last : (l : List ℕ) (s : Session) (ns bs : List ℕ) → lines-output s ns bs (open-line l ∷ []) ≡ line-effect s ns bs (open-line l) .prints
+unfolding lines-output line-effect phase-effect header-step number-step header-effect pools-kept stopped silent event-effect parse-header-line parse-event-line admissible end-effect phase-end
 unclosed-last l s ns bs = go (s .phase) refl
   where
     after : Phase → List ℕ
     after p =
         let d = phase-effect p s ns bs (open-line l) in
-        d .prints ++ end-output (d .session) (d .nodes) (d .buckets)
+        d .prints ++ end-effect (d .session) (d .nodes) (d .buckets) .prints
 
-    go : (p : Phase) → s .phase ≡ p → after p ≡ phase-unclosed p
-    go Tasks e = append-nil _
-    go Nodes e = append-nil _
-    go Buckets e = append-nil _
+    go : (p : Phase) → s .phase ≡ p → after p ≡ phase-effect p s ns bs (open-line l) .prints
+    go (Due due) e = append-nil _
     go Events e = append-nil _
-    go Stopped e = ap (λ (q : Phase). phase-end q (session-machine s ns bs)) e
+    go Stopped e = ap (λ (q : Phase). phase-end q s ns bs .prints) e
 
 -- ---- what is kept of a line, against the line so far
 
@@ -181,7 +194,9 @@ feeds-lines [] line p o = go (eqb (length line) 0) refl
     go false e =
         let z : length line ≡ 0 → ⊥ = eqb-false _ _ e in
         let y : length (line-bytes (p .line)) ≡ 0 → ⊥ = λ q. z (omega (arith, kept-length (p .line) line o)) in
-        rw (e, ne-eqb _ _ y) (ap (λ (w : List ℕ). p .prints ++ w) (sym (unclosed-last line (p .session) (p .nodes) (p .buckets))))
+        let any = unclosed-any (line-bytes (p .line)) line (p .session) (p .nodes) (p .buckets) in
+        let last = unclosed-last line (p .session) (p .nodes) (p .buckets) in
+        rw (e, ne-eqb _ _ y) (ap (λ (w : List ℕ). p .prints ++ w) (ap (λ (d : LineEffect). d .prints) any ∙ sym last))
 feeds-lines (x ∷ xs) line p o = go (λ l' p' o'. feeds-lines xs l' p' o') (eqb x newline) refl
   where
     go : ((l' : List ℕ) (p' : Progress) → LineSoFar (p' .line) l' → stream-output (feeds p' xs) ≡ output-left p' l' xs)

@@ -7,10 +7,10 @@ use lib.Dec.{eqb}
 use lib.ListN.{length}
 use Rattle.spec.specs.Lists.{if_then_else_}
 use Rattle.session.specs.Keys.{newline}
-use Rattle.session.specs.Grammar.{closed-line}
+use Rattle.session.specs.Grammar.{closed-line, open-line}
 use Rattle.session.specs.Buffer.{buffer, append, Written}
 use Rattle.session_state.specs.declared.Session.{Session}
-use Rattle.session_state.specs.Handling.{LineEffect, new-session, line-effect, end-output, unclosed-output}
+use Rattle.session_state.specs.Handling.{LineEffect, new-session, line-effect, end-effect}
 use Rattle.session_state.specs.declared.partial_line.PartialLine.{PartialLine}
 use Rattle.session_state.specs.PartialLines.{partial, empty-line, line-bytes, pushed}
 use Rattle.session_stream.specs.declared.Fed.{Fed}
@@ -60,14 +60,15 @@ unfoldable pub feeds : Progress → List ℕ → Progress
 feeds p [] = p
 feeds p (x ∷ xs) = feeds (feed p x) xs
 
--- what the end of the input prints: the last line is closed, or not
-unfoldable pub stream-end : Progress → List ℕ
+-- the end of the input: its last line is closed, or it is not
+unfoldable pub stream-end : Progress → LineEffect
 stream-end p =
-    if eqb (length (line-bytes (p .line))) 0 then end-output (p .session) (p .nodes) (p .buckets)
-    else unclosed-output (p .session)
+    let line = line-bytes (p .line) in
+    if eqb (length line) 0 then end-effect (p .session) (p .nodes) (p .buckets)
+    else line-effect (p .session) (p .nodes) (p .buckets) (open-line line)
 
 unfoldable pub stream-output : Progress → List ℕ
-stream-output p = p .prints ++ stream-end p
+stream-output p = p .prints ++ stream-end p .prints
 
 -- a whole input over lent pools
 unfoldable pub streamed : List ℕ → List ℕ → List ℕ → Progress
@@ -83,8 +84,14 @@ pub record FedAs (p : Progress) (r : Fed) (ns bs before after : List ℕ) : Type
   pub buckets : bs ≡ p .buckets
   pub wrote : buffer after (r .printed) ≡ append (p .prints) (buffer before 0)
 
+-- the end of an input
+pub record EndedBy (d : LineEffect) (count : ℕ) (ns bs before after : List ℕ) : Type 0 where
+  pub nodes : ns ≡ d .nodes
+  pub buckets : bs ≡ d .buckets
+  pub wrote : buffer after count ≡ append (d .prints) (buffer before 0)
+
 -- a whole session over pools that held `ns` and `bs`
 pub record EndedAs (input ns bs before : List ℕ) (count : ℕ) (ns' bs' after : List ℕ) : Type 0 where
-  pub nodes : ns' ≡ streamed input ns bs .nodes
-  pub buckets : bs' ≡ streamed input ns bs .buckets
+  pub nodes : ns' ≡ stream-end (streamed input ns bs) .nodes
+  pub buckets : bs' ≡ stream-end (streamed input ns bs) .buckets
   pub wrote : Written (stream-output (streamed input ns bs)) before after count

@@ -1,11 +1,10 @@
-// A session, byte by byte: a line's bytes are kept until byte 10 closes it, as far as session_state keeps them. `feed_byte` takes one byte, `feed_bytes` a slice of them, `end_stream` the end of the
-// input, and `transcript` a whole session.
-ghost use mathlib.Core.Path.{_≡_};
+// A session, byte by byte: a line's bytes are kept until byte 10 closes it, as far as session_state keeps them. `feed_byte` takes
+// one byte, `feed_bytes` a slice of them, `end_stream` the end of the input, and `transcript` a whole session.
 ghost use Prim.Native.Nat.{_≤_};
 ghost use lib.ListN.{length};
-ghost use Rattle.session.specs.Buffer.{buffer, append, Written};
+ghost use Rattle.session.specs.Buffer.{Written};
 ghost use Rattle.session.specs.Transcript.{transcript};
-ghost use Rattle.session_stream.specs.Stream.{begin, feed, feeds, stream-end, FedAs, EndedAs};
+ghost use Rattle.session_stream.specs.Stream.{begin, feed, feeds, stream-end, FedAs, EndedBy, EndedAs};
 use session_state::Session;
 use session_state::partial_line::PartialLine;
 
@@ -76,15 +75,25 @@ pub fn feed_bytes(
     }
 }
 
-// The end of the input. What is printed for it is written from the buffer's first byte on, and its length given.
-pub fn end_stream(s: Session, h: PartialLine, ns: &[u32], bs: &[u32], out: &mut [u8]) -> usize
-    ensures { λ r. ⌜ buffer (now (out .exit)) r ≡ append (stream-end (begin s h (now (ns .entry)) (now (bs .entry)))) (buffer (now (out .entry)) 0) ⌝ }
+// The end of the input. What is printed for it is written from the buffer's first byte on, and its length given. A last line that
+// is not closed is outside the grammar, as a line that is too long.
+pub fn end_stream(
+    s: Session,
+    h: PartialLine,
+    ns: &mut [u32],
+    bs: &mut [u32],
+    out: &mut [u8],
+) -> usize
+    ensures { λ r. ⌜ EndedBy (stream-end (begin s h (now (ns .entry)) (now (bs .entry)))) r (now (ns .exit)) (now (bs .exit)) (now (out .entry)) (now (out .exit)) ⌝ }
 {
     let n = session_state::partial_line::line_length(h);
     if n == 0 {
-        return session_lines::end_input(s, ns, bs, out);
+        let t = session_lines::end_input(s, ns, bs, out);
+        return t.printed;
     }
-    session_state::end_unclosed(s, out)
+    let long = [0u8; 41];
+    let t = session_lines::handle_line(s, ns, bs, &long, out);
+    t.printed
 }
 
 // A whole session: its input as a slice, over lent pools. What it prints is written from the buffer's first byte on, as far as

@@ -5,9 +5,43 @@ ghost use mathlib.Core.Bool.{_||_};
 ghost use Prim.Native.Nat.{_+_, _*_, _≤_};
 ghost use lib.ListN.{length, drop};
 ghost use lib.Dec.{leb, eqb};
-ghost use Rattle.spec.specs.Lists.{member, every, ascending};
+ghost use Rattle.spec.specs.Lists.{member, all-true, every, ascending};
 ghost use Rattle.spec.specs.Machine.{Machine};
-ghost use Rattle.spec.specs.Sound.{zeros, listed-size, node-link, sound-node, sound-nodes, sound-bucket, sound-buckets};
+ghost use Rattle.spec.specs.Sound.{within, zeros, listed-size, node-link, sound-node, sound-nodes, sound-bucket, sound-buckets};
+
+const NODE_WORDS: usize = pool::NODE_WORDS;
+
+const PLACES: usize = pool::PLACES as usize;
+
+const MOST_TAGS: usize = pool::MOST_TAGS;
+
+const MOST_COUNT: u32 = pool::MOST_TAGS as u32;
+
+// ---- numbers and lists
+
+pub fn within(lo: u32, hi: u32, n: u32) -> bool
+    ensures { λ r. ⌜ r ≡ within lo hi n ⌝ }
+{
+    if n < lo {
+        return false;
+    }
+    n <= hi
+}
+
+// Each of the conditions holds.
+pub fn all_true(w: &[bool]) -> bool
+    ensures { λ r. ⌜ r ≡ all-true (now (w .entry)) ⌝ }
+{
+    let mut i = 0;
+    while i < w.len() {
+        let holds = w[i];
+        if !holds {
+            return false;
+        }
+        i += 1;
+    }
+    true
+}
 
 pub fn among(x: u32, s: &[u32]) -> bool
     ensures { λ r. ⌜ r ≡ member x (now (s .entry)) ⌝ }
@@ -113,14 +147,14 @@ fn node_ok(w: &[u32], ns: &[u32], h: u32, b: u32) -> bool
     if !link_ok(ns, h, p) {
         return false;
     }
-    if !all_within(&w[2..34], b) {
+    if !all_within(&w[2..NODE_WORDS], b) {
         return false;
     }
-    if 32 < z {
+    if pool::PLACES < z {
         return false;
     }
     let n = z as usize;
-    zero_words(w, 2 + n, 32 - n)
+    zero_words(w, 2 + n, PLACES - n)
 }
 
 pub fn nodes_ok(ns: &[u32], h: u32, b: u32) -> bool
@@ -130,7 +164,7 @@ pub fn nodes_ok(ns: &[u32], h: u32, b: u32) -> bool
     let n = h as usize;
     let mut k: usize = 0;
     while k < n {
-        let a = 34 * k;
+        let a = NODE_WORDS * k;
         if !node_ok(&ns[a..], ns, h, b) {
             return false;
         }
@@ -149,7 +183,7 @@ fn bucket_ok(w: &[u32]) -> bool
         return false;
     }
     let c = w[1];
-    if 64 < c {
+    if MOST_COUNT < c {
         return false;
     }
     let n = c as usize;
@@ -157,7 +191,7 @@ fn bucket_ok(w: &[u32]) -> bool
     if !is_ascending(&w[2..e]) {
         return false;
     }
-    zero_words(w, e, 64 - n)
+    zero_words(w, e, MOST_TAGS - n)
 }
 
 pub fn buckets_ok(bs: &[u32], n: usize) -> bool
@@ -166,7 +200,7 @@ pub fn buckets_ok(bs: &[u32], n: usize) -> bool
 {
     let mut k = 0;
     while k < n {
-        let a = 66 * k;
+        let a = pool::BUCKET_WORDS * k;
         if !bucket_ok(&bs[a..]) {
             return false;
         }

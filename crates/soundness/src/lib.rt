@@ -1,5 +1,6 @@
 // Refusal 8, as far as it does not depend on the entry called: the state and both pools are sound. The state's numbers first, then
 // one pass over each pool, then the tasks.
+use spec::Config;
 use spec::State;
 use spec::Task;
 ghost use mathlib.Core.Path.{_≡_};
@@ -11,7 +12,7 @@ ghost use lib.ListN.{length};
 ghost use Rattle.spec.specs.Lists.{member, every};
 ghost use Rattle.spec.specs.Machine.{Machine, machine-of};
 ghost use Rattle.spec.specs.Words.{size};
-ghost use Rattle.spec.specs.Sound.{within, node-link, resizes, zero-task, sound-running, lines-of, sound-task, sound-tasks, sound-numbers, sound};
+ghost use Rattle.spec.specs.Sound.{config-sound, node-link, resizes, zero-task, sound-running, lines-of, sound-task, sound-tasks, sound-numbers, sound};
 
 // A line of the call, by its number.
 fn line_ok(call: u32, line: u32) -> bool
@@ -85,7 +86,7 @@ fn links_ok(c: Task, ns: &[u32], h: u32) -> bool
 }
 
 fn running_ok(c: Task, k: u32, t: u32, ns: &[u32], h: u32, b: u32) -> bool
-    ensures { λ r. ⌜ ((y : Machine) → y .nodes ≡ now (ns .entry) → y .state .tasks ≡ t → y .state .nodes ≡ h → y .state .buckets ≡ b → r ≡ sound-running y k c) ⌝ }
+    ensures { λ r. ⌜ ((y : Machine) → y .nodes ≡ now (ns .entry) → y .state .config .tasks ≡ t → y .state .nodes ≡ h → y .state .buckets ≡ b → r ≡ sound-running y k c) ⌝ }
 {
     if t <= k {
         return false;
@@ -93,7 +94,7 @@ fn running_ok(c: Task, k: u32, t: u32, ns: &[u32], h: u32, b: u32) -> bool
     if !line_ok(c.call, c.line) {
         return false;
     }
-    if 32 < c.i {
+    if pool::PLACES < c.i {
         return false;
     }
     if !tag_ok(c.call, c.tag) {
@@ -107,7 +108,7 @@ fn running_ok(c: Task, k: u32, t: u32, ns: &[u32], h: u32, b: u32) -> bool
 }
 
 fn task_ok(c: Task, k: u32, t: u32, ns: &[u32], h: u32, b: u32) -> bool
-    ensures { λ r. ⌜ ((y : Machine) → y .nodes ≡ now (ns .entry) → y .state .tasks ≡ t → y .state .nodes ≡ h → y .state .buckets ≡ b → r ≡ sound-task y k c) ⌝ }
+    ensures { λ r. ⌜ ((y : Machine) → y .nodes ≡ now (ns .entry) → y .state .config .tasks ≡ t → y .state .nodes ≡ h → y .state .buckets ≡ b → r ≡ sound-task y k c) ⌝ }
 {
     let running = c.running;
     if running {
@@ -120,7 +121,7 @@ fn tasks_ok(s: State, ns: &[u32]) -> bool
     ensures { λ r. ⌜ ((y : Machine) → y .nodes ≡ now (ns .entry) → y .state ≡ s → r ≡ sound-tasks y 0 (s .task)) ⌝ }
 {
     let ts = s.task;
-    let t = s.tasks;
+    let t = s.config.tasks;
     let h = s.nodes;
     let b = s.buckets;
     let mut k: usize = 0;
@@ -134,76 +135,35 @@ fn tasks_ok(s: State, ns: &[u32]) -> bool
     true
 }
 
-// T, H and B are within bounds.
-fn counts_ok(t: u32, h: u32, b: u32) -> bool
-    ensures { λ r. ⌜ r ≡ (within 1 8 t && within 1 64 h && within 1 1024 b) ⌝ }
+// What the state keeps of its opening: a line for each condition of `config-sound`.
+pub fn config_ok(g: Config) -> bool
+    ensures { λ r. ⌜ r ≡ config-sound g ⌝ }
 {
-    if t < 1 {
-        return false;
-    }
-    if 8 < t {
-        return false;
-    }
-    if h < 1 {
-        return false;
-    }
-    if 64 < h {
-        return false;
-    }
-    if b < 1 {
-        return false;
-    }
-    if 1024 < b {
-        return false;
-    }
-    true
+    let w: [bool; 1] = [sound_records::within(1, 8, g.tasks)];
+    sound_records::all_true(&w)
 }
 
-// Each pool has the words of its records.
-fn lengths_ok(ns: &[u32], bs: &[u32], h: u32, b: u32) -> bool
-    ensures { λ r. ⌜ r ≡ (eqb (length (now (ns .entry))) (34 * h) && eqb (length (now (bs .entry))) (66 * b)) ⌝ }
-{
-    if ns.len() != 34 * (h as usize) {
-        return false;
-    }
-    if bs.len() != 66 * (b as usize) {
-        return false;
-    }
-    true
-}
-
-// The head and the records last taken are in their pools, and the head is used.
-fn places_ok(d: u32, last_node: u32, last_bucket: u32, ns: &[u32], h: u32, b: u32) -> bool
-    ensures { λ r. ⌜ r ≡ (ltb d h && ltb «last_node» h && ltb «last_bucket» b && not (eqb (size (now (ns .entry)) d) 0)) ⌝ }
-{
-    if h <= d {
-        return false;
-    }
-    if h <= last_node {
-        return false;
-    }
-    if b <= last_bucket {
-        return false;
-    }
-    let z = pool::size_at(ns, d);
-    if z == 0 {
-        return false;
-    }
-    true
-}
-
+// The state's numbers and the slices' lengths: a line for each condition of `sound-numbers`.
 fn numbers_ok(s: State, ns: &[u32], bs: &[u32]) -> bool
     ensures { λ r. ⌜ r ≡ sound-numbers (machine-of s (now (ns .entry)) (now (bs .entry))) ⌝ }
 {
+    let g = s.config;
     let h = s.nodes;
     let b = s.buckets;
-    if !counts_ok(s.tasks, h, b) {
-        return false;
-    }
-    if !lengths_ok(ns, bs, h, b) {
-        return false;
-    }
-    places_ok(s.head, s.last_node, s.last_bucket, ns, h, b)
+    let node_words = pool::NODE_WORDS * (h as usize);
+    let bucket_words = pool::BUCKET_WORDS * (b as usize);
+    let w: [bool; 9] = [
+        config_ok(g),
+        sound_records::within(1, pool::MOST_NODES, h),
+        sound_records::within(1, pool::MOST_BUCKETS, b),
+        ns.len() == node_words,
+        bs.len() == bucket_words,
+        s.head < h,
+        s.last_node < h,
+        s.last_bucket < b,
+        pool::size_at(ns, s.head) != 0,
+    ];
+    sound_records::all_true(&w)
 }
 
 // Refusal 8, as far as it does not depend on the entry called.

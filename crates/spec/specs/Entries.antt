@@ -6,6 +6,7 @@ use mathlib.Core.Bool.{Bool, not, _&&_, _||_}
 use lib.Dec.{ltb, leb, eqb}
 use lib.ListN.{length, drop, replicate}
 use Rattle.spec.specs.declared.Task.{Task}
+use Rattle.spec.specs.declared.Config.{Config}
 use Rattle.spec.specs.declared.Call.{Call}
 use Rattle.spec.specs.declared.Call.the-variants.{Insert, Remove, Contains, Grow, Shrink}
 use Rattle.spec.specs.declared.Output.{Output}
@@ -14,9 +15,9 @@ use Rattle.spec.specs.declared.Listing.{Listing}
 use Rattle.spec.specs.declared.Listing.the-variants.{Count, Refused}
 use Rattle.spec.specs.Lists.{if_then_else_}
 use Rattle.spec.specs.Numbers.{call-number}
-use Rattle.spec.specs.Machine.{Machine, idle, fresh-task, with-own, state-of, task-of, set-task}
+use Rattle.spec.specs.Machine.{Machine, idle, fresh-task, with-own, zero-config, state-of, task-of, set-task}
 use Rattle.spec.specs.Words.{tags, apply}
-use Rattle.spec.specs.Sound.{within, bucket-count, sound}
+use Rattle.spec.specs.Sound.{within, task-count, bucket-count, sound}
 use Rattle.spec.specs.Listed.{listed}
 use Rattle.spec.specs.Lines.{Next, on, ends, Effect, effect}
 use Rattle.spec.specs.StepRefusals.{unsound-step, all-held}
@@ -34,25 +35,25 @@ pool-fits width most words = eqb (words % width) 0 && within 1 most (words / wid
 
 -- "A refused opening gives a state of all zeros."
 unfoldable pub not-opened : ℕ → List ℕ → List ℕ → Opened
-not-opened r ns bs = record { refusal = r; machine = record { state = state-of 0 0 0; nodes = ns; buckets = bs } }
+not-opened r ns bs = record { refusal = r; machine = record { state = state-of zero-config 0 0; nodes = ns; buckets = bs } }
 
 -- "Opening zeroes both pools, puts changeable empty bucket 0 into node 0 of size 1, makes it head, and sets both 'last taken' to
 -- 0; no task runs."
-unfoldable pub fresh-machine : ℕ → ℕ → ℕ → Machine
-fresh-machine t h b =
+unfoldable pub fresh-machine : Config → ℕ → ℕ → Machine
+fresh-machine g h b =
     record {
-      state = state-of t h b;
+      state = state-of g h b;
       nodes = 1 ∷ 0 ∷ 1 ∷ replicate (34 * h - 3) 0;
       buckets = 1 ∷ replicate (66 * b - 1) 0;
     }
 
 -- "in this order: 1 T outside its bounds; 2 node slice ..; 3 bucket slice ..": of T and what the two slices hold
-unfoldable pub opening : ℕ → List ℕ → List ℕ → Opened
-opening t ns bs =
-    if not (within 1 8 t) then not-opened 1 ns bs
+unfoldable pub opening : Config → List ℕ → List ℕ → Opened
+opening g ns bs =
+    if not (within 1 8 (g .tasks)) then not-opened 1 ns bs
     else if not (pool-fits 34 64 (length ns)) then not-opened 2 ns bs
     else if not (pool-fits 66 1024 (length bs)) then not-opened 3 ns bs
-    else record { refusal = 0; machine = fresh-machine t (length ns / 34) (length bs / 66) }
+    else record { refusal = 0; machine = fresh-machine g (length ns / 34) (length bs / 66) }
 
 -- ---- start and step
 
@@ -76,7 +77,7 @@ started Shrink k = fresh-task (call-number Shrink) 0 20
 unfoldable pub start : Machine → ℕ → Call → ℕ → Reply
 start y k call tag =
     if not (sound y) then refuse 8 y
-    else if not (ltb k (y .state .tasks)) then refuse 4 y
+    else if not (ltb k (task-count y)) then refuse 4 y
     else if task-of y k .running then refuse 5 y
     else record { out = At (started call tag .line); machine = set-task k (started call tag) y }
 
@@ -100,7 +101,7 @@ step-running y k c =
 unfoldable pub step : Machine → ℕ → Reply
 step y k =
     if not (sound y) then refuse 8 y
-    else if not (ltb k (y .state .tasks)) then refuse 4 y
+    else if not (ltb k (task-count y)) then refuse 4 y
     else if not (task-of y k .running) then refuse 6 y
     else step-running y k (task-of y k)
 

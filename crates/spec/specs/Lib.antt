@@ -14,4 +14,17 @@ pub mod History
 pub mod Linearizable
 pub mod Everything
 pub mod Rows
+pub mod ContainsSteps
 pub mod OurCases
+pub mod WholeRows
+pub mod LineRows
+pub mod FillRows
+pub mod ListedRows
+pub mod FullRows
+pub mod HeldRows
+pub mod SpoiltRows
+pub mod SpoiltTaskRows
+pub mod StepRefusalRows
+pub mod EntryRows
+pub mod OrderExamples
+pub mod HistoryRows

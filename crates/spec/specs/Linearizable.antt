@@ -1,18 +1,18 @@
 -- Demand 3 as a type: "ONE order of all ended inserts, removes and contains that respects real time, gives exactly their answers
--- on a plain set of at most 64 tags, and ends with exactly the tags then listed". And the two promises beside it. Proved in the
--- crate linear. Assumes nothing.
-use Prim.Native.Nat.{ℕ, suc, _≤_}
+-- on a plain set of at most 64 tags, and ends with exactly the tags then listed". And a promise beside it. Proved in the crate
+-- linear. Assumes nothing.
+use Prim.Native.Nat.{ℕ, _≤_}
 use mathlib.Core.Path.{_≡_}
 use mathlib.Core.List.{List, [], _∷_, _++_}
 use lib.ListN.{length, drop}
-use Rattle.spec.specs.declared.Call.the-variants.{Contains}
+use Rattle.spec.specs.declared.Config.{Config}
 use Rattle.spec.specs.declared.Output.{Output}
-use Rattle.spec.specs.declared.Output.the-variants.{At, End, Refuse}
+use Rattle.spec.specs.declared.Output.the-variants.{Refuse}
 use Rattle.spec.specs.declared.Listing.the-variants.{Count}
 use Rattle.spec.specs.Plain.{plain}
 use Rattle.spec.specs.Entries.{list}
-use Rattle.spec.specs.Schedule.{Event, starts, steps, schedule}
-use Rattle.spec.specs.History.{Ended, Started, note, none-started, history}
+use Rattle.spec.specs.Schedule.{Event, schedule}
+use Rattle.spec.specs.History.{Ended, history}
 
 -- ---- an order of ended calls
 
@@ -46,16 +46,16 @@ abbrev pub after : List ℕ → List Ended → List ℕ
 after S [] = S
 after S (e ∷ L) = after (plain S (e .call) (e .tag) .tags) L
 
--- ---- demand 3, of one schedule: T, what the two slices held before the opening, and the events
+-- ---- demand 3, of one schedule: what the opening is given, what the two slices held before it, and the events
 
-pub record Linearizable (t : ℕ) (ns bs : List ℕ) (es : List Event) : Type 0 where
+pub record Linearizable (g : Config) (ns bs : List ℕ) (es : List Event) : Type 0 where
   pub order : List Ended
-  pub once : Order (history es (schedule t ns bs es .outs)) order
+  pub once : Order (history es (schedule g ns bs es .outs)) order
   pub timely : Timely order
   pub answers : Answers [] order
   -- "The tags then listed are those that a list call writes, given what the schedule left and 64 words."
   pub listed : (w : List ℕ) → length w ≡ 64
-      → list (schedule t ns bs es .machine) w
+      → list (schedule g ns bs es .machine) w
       ≡ record { says = Count (length (after [] order)); words = after [] order ++ drop (length (after [] order)) w }
 
 -- ---- beside it
@@ -64,19 +64,3 @@ pub record Linearizable (t : ℕ) (ns bs : List ℕ) (es : List Event) : Type 0 
 abbrev pub NoEight : List Output → Type 0
 NoEight [] = Unit {0}
 NoEight (o ∷ os) = (¬ (o ≡ Refuse 8)) × NoEight os
-
--- "A contains ends at the latest with its fifth own step.": of one event and its output
-abbrev pub WithinFive : (ℕ → Started) → Event → Output → Type 0
-WithinFive last (starts p call tag) o = Unit {0}
-WithinFive last (steps p) (At l) = Unit {0}
-WithinFive last (steps p) (End a own) = last p .call ≡ Contains → own ≤ 5
-WithinFive last (steps p) (Refuse r) = Unit {0}
-
--- of all events from the n-th on
-abbrev pub AllWithinFive : ℕ → (ℕ → Started) → List Event → List Output → Type 0
-AllWithinFive n last [] os = Unit {0}
-AllWithinFive n last (e ∷ es) [] = Unit {0}
-AllWithinFive n last (e ∷ es) (o ∷ os) = WithinFive last e o × AllWithinFive (suc n) (note n last e o) es os
-
-abbrev pub ContainsWithinFive : List Event → List Output → Type 0
-ContainsWithinFive es os = AllWithinFive 0 none-started es os

@@ -103,7 +103,7 @@ line-32 y c = moves (with-line 33 (with-t (head-of y) c))
 unfoldable pub line-33 : Machine → Task → Effect
 line-33 y c =
     let b = place-for y (c .t) (c .tag) in
-    let i = slot (c .tag) (size-of y (c .t)) in
+    let i = slot (y .state .config) (c .tag) (size-of y (c .t)) in
     if filled b then moves (with-line 36 (with-b b c)) else moves (with-line 39 (with-i i (with-b b c)))
 
 abbrev pub frozen : Machine → ℕ → Bool
@@ -179,7 +179,7 @@ line-52 y c = writes (freeze (number (c .n))) (with-line 49 c)
 unfoldable pub gathered : Machine → Task → List ℕ
 gathered y c =
     if filled (c .n) then union (tags-of y (c .m)) (tags-of y (c .n))
-    else filter (λ k. eqb (slot k (size-of y (c .t))) (c .i)) (tags-of y (c .m))
+    else filter (λ k. eqb (slot (y .state .config) k (size-of y (c .t))) (c .i)) (tags-of y (c .m))
 
 unfoldable pub line-49 : Machine → Task → Effect
 line-49 y c =

@@ -3,6 +3,7 @@ use Prim.Native.Nat.{ℕ, _%_}
 use mathlib.Core.List.{List, []}
 use mathlib.Core.Bool.{Bool, _&&_}
 use Rattle.spec.specs.Lists.{if_then_else_, member, filter, concat-map, union}
+use Rattle.spec.specs.declared.Config.{Config}
 use Rattle.spec.specs.Machine.{Machine}
 use Rattle.spec.specs.Words.{link, number, filled, size, pred, place, places, tags}
 
@@ -17,13 +18,18 @@ pred-of y l = pred (y .nodes) (number l)
 unfoldable pub place-of : Machine → ℕ → ℕ → ℕ
 place-of y l i = place (y .nodes) (number l) i
 
+-- what of a tag is taken mod a node's size, in a set opened so: the tag itself. Only tags go through it; a place's number, as line
+-- 43 takes it, does not.
+unfoldable pub key : Config → ℕ → ℕ
+key g k = k
+
 -- the number of a tag's place in a node of a size: the one definition that says "k mod size"
-unfoldable pub slot : ℕ → ℕ → ℕ
-slot k sz = k % sz
+unfoldable pub slot : Config → ℕ → ℕ → ℕ
+slot g k sz = key g k % sz
 
 -- the node's place for a tag
 unfoldable pub place-for : Machine → ℕ → ℕ → ℕ
-place-for y l k = place-of y l (slot k (size-of y l))
+place-for y l k = place-of y l (slot (y .state .config) k (size-of y l))
 
 unfoldable pub tags-of : Machine → ℕ → List ℕ
 tags-of y l = tags (y .buckets) (number l)

@@ -16,6 +16,11 @@ unfoldable pub member : ℕ → List ℕ → Bool
 member n [] = false
 member n (x ∷ xs) = eqb n x || member n xs
 
+-- each of the tests passes
+unfoldable pub all-true : List Bool → Bool
+all-true [] = true
+all-true (b ∷ bs) = b && all-true bs
+
 module _ {A : Type 0} where
   -- the test passes at each element
   unfoldable pub every : (A → Bool) → List A → Bool

@@ -5,6 +5,7 @@ use mathlib.Core.List.{List}
 use mathlib.Core.Bool.{true, false}
 use lib.ListN.{getD, set, replicate}
 use Rattle.spec.specs.declared.Task.{Task}
+use Rattle.spec.specs.declared.Config.{Config}
 use Rattle.spec.specs.declared.State.{State}
 
 -- all that an entry may change: the state and the words of both pools ("Both pools are lent slices of 32-bit words")
@@ -19,16 +20,16 @@ machine-of s ns bs = record { state = s; nodes = ns; buckets = bs }
 -- ---- parts of the state and the pools
 
 unfoldable pub state-head : ℕ → State → State
-state-head v s = record { tasks = s .tasks; nodes = s .nodes; buckets = s .buckets; head = v; «last_node» = s .«last_node»; «last_bucket» = s .«last_bucket»; task = s .task }
+state-head v s = record { config = s .config; nodes = s .nodes; buckets = s .buckets; head = v; «last_node» = s .«last_node»; «last_bucket» = s .«last_bucket»; task = s .task }
 
 unfoldable pub state-last-node : ℕ → State → State
-state-last-node v s = record { tasks = s .tasks; nodes = s .nodes; buckets = s .buckets; head = s .head; «last_node» = v; «last_bucket» = s .«last_bucket»; task = s .task }
+state-last-node v s = record { config = s .config; nodes = s .nodes; buckets = s .buckets; head = s .head; «last_node» = v; «last_bucket» = s .«last_bucket»; task = s .task }
 
 unfoldable pub state-last-bucket : ℕ → State → State
-state-last-bucket v s = record { tasks = s .tasks; nodes = s .nodes; buckets = s .buckets; head = s .head; «last_node» = s .«last_node»; «last_bucket» = v; task = s .task }
+state-last-bucket v s = record { config = s .config; nodes = s .nodes; buckets = s .buckets; head = s .head; «last_node» = s .«last_node»; «last_bucket» = v; task = s .task }
 
 unfoldable pub state-task : List Task → State → State
-state-task v s = record { tasks = s .tasks; nodes = s .nodes; buckets = s .buckets; head = s .head; «last_node» = s .«last_node»; «last_bucket» = s .«last_bucket»; task = v }
+state-task v s = record { config = s .config; nodes = s .nodes; buckets = s .buckets; head = s .head; «last_node» = s .«last_node»; «last_bucket» = s .«last_bucket»; task = v }
 
 unfoldable pub with-state : State → Machine → Machine
 with-state s y = record { state = s; nodes = y .nodes; buckets = y .buckets }
@@ -108,13 +109,21 @@ unfoldable pub without-places : Task → Task
 without-places c =
     record { running = c .running; call = c .call; tag = c .tag; line = c .line; i = c .i; own = c .own; t = 0; s = 0; b = 0; m = 0; n = 0; «new_node» = 0; «new_bucket» = 0 }
 
--- ---- the state's tasks
+-- ---- the whole state, and its tasks
+
+-- what an opening is given besides the slices: "opening with T and two slices"
+abbrev pub config-of : ℕ → Config
+config-of t = record { tasks = t }
+
+-- of "a state of all zeros"
+abbrev pub zero-config : Config
+zero-config = record { tasks = 0 }
 
 -- "The state holds T, H, B, the head node, the node and the bucket last taken, and a record for each of eight tasks": as an
 -- opening leaves it, with no task running
-unfoldable pub state-of : ℕ → ℕ → ℕ → State
-state-of t h b =
-    record { tasks = t; nodes = h; buckets = b; head = 0; «last_node» = 0; «last_bucket» = 0; task = replicate 8 idle }
+unfoldable pub state-of : Config → ℕ → ℕ → State
+state-of g h b =
+    record { config = g; nodes = h; buckets = b; head = 0; «last_node» = 0; «last_bucket» = 0; task = replicate 8 idle }
 
 -- task k's record, idle past the end; task k's record replaced
 unfoldable pub task-of : Machine → ℕ → Task

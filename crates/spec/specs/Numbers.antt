@@ -8,8 +8,6 @@ use Rattle.spec.specs.declared.Answer.{Answer}
 use Rattle.spec.specs.declared.Answer.the-variants.{Yes, No, Full, Done, Lost, Limit}
 use Rattle.spec.specs.declared.Output.{Output}
 use Rattle.spec.specs.declared.Output.the-variants.{At, End, Refuse}
-use Rattle.spec.specs.declared.Listing.{Listing}
-use Rattle.spec.specs.declared.Listing.the-variants.{Count, Refused}
 
 -- the call that a task's record keeps; 0 is none
 abbrev pub call-number : Call → ℕ
@@ -33,8 +31,3 @@ abbrev pub output-words : Output → List ℕ
 output-words (At line) = 0 ∷ line ∷ 0 ∷ []
 output-words (End a own) = 1 ∷ answer-number a ∷ own ∷ []
 output-words (Refuse r) = 2 ∷ r ∷ 0 ∷ []
-
--- a list's answer in the same form: the number of tags, or the refusal
-abbrev pub listing-words : Listing → List ℕ
-listing-words (Count n) = 0 ∷ n ∷ 0 ∷ []
-listing-words (Refused r) = 2 ∷ r ∷ 0 ∷ []

@@ -3,18 +3,15 @@
 use Prim.Native.Nat.{ℕ, _*_}
 use mathlib.Core.Path.{_≡_, refl}
 use mathlib.Core.List.{List, [], _∷_, _++_, map}
-use mathlib.Core.Bool.{true, false}
 use lib.ListN.{replicate}
-use Rattle.spec.specs.declared.Answer.the-variants.{Yes, No, Full, Done, Lost}
+use Rattle.spec.specs.declared.Answer.the-variants.{Yes, No, Done, Lost}
 use Rattle.spec.specs.declared.Call.the-variants.{Insert, Remove, Contains, Grow, Shrink}
 use Rattle.spec.specs.declared.Output.{Output}
 use Rattle.spec.specs.declared.Output.the-variants.{At, End, Refuse}
 use Rattle.spec.specs.declared.Listing.{Listing}
 use Rattle.spec.specs.declared.Listing.the-variants.{Count, Refused}
-use Rattle.spec.specs.Machine.{Machine, with-own, set-task, task-of}
-use Rattle.spec.specs.Plain.{insert-answer}
-use Rattle.spec.specs.Entries.{opening, list, show, step}
-use Rattle.spec.specs.Schedule.{Event, run}
+use Rattle.spec.specs.Machine.{config-of}
+use Rattle.spec.specs.Entries.{opening, list}
 use Rattle.spec.specs.Everything.{everything}
 use Rattle.spec.specs.Rows.{Case, expected, observed, stepping, calling, times, in-three, filling, first-grow, grow-to-24, grow-filling}
 
@@ -30,7 +27,7 @@ abbrev pub sized : ℕ → ℕ → ℕ → ℕ → Sized
 sized t n b r = record { tasks = t; node-words = n; bucket-words = b; refusal = r }
 
 unfoldable pub refusal-of : Sized → ℕ
-refusal-of s = opening (s .tasks) (replicate (s .node-words) 7) (replicate (s .bucket-words) 7) .refusal
+refusal-of s = opening (config-of (s .tasks)) (replicate (s .node-words) 7) (replicate (s .bucket-words) 7) .refusal
 
 unfoldable pub openings : List Sized
 openings =
@@ -45,17 +42,11 @@ openings-hold = refl
 -- ---- lists of 64 and 63 words
 
 unfoldable pub listing : ℕ → Listing
-listing n = list (opening 1 (replicate 34 7) (replicate 66 7) .machine) (replicate n 7) .says
+listing n = list (opening (config-of 1) (replicate 34 7) (replicate 66 7) .machine) (replicate n 7) .says
 
 pub listings : map listing (64 ∷ 63 ∷ []) ≡ Count 0 ∷ Refused 9 ∷ []
 unfolding everything listing
 listings = refl
-
--- ---- full from 64 tags on, whether the tag is there or not
-
-pub full-from-64 : map (λ n. insert-answer n false) (63 ∷ 64 ∷ []) ++ map (λ n. insert-answer n true) (63 ∷ 64 ∷ []) ≡ Yes ∷ Full ∷ No ∷ Full ∷ []
-unfolding insert-answer
-full-from-64 = refl
 
 -- ---- schedules
 
@@ -73,7 +64,7 @@ unfoldable pub ours : List Case
 ours =
     -- a contains at 15 whose node has lost its predecessor reads its place again at 17
     record {
-      tasks = 2;
+      config = config-of 2;
       nodes = 2;
       buckets = 3;
       events = calling 0 Insert 5 3 ++ calling 0 Grow 0 7 ++ calling 1 Contains 5 2 ++ calling 0 Grow 0 16 ++ stepping 1 3;
@@ -83,9 +74,21 @@ ours =
       tags = 5 ∷ [];
     }
     ∷
+    -- the same after the head has moved twice: 17 reads t's place, not the head's
+    record {
+      config = config-of 2;
+      nodes = 3;
+      buckets = 3;
+      events = calling 0 Insert 5 3 ++ calling 0 Grow 0 7 ++ calling 1 Contains 5 2 ++ calling 0 Grow 0 18 ++ stepping 1 3;
+      outs = in-three (End Yes 3) ++ first-grow ++ At 12 ∷ At 13 ∷ At 15 ∷ grow-filling 1 18 ++ At 17 ∷ At 18 ∷ End Yes 5 ∷ [];
+      head = 2;
+      size = 4;
+      tags = 5 ∷ [];
+    }
+    ∷
     -- a shrink from 2 to 1; the remove then merges the two buckets, freezing one in each step
     record {
-      tasks = 1;
+      config = config-of 1;
       nodes = 2;
       buckets = 3;
       events = calling 0 Insert 4 3 ++ calling 0 Insert 7 3 ++ calling 0 Grow 0 7 ++ calling 0 Shrink 0 18 ++ calling 0 Remove 4 12;
@@ -100,7 +103,7 @@ ours =
     ∷
     -- between lines 48 and 52 only m is frozen: task 1's insert into n, which waited at 36, still goes in, and task 0's merge has it
     record {
-      tasks = 2;
+      config = config-of 2;
       nodes = 3;
       buckets = 4;
       events = calling 0 Grow 0 7 ++ calling 0 Shrink 0 17 ++ calling 1 Insert 1 2 ++ stepping 0 1 ++ calling 0 Insert 2 7 ++ stepping 1 1 ++ stepping 0 5;
@@ -118,7 +121,7 @@ ours =
     ∷
     -- and m is frozen then: task 1's insert into m, which waited at 36, goes back to 32
     record {
-      tasks = 2;
+      config = config-of 2;
       nodes = 3;
       buckets = 4;
       events = calling 0 Grow 0 7 ++ calling 0 Shrink 0 17 ++ calling 1 Insert 2 2 ++ stepping 0 1 ++ calling 0 Insert 4 7 ++ stepping 1 1 ++ stepping 0 5 ++ stepping 1 3;
@@ -137,7 +140,7 @@ ours =
     ∷
     -- two grows: the second to come to 28 ends lost
     record {
-      tasks = 2;
+      config = config-of 2;
       nodes = 3;
       buckets = 1;
       events = calling 0 Grow 0 6 ++ calling 1 Grow 0 6 ++ stepping 1 1 ++ stepping 0 1;
@@ -149,7 +152,7 @@ ours =
     ∷
     -- task 0 at 33 holds node 0, so a second grow finds no node
     record {
-      tasks = 2;
+      config = config-of 2;
       nodes = 2;
       buckets = 3;
       events = calling 0 Insert 5 1 ++ calling 1 Grow 0 7 ++ calling 1 Grow 0 17 ++ stepping 0 1;
@@ -161,7 +164,7 @@ ours =
     ∷
     -- task 0's new bucket is held before it is placed
     record {
-      tasks = 2;
+      config = config-of 2;
       nodes = 2;
       buckets = 2;
       events = calling 0 Grow 0 7 ++ calling 0 Insert 5 6 ++ calling 1 Insert 5 6 ++ stepping 0 1 ++ stepping 1 1;
@@ -173,7 +176,7 @@ ours =
     ∷
     -- the predecessor's buckets are held
     record {
-      tasks = 1;
+      config = config-of 1;
       nodes = 2;
       buckets = 3;
       events = calling 0 Grow 0 7 ++ calling 0 Grow 0 18 ++ calling 0 Insert 0 10 ++ calling 0 Insert 1 7;
@@ -185,7 +188,7 @@ ours =
     ∷
     -- two tasks fill one place: the second bucket is not placed
     record {
-      tasks = 2;
+      config = config-of 2;
       nodes = 2;
       buckets = 3;
       events = calling 0 Grow 0 7 ++ calling 0 Insert 5 7 ++ calling 1 Insert 5 7 ++ stepping 0 3 ++ stepping 1 3;
@@ -199,7 +202,7 @@ ours =
     ∷
     -- the head's predecessor is held, besides task 0's node
     record {
-      tasks = 2;
+      config = config-of 2;
       nodes = 3;
       buckets = 3;
       events = calling 0 Grow 0 5 ++ calling 1 Grow 0 7 ++ calling 1 Grow 0 18 ++ stepping 0 1;
@@ -211,7 +214,7 @@ ours =
     ∷
     -- node 2 was taken last and is free: node 0 is taken before it
     record {
-      tasks = 2;
+      config = config-of 2;
       nodes = 3;
       buckets = 3;
       events = calling 0 Grow 0 6 ++ calling 1 Grow 0 6 ++ stepping 0 1 ++ stepping 1 1 ++ calling 0 Grow 0 18;
@@ -225,30 +228,3 @@ ours =
 pub ours-hold : map observed ours ≡ map expected ours
 unfolding everything expected observed stepping calling times in-three filling first-grow grow-to-24 grow-filling insert-to-49 insert-filling grow-to-28 ours
 ours-hold = refl
-
--- ---- single words of the state
-
-unfoldable pub left-by : ℕ → ℕ → ℕ → List Event → Machine
-left-by t h b es = run (opening t (replicate (34 * h) 7) (replicate (66 * b) 7) .machine) es .machine
-
--- a split takes over the tags of its place alone
-pub split-tags : show (left-by 1 2 2 (calling 0 Insert 4 3 ++ calling 0 Insert 7 3 ++ calling 0 Grow 0 7 ++ calling 0 Insert 9 10)) 1 ≡ 7 ∷ 9 ∷ []
-unfolding everything left-by calling stepping
-split-tags = refl
-
--- own steps stay at 65,535
-unfoldable pub worn : Machine
-worn = let y = left-by 1 1 1 (calling 0 Insert 4 1) in set-task 0 (with-own 65535 (task-of y 0)) y
-
-pub own-stay : task-of (step worn 0 .machine) 0 .own ≡ 65535
-unfolding everything left-by calling stepping worn
-own-stay = refl
-
--- a frozen bucket at 36 empties i too; the last 51 of a resize adds 1 to i
-pub i-emptied : task-of (left-by 3 2 3 (calling 0 Grow 0 7 ++ calling 1 Insert 5 9 ++ calling 0 Grow 0 18 ++ calling 2 Insert 5 10 ++ stepping 1 1)) 1 .i ≡ 0
-unfolding everything left-by calling stepping
-i-emptied = refl
-
-pub i-counted : task-of (left-by 1 1 1 (calling 0 Grow 0 4)) 0 .i ≡ 1
-unfolding everything left-by calling stepping
-i-counted = refl

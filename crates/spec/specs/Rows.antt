@@ -1,11 +1,13 @@
 -- What the rows of computed cases are made of. A row gives an opening, all its events, all their outputs, and the head, its size and
--- the listed tags at the end. The cases that paper 01 marks P are the crate `cases`; ours are in OurCases. Assumes nothing.
+-- the listed tags at the end. The cases that paper 01 marks P are the crate `cases`; ours are in OurCases, those of whole machines are made by
+-- WholeRows. Assumes nothing.
 use Prim.Native.Nat.{ℕ, zero, suc, _*_}
 use mathlib.Core.List.{List, [], _∷_, _++_}
 use lib.ListN.{replicate}
 use Rattle.spec.specs.declared.Answer.the-variants.{Done}
 use Rattle.spec.specs.declared.Call.{Call}
 use Rattle.spec.specs.declared.Call.the-variants.{Insert, Grow}
+use Rattle.spec.specs.declared.Config.{Config}
 use Rattle.spec.specs.declared.Output.{Output}
 use Rattle.spec.specs.declared.Output.the-variants.{At, End}
 use Rattle.spec.specs.Listed.{listed, head-of, size-of}
@@ -13,7 +15,7 @@ use Rattle.spec.specs.Entries.{opening}
 use Rattle.spec.specs.Schedule.{Event, starts, steps, run}
 
 pub record Case : Type 0 where
-  pub tasks : ℕ
+  pub config : Config
   pub nodes : ℕ
   pub buckets : ℕ
   pub events : List Event
@@ -34,7 +36,7 @@ expected c = record { outs = c .outs; head = c .head; size = c .size; tags = c .
 -- both pools hold sevens before the opening
 unfoldable pub observed : Case → Result
 observed c =
-    let o = opening (c .tasks) (replicate (34 * c .nodes) 7) (replicate (66 * c .buckets) 7) in
+    let o = opening (c .config) (replicate (34 * c .nodes) 7) (replicate (66 * c .buckets) 7) in
     let r = run (o .machine) (c .events) in
     let y = r .machine in
     record { outs = r .outs; head = y .state .head; size = size-of y (head-of y); tags = listed y }

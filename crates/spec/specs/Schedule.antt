@@ -3,6 +3,7 @@ use Prim.Native.Nat.{ℕ}
 use mathlib.Core.List.{List, [], _∷_}
 use lib.Dec.{eqb}
 use Rattle.spec.specs.declared.Call.{Call}
+use Rattle.spec.specs.declared.Config.{Config}
 use Rattle.spec.specs.declared.Output.{Output}
 use Rattle.spec.specs.Lists.{if_then_else_}
 use Rattle.spec.specs.Machine.{Machine}
@@ -34,5 +35,5 @@ run y (e ∷ es) =
 unfoldable pub run-opened : Opened → List Event → Ran
 run-opened o es = if eqb (o .refusal) 0 then run (o .machine) es else record { outs = []; machine = o .machine }
 
-unfoldable pub schedule : ℕ → List ℕ → List ℕ → List Event → Ran
-schedule t ns bs es = run-opened (opening t ns bs) es
+unfoldable pub schedule : Config → List ℕ → List ℕ → List Event → Ran
+schedule g ns bs es = run-opened (opening g ns bs) es

@@ -6,7 +6,8 @@ use mathlib.Core.Bool.{Bool, true, not, _&&_, _||_}
 use lib.Dec.{ltb, leb, eqb}
 use lib.ListN.{length, getD, take, drop}
 use Rattle.spec.specs.declared.Task.{Task}
-use Rattle.spec.specs.Lists.{if_then_else_, member, every, ascending}
+use Rattle.spec.specs.declared.Config.{Config}
+use Rattle.spec.specs.Lists.{if_then_else_, member, all-true, every, ascending}
 use Rattle.spec.specs.Machine.{Machine}
 use Rattle.spec.specs.Words.{number, filled, size}
 
@@ -25,7 +26,10 @@ zeros zero w = true
 zeros (suc n) [] = true
 zeros (suc n) (x ∷ w) = eqb x 0 && zeros n w
 
--- the state's H and B
+-- the state's T, H and B
+abbrev pub task-count : Machine → ℕ
+task-count y = y .state .config .tasks
+
 abbrev pub node-count : Machine → ℕ
 node-count y = y .state .nodes
 
@@ -34,9 +38,9 @@ bucket-count y = y .state .buckets
 
 -- ---- T, H, B, the slices' lengths, the head and the records last taken
 
--- "T, H, B or a slice length is wrong"
-abbrev pub tasks-in-bounds : Machine → Bool
-tasks-in-bounds y = within 1 8 (y .state .tasks)
+-- "T, H, B or a slice length is wrong": T, which is all that the state keeps of what it was opened with
+unfoldable pub config-sound : Config → Bool
+config-sound g = all-true (within 1 8 (g .tasks) ∷ [])
 
 abbrev pub nodes-in-bounds : Machine → Bool
 nodes-in-bounds y = within 1 64 (node-count y)
@@ -66,15 +70,17 @@ head-used y = not (eqb (size (y .nodes) (y .state .head)) 0)
 
 unfoldable pub sound-numbers : Machine → Bool
 sound-numbers y =
-    tasks-in-bounds y
-    && nodes-in-bounds y
-    && buckets-in-bounds y
-    && node-words-right y
-    && bucket-words-right y
-    && head-in-pool y
-    && last-node-in-pool y
-    && last-bucket-in-pool y
-    && head-used y
+    all-true
+    (config-sound (y .state .config)
+    ∷ nodes-in-bounds y
+    ∷ buckets-in-bounds y
+    ∷ node-words-right y
+    ∷ bucket-words-right y
+    ∷ head-in-pool y
+    ∷ last-node-in-pool y
+    ∷ last-bucket-in-pool y
+    ∷ head-used y
+    ∷ [])
 
 -- ---- links
 
@@ -150,7 +156,7 @@ resizes call = eqb call 4 || eqb call 5
 
 -- "a task from T on runs"
 abbrev pub task-below-T : Machine → ℕ → Bool
-task-below-T y k = ltb k (y .state .tasks)
+task-below-T y k = ltb k (task-count y)
 
 -- "a running task's line is not one of its call's, its i is over 32, or a resize has a tag"
 abbrev pub line-of-call : Task → Bool

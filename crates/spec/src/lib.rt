@@ -51,9 +51,14 @@ pub struct Task {
     pub new_bucket: u32,
 }
 
-// The state: T, H, B, the head, the node and the bucket last taken, and eight tasks, those from T on idle.
-pub struct State {
+// What an opening is given besides the two slices, and what the state keeps of it: T, the number of tasks.
+pub struct Config {
     pub tasks: u32,
+}
+
+// The state: what it was opened with, H, B, the head, the node and the bucket last taken, and eight tasks, those from T on idle.
+pub struct State {
+    pub config: Config,
     pub nodes: u32,
     pub buckets: u32,
     pub head: u32,

@@ -1,7 +1,9 @@
 // yardrun: a session over standard input and standard output. It holds one read of the input, one line, what that read prints,
 // and the two pools.
 ghost use mathlib.Core.Path.{_≡_};
+ghost use Prim.Native.Nat.{_*_};
 ghost use lib.ListN.{length};
+ghost use Rattle.session.specs.OutputLengths.{longest-line};
 use session_state::Session;
 use session_state::partial_line::PartialLine;
 
@@ -26,9 +28,9 @@ fn input_room() -> [u8; 1024]
     [0; 1024]
 }
 
-// What one read prints, at most 52 bytes for each of its bytes (`feeds-bound`), or the end, at most 1,652 (`end-bound`).
+// What one read prints, at most `longest-line` bytes for each of its 1,024 (`feeds-bound`), or the end, which is shorter (`end-bound`).
 fn output_room() -> [u8; 53248]
-    ensures { λ r. ⌜ 53248 ≡ length r ⌝ }
+    ensures { λ r. ⌜ 1024 * longest-line ≡ length r ⌝ }
 {
     [0; 53248]
 }
@@ -66,7 +68,7 @@ fn read_some(s: Session, h: PartialLine, ns: &mut [u32], bs: &mut [u32]) -> Read
 }
 
 // What the end of the input prints.
-fn finish(s: Session, h: PartialLine, ns: &[u32], bs: &[u32]) {
+fn finish(s: Session, h: PartialLine, ns: &mut [u32], bs: &mut [u32]) {
     let mut out = output_room();
     let m = session_stream::end_stream(s, h, ns, bs, &mut out);
     io::write_all(1, &out[..m]);

@@ -21,14 +21,14 @@ returns c =
 
 returns-2 : tie.Need-returns-2
 returns-2 c =
-    let at-if1 = c .before .before in
+    let at-if1 = c .before .before .before in
     let checked = at-if1 .before in
     let p = checked .before .before .before in
     barred-4 (machine p) (p .args .k) (sym (checked .sound .ensures) ∙ not-false _ (at-if1 .if1 .left)) (c .if2 .taken)
 
 returns-3 : tie.Need-returns-3
 returns-3 c =
-    let at-if1 = c .before .before in
+    let at-if1 = c .before .before .before in
     let checked = at-if1 .before in
     let p = checked .before .before .before in
     barred-0 (machine p) (p .args .k) (sym (checked .sound .ensures) ∙ not-false _ (at-if1 .if1 .left)) (c .if2 .left)

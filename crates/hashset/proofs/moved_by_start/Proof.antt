@@ -1,10 +1,11 @@
 -- `hashset::moved_by_start` meets its contract: each return is the case of `start` that its tests lead to. Assumes nothing.
-use mathlib.Core.Path.{sym, _∙_}
+use mathlib.Core.Path.{sym}
 use denote.Ref.{now}
 use borrow.Author.Needs.{needs}
 use borrow.Author.Tests.{lt-ltb}
 use Rattle.spec.specs.Machine.{Machine, idle, with-task, with-state, state-head, state-last-node, state-last-bucket, state-task, task-of, set-task, machine-of}
 use Rattle.lines.specs.Reply.{changes, settled}
+use Rattle.lines.proofs.Giving.{refusing, going}
 use Rattle.hashset.proofs.Laws.{start-busy, start-goes, below-8}
 use Rattle.hashset.proofs.moved_by_start.Statement.{statement}
 use Rattle.hashset.proofs.moved_by_start.Tie as tie
@@ -22,7 +23,7 @@ returns : tie.Need-returns
 returns c =
     let p = c .before .before in
     let a = p .before .before .before .args in
-    c .refused .ensures _ _ _ ∙ sym (p .barred .ensures .starts (c .before .if1 .taken) (a .call) (a .tag))
+    refusing _ (c .refused .ensures) (p .barred .ensures .starts (c .before .if1 .taken) (a .call) (a .tag))
 
 mul-c : tie.Need-mul-c
 mul-c c = search needs
@@ -40,7 +41,7 @@ returns-2 c =
     let p = at-if1 .before in
     let a = p .before .before .before .args in
     let passed = p .barred .ensures .passed (at-if1 .if1 .left) in
-    c .refused2 .ensures _ _ _ ∙ sym (start-busy (machine p) (a .k) (a .call) (a .tag) (passed .0) (passed .1) (c .before .if2 .taken))
+    refusing 5 (c .refused2 .ensures) (start-busy (machine p) (a .k) (a .call) (a .tag) (passed .0) (passed .1) (c .before .if2 .taken))
 
 begun-requires : tie.Need-begun-requires
 begun-requires c κs = search needs
@@ -52,7 +53,8 @@ returns-3 c =
     let p = at-if1 .before in
     let a = p .before .before .before .args in
     let passed = p .barred .ensures .passed (at-if1 .if1 .left) in
-    rw (c .begun .ensures, lt-ltb _ _ (below-8 (machine p) _ passed)) (sym (start-goes (machine p) (a .k) (a .call) (a .tag) (passed .0) (passed .1) (c .before .if2 .left)))
+    let low = lt-ltb _ _ (below-8 (machine p) _ passed) in
+    going low (rw (c .begun .ensures, low) (sym (start-goes (machine p) (a .k) (a .call) (a .tag) (passed .0) (passed .1) (c .before .if2 .left))))
 
 pub moved-by-start-spec : {M : Type 1} → statement M
 moved-by-start-spec =

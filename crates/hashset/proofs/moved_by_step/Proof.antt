@@ -1,6 +1,6 @@
 -- `hashset::moved_by_step` meets its contract: each early return is a refusal of `step`; past them the task runs, and stands at a line of
 -- the procedure that its number's range names. Assumes nothing.
-use mathlib.Core.Path.{_≡_, sym, _∙_}
+use mathlib.Core.Path.{_≡_, sym}
 use mathlib.Core.List.{List}
 use mathlib.Core.Bool.{true}
 use Prim.Native.Nat.{ℕ, _<_}
@@ -14,6 +14,7 @@ use Rattle.spec.specs.Machine.{Machine, idle, task-of, machine-of}
 use Rattle.spec.specs.Sound.{sound}
 use Rattle.spec.specs.Entries.{step, step-running}
 use Rattle.lines.specs.Running.{contains-lines, resize-lines, apply-lines, gather-lines, init-bucket-lines, Runs}
+use Rattle.lines.proofs.Giving.{gives-as, refusing}
 use Rattle.hashset.proofs.Laws.{step-idle, step-goes, below-8}
 use Rattle.hashset.proofs.Ranges.{at-contains, at-resize, at-apply, at-init-bucket}
 use Rattle.hashset.proofs.moved_by_step.Statement.{statement}
@@ -32,7 +33,7 @@ module _ (p : tie.Else2) where
   abbrev k : ℕ
   k = p .before .before .before .before .before .before .before .before .args .k
 
-  passed : (sound y ≡ true) × (k < y .state .tasks)
+  passed : (sound y ≡ true) × (k < y .state .config .tasks)
   passed = let at-if1 = p .before .before in at-if1 .before .barred .ensures .passed (at-if1 .if1 .left)
 
   goes : step y k ≡ step-running y k (task-of y k)
@@ -61,7 +62,7 @@ same-length-2 : tie.Need-same-length-2
 same-length-2 c = search needs
 
 returns : tie.Need-returns
-returns c = c .refused .ensures _ _ _ ∙ sym (c .before .before .barred .ensures .steps (c .before .if1 .taken))
+returns c = refusing _ (c .refused .ensures) (c .before .before .barred .ensures .steps (c .before .if1 .taken))
 
 mul-c : tie.Need-mul-c
 mul-c c = search needs
@@ -84,7 +85,7 @@ returns-2 c =
     let at-if1 = c .before .before .before in
     let p = at-if1 .before in
     let passed = p .barred .ensures .passed (at-if1 .if1 .left) in
-    c .refused2 .ensures _ _ _ ∙ sym (step-idle (machine p) _ (passed .0) (passed .1) (not-true _ (c .before .if2 .taken)))
+    refusing 6 (c .refused2 .ensures) (step-idle (machine p) _ (passed .0) (passed .1) (not-true _ (c .before .if2 .taken)))
 
 -- ---- the four procedures
 
@@ -103,7 +104,7 @@ same-length-6 c = search needs
 
 returns-3 : tie.Need-returns-3
 unfolding task-of idle
-returns-3 c = c .step .ensures ∙ sym (goes (c .before .before .before .before))
+returns-3 c = gives-as (sym (goes (c .before .before .before .before))) (c .step .ensures)
 
 step-requires-2 : tie.Need-step-requires-2
 unfolding task-of idle
@@ -122,7 +123,7 @@ returns-4 : tie.Need-returns-4
 unfolding task-of idle
 returns-4 c =
     let called = c .before .before in
-    called .step2 .ensures _ ∙ sym (goes (called .before .before .before .before))
+    gives-as (sym (goes (called .before .before .before .before))) (called .step2 .ensures _)
 
 step-requires-3 : tie.Need-step-requires-3
 unfolding task-of idle
@@ -142,7 +143,7 @@ unfolding task-of idle
 returns-5 c =
     let called = c .before .before in
     let at-if5 = called .before .before .before in
-    called .step3 .ensures ∙ sym (goes (at-if5 .before .before .before))
+    gives-as (sym (goes (at-if5 .before .before .before))) (called .step3 .ensures)
 
 step-requires-4 : tie.Need-step-requires-4
 unfolding task-of idle
@@ -162,7 +163,7 @@ unfolding task-of idle
 returns-6 c =
     let called = c .before .before .before .before in
     let at-if5 = called .before .before .before in
-    called .step4 .ensures ∙ sym (goes (at-if5 .before .before .before))
+    gives-as (sym (goes (at-if5 .before .before .before))) (called .step4 .ensures)
 
 pub moved-by-step-spec : {M : Type 1} → statement M
 moved-by-step-spec =

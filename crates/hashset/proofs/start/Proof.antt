@@ -12,7 +12,7 @@ settle-requires : tie.Need-settle-requires
 settle-requires c κs = search needs
 
 returns : tie.Need-returns
-returns c = c .settle .ensures _ _ ∙ c .before .moved-by-start .ensures
+returns c = c .settle .ensures _ _ ∙ c .before .moved-by-start .ensures .reply
 
 pub start-spec : {M : Type 1} → statement M
 start-spec = tie.close (tie.spec moved-by-start-requires settle-requires returns)

@@ -18,7 +18,7 @@ same-length-2 : tie.Need-same-length-2
 same-length-2 c = search needs
 
 returns : tie.Need-returns
-returns c = c .settle .ensures _ _ ∙ c .before .before .before .before .before .moved-by-step .ensures
+returns c = c .settle .ensures _ _ ∙ c .before .before .before .before .before .moved-by-step .ensures .reply
 
 pub step-spec : {M : Type 1} → statement M
 step-spec =

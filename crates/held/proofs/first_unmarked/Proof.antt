@@ -23,7 +23,8 @@ minus m k = let e : k + 1 - 1 ≡ k = omega arith in rw e
 
 abbrev Inv-loop : tie.InvT-loop
 Inv-loop m n last j₀ j =
-    (1 ≤ j) × (j ≤ n + 1) × ((ls : List ℕ) → Exactly m ls → first-free ls (cyclic-order n last) ≡ first-free ls (map (turn ls n last) (range j (n + 1 - j))))
+    (1 ≤ j) × (j ≤ n + 1) ×
+    ((ls : List ℕ) → Exactly m ls → first-free ls (cyclic-order n last) ≡ first-free ls (map (turn ls n last) (range j (n + 1 - j))))
 
 abbrev μ-loop : tie.MeasureT-loop
 μ-loop m n last j₀ j = n + 1 - j
@@ -55,20 +56,23 @@ shared-slice-read-if1 c =
 
 add-result : tie.Need-add-result Inv-loop μ-loop
 add-result c =
-    let n = c .before .before .before .before .args .n in
-    let l = c .before .before .before .before .args .last in
+    let a = c .before .before .before .before .args in
+    let n = a .n in
+    let l = a .last in
     let j = c .before .before .before .loop .j in
     let b : (l + j) % n < n = mod-lt (l + j) {m = n} (omega arith) in
     omega arith
 
 returns : tie.Need-returns Inv-loop μ-loop
 returns c =
+    let a = c .before .before .before .before .args in
     λ ls x.
-    let n = c .before .before .before .before .args .n in
-    let l = c .before .before .before .before .args .last in
+    let n = a .n in
+    let l = a .last in
     let j = c .before .before .before .loop .j in
     let b : (l + j) % n < n = mod-lt (l + j) {m = n} (omega arith) in
-    let q : member (turn ls n l j) ls ≡ false = sym (x .each (turn ls n l j) (omega arith) (omega arith)) ∙ minus (now (c .before .before .before .before .args .m)) ((l + j) % n) ∙ not-true _ (c .if1 .taken) in
+    let q : member (turn ls n l j) ls ≡ false =
+    sym (x .each (turn ls n l j) (omega arith) (omega arith)) ∙ minus (now (a .m)) ((l + j) % n) ∙ not-true _ (c .if1 .taken) in
     sym (c .before .before .before .loop .inv .2 ls x ∙ free-here ls n l j (c .before .before .loop-test .taken) q)
 
 add-j : tie.Need-add-j Inv-loop μ-loop
@@ -78,21 +82,24 @@ loop-less : tie.Need-loop-less Inv-loop μ-loop
 loop-less c = search needs
 
 loop-again : tie.Need-loop-again Inv-loop μ-loop
-loop-again c = (
-  omega arith,
-  omega arith,
-  λ ls x.
-      let n = c .before .before .before .before .args .n in
-      let l = c .before .before .before .before .args .last in
-      let j = c .before .before .before .loop .j in
-      let b : (l + j) % n < n = mod-lt (l + j) {m = n} (omega arith) in
-      let q : member (turn ls n l j) ls ≡ true = sym (x .each (turn ls n l j) (omega arith) (omega arith)) ∙ minus (now (c .before .before .before .before .args .m)) ((l + j) % n) ∙ not-false _ (c .if1 .left) in
-      c .before .before .before .loop .inv .2 ls x ∙ free-on ls n l j (c .before .before .loop-test .taken) q,
-)
+loop-again c =
+    let a = c .before .before .before .before .args in (
+      omega arith,
+      omega arith,
+      λ ls x.
+          let n = a .n in
+          let l = a .last in
+          let j = c .before .before .before .loop .j in
+          let b : (l + j) % n < n = mod-lt (l + j) {m = n} (omega arith) in
+          let q : member (turn ls n l j) ls ≡ true =
+          sym (x .each (turn ls n l j) (omega arith) (omega arith)) ∙ minus (now (a .m)) ((l + j) % n) ∙ not-false _ (c .if1 .left) in
+          c .before .before .before .loop .inv .2 ls x ∙ free-on ls n l j (c .before .before .loop-test .taken) q,
+    )
 
 returns-2 : tie.Need-returns-2 Inv-loop μ-loop
 returns-2 c =
-    λ ls x. sym (c .before .loop .inv .2 ls x ∙ free-end ls (c .before .before .args .n) (c .before .before .args .last) (c .before .loop .j) (c .loop-test .left))
+    let a = c .before .before .args in
+    λ ls x. sym (c .before .loop .inv .2 ls x ∙ free-end ls (a .n) (a .last) (c .before .loop .j) (c .loop-test .left))
 
 pub first-unmarked-spec : {M : Type 1} → statement M
 first-unmarked-spec =

@@ -24,14 +24,16 @@ returns c =
 
 returns-2 : tie.Need-returns-2
 returns-2 c =
+    let a = c .before .before .before .before .args in
     λ bs.
-    let y = machine-of (c .before .before .before .before .args .s) (now (c .before .before .before .before .args .ns)) bs in
+    let y = machine-of (a .s) (now (a .ns)) bs in
     sym (buckets-past y (c .if2 .taken))
 
 returns-3 : tie.Need-returns-3
 returns-3 c =
+    let a = c .before .before .before .before .before .args in
     λ bs.
-    let y = machine-of (c .before .before .before .before .before .args .s) (now (c .before .before .before .before .before .args .ns)) bs in
+    let y = machine-of (a .s) (now (a .ns)) bs in
     sym (bucket-last-past y (c .if3 .taken))
 
 slice-aggregate-mark-nodes : tie.Need-slice-aggregate-mark-nodes
@@ -63,14 +65,22 @@ first-unmarked-requires c κs =
 
 returns-4 : tie.Need-returns-4
 returns-4 c =
+    let at-mark-placed = c .before .before .before .before .before .before in
+    let at-mark-nodes = at-mark-placed .before .before .before in
+    let at-if3 = at-mark-nodes .before .before in
+    let at-if2 = at-if3 .before in
+    let at-if1 = at-if2 .before in
+    let a = at-if1 .before .before .before .args in
     λ bs.
-    let y = machine-of (c .before .before .before .before .before .before .before .before .before .before .before .before .before .before .before .before .args .s) (now (c .before .before .before .before .before .before .before .before .before .before .before .before .before .before .before .before .args .ns)) bs in
+    let y = machine-of (a .s) (now (a .ns)) bs in
     let ts = concat-map task-buckets (y .state .task) in
-    let nodes = onto (none 64) (c .before .before .before .before .before .before .before .before .before .mark-nodes .ensures bs) in
-    let placed = onto (none 1024) (c .before .before .before .before .before .before .mark-placed .ensures) in
+    let nodes = onto (none 64) (at-mark-nodes .mark-nodes .ensures bs) in
+    let placed = onto (none 1024) (at-mark-placed .mark-placed .ensures) in
     let xs = concat-map (places (y .nodes)) (marked-numbers _) in
-    let all = exactly-alike (xs ++ ts) (placed-low y ++ ts) (append-alike xs (placed-low y) ts (same-places y _ (c .before .before .before .before .before .before .before .before .before .mark-nodes .ensures bs .long) nodes)) (onto placed (c .before .before .before .mark-own .ensures)) in
-    c .first-unmarked .ensures (placed-low y ++ ts) all ∙ sym (bucket-in y (c .before .before .before .before .before .before .before .before .before .before .before .before .before .if1 .left, c .before .before .before .before .before .before .before .before .before .before .before .before .if2 .left, c .before .before .before .before .before .before .before .before .before .before .before .if3 .left))
+    let same = same-places y _ (at-mark-nodes .mark-nodes .ensures bs .long) nodes in
+    let both = append-alike xs (placed-low y) ts same in
+    let all = exactly-alike (xs ++ ts) (placed-low y ++ ts) both (onto placed (c .before .before .before .mark-own .ensures)) in
+    c .first-unmarked .ensures (placed-low y ++ ts) all ∙ sym (bucket-in y (at-if1 .if1 .left, at-if2 .if2 .left, at-if3 .if3 .left))
 
 pub free-bucket-of-spec : {M : Type 1} → statement M
 free-bucket-of-spec =

@@ -20,14 +20,16 @@ returns c =
 
 returns-2 : tie.Need-returns-2
 returns-2 c =
+    let a = c .before .before .before .before .args in
     λ bs.
-    let y = machine-of (c .before .before .before .before .args .s) (now (c .before .before .before .before .args .ns)) bs in
+    let y = machine-of (a .s) (now (a .ns)) bs in
     sym (nodes-past y (c .if2 .taken))
 
 returns-3 : tie.Need-returns-3
 returns-3 c =
+    let a = c .before .before .before .before .before .args in
     λ bs.
-    let y = machine-of (c .before .before .before .before .before .args .s) (now (c .before .before .before .before .before .args .ns)) bs in
+    let y = machine-of (a .s) (now (a .ns)) bs in
     sym (node-last-past y (c .if3 .taken))
 
 slice-aggregate-mark-nodes : tie.Need-slice-aggregate-mark-nodes
@@ -47,9 +49,14 @@ first-unmarked-requires c κs =
 returns-4 : tie.Need-returns-4
 unfolding free-node
 returns-4 c =
+    let at-if3 = c .before .before .before .before .before in
+    let at-if2 = at-if3 .before in
+    let at-if1 = at-if2 .before in
+    let a = at-if1 .before .before .before .args in
     λ bs.
-    let y = machine-of (c .before .before .before .before .before .before .before .before .before .before .args .s) (now (c .before .before .before .before .before .before .before .before .before .before .args .ns)) bs in
-    c .first-unmarked .ensures (held-nodes y) (onto (none 64) (c .before .before .before .mark-nodes .ensures bs)) ∙ sym (node-in y (c .before .before .before .before .before .before .before .if1 .left, c .before .before .before .before .before .before .if2 .left, c .before .before .before .before .before .if3 .left))
+    let y = machine-of (a .s) (now (a .ns)) bs in
+    c .first-unmarked .ensures (held-nodes y) (onto (none 64) (c .before .before .before .mark-nodes .ensures bs))
+    ∙ sym (node-in y (at-if1 .if1 .left, at-if2 .if2 .left, at-if3 .if3 .left))
 
 pub free-node-of-spec : {M : Type 1} → statement M
 free-node-of-spec =

@@ -29,8 +29,10 @@ same-length c = c .before .before .loop .inv .1
 
 returns : tie.Need-returns Inv-loop μ-loop
 returns c =
-    let w = now (c .before .before .before .before .before .args .ns) in
-    finish (chain w (c .before .before .loop .left) (c .before .before .loop .at)) _ (chain-none w (c .before .before .loop .left) (c .before .before .loop .at) (c .if1 .taken)) (c .before .before .loop .inv .2)
+    let a = c .before .before .before .before .before .args in
+    let w = now (a .ns) in
+    let loop = c .before .before .loop in
+    finish (chain w (loop .left) (loop .at)) _ (chain-none w (loop .left) (loop .at) (c .if1 .taken)) (loop .inv .2)
 
 mark-requires : tie.Need-mark-requires Inv-loop μ-loop
 mark-requires c κs = search needs
@@ -46,16 +48,24 @@ loop-less c = search needs
 
 loop-again : tie.Need-loop-again Inv-loop μ-loop
 loop-again c =
-    let w = now (c .before .before .before .before .before .before .before .before .before .before .args .ns) in
-    (omega arith, c .before .before .before .mark .ensures .long ∙ c .before .before .before .before .before .before .before .loop .inv .1, rw (c .pred-of .ensures) (chain-turn w (c .before .before .before .before .before .before .before .loop .left) (c .before .before .before .before .before .before .before .loop .at) (chain w (c .before .before .before .before .before .before .before .before .before .before .args .h) (c .before .before .before .before .before .before .before .before .before .before .args .from)) (c .before .before .before .before .before .before .loop-test .taken) (c .before .before .before .before .before .if1 .left) (c .before .before .before .before .before .before .before .loop .inv .2) (c .before .before .before .mark .ensures)))
+    let at-if1 = c .before .before .before .before .before in
+    let at-test = at-if1 .before in
+    let loop = at-test .before .loop in
+    let a = at-test .before .before .before .before .args in
+    let w = now (a .ns) in
+    let marks = c .before .before .before .mark .ensures in
+    let turn = chain-turn w (loop .left) (loop .at) (chain w (a .h) (a .from)) (at-test .loop-test .taken) (at-if1 .if1 .left) (loop .inv .2) marks in
+    (omega arith, marks .long ∙ loop .inv .1, rw (c .pred-of .ensures) turn)
 
 same-length-2 : tie.Need-same-length-2 Inv-loop μ-loop
 same-length-2 c = c .before .loop .inv .1
 
 returns-2 : tie.Need-returns-2 Inv-loop μ-loop
 returns-2 c =
-    let w = now (c .before .before .before .before .args .ns) in
-    finish (chain w (c .before .loop .left) (c .before .loop .at)) _ (chain-end w (c .before .loop .left) (c .before .loop .at) (omega arith)) (c .before .loop .inv .2)
+    let a = c .before .before .before .before .args in
+    let w = now (a .ns) in
+    let loop = c .before .loop in
+    finish (chain w (loop .left) (loop .at)) _ (chain-end w (loop .left) (loop .at) (omega arith)) (loop .inv .2)
 
 pub mark-chain-spec : {M : Type 1} → statement M
 mark-chain-spec =

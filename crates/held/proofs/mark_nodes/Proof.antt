@@ -55,21 +55,30 @@ loop-less c = search needs
 
 loop-again : tie.Need-loop-again Inv-loop μ-loop
 loop-again c =
-    let w = now (c .before .before .before .before .before .before .before .before .before .before .before .before .before .before .before .args .ns) in
-    let ts = c .before .before .before .before .before .before .before .before .before .before .before .before .before .before .before .args .s .task in
-    let f = of-task w (c .before .before .before .before .before .before .before .before .before .before .before .before .before .before .before .args .s .nodes) in
-    (omega arith, c .before .before .mark-task-nodes .ensures .long ∙ c .before .before .before .before .before .before .loop .inv .1, tasks-turn f ts (c .before .before .before .before .before .before .loop .k) _ (concat-map f ts) (omega (arith, len (c .before .before .before .before .before .before .before .before .before .before .before .before .before .before .before))) (c .before .before .before .before .before .before .loop .inv .2) (c .before .before .mark-task-nodes .ensures))
+    let loop = c .before .before .before .before .before .before .loop in
+    let start = c .before .before .before .before .before .before .before .before .before .before .before .before .before .before .before in
+    let a = start .args in
+    let w = now (a .ns) in
+    let ts = a .s .task in
+    let f = of-task w (a .s .nodes) in
+    let marks = c .before .before .mark-task-nodes .ensures in
+    (omega arith, marks .long ∙ loop .inv .1, tasks-turn f ts (loop .k) _ (concat-map f ts) (omega (arith, len start)) (loop .inv .2) marks)
 
 same-length : tie.Need-same-length Inv-loop μ-loop
 same-length c = c .before .loop .inv .1 ∙ c .before .before .before .before .mark-chain .ensures .long
 
 returns : tie.Need-returns Inv-loop μ-loop
 returns c =
+    let at-mark-chain = c .before .before .before .before in
+    let start = at-mark-chain .before .before .before .before .before .before in
+    let a = start .args in
     λ bs.
-    let w = now (c .before .before .before .before .before .before .before .before .before .before .args .ns) in
-    let ts = c .before .before .before .before .before .before .before .before .before .before .args .s .task in
-    let f = of-task w (c .before .before .before .before .before .before .before .before .before .before .args .s .nodes) in
-    held-all w bs (c .before .before .before .before .before .before .before .before .before .before .args .s) (c .before .before .before .before .mark-chain .ensures) (finish (concat-map f (drop (c .before .loop .k) ts)) (concat-map f ts) (tasks-last ts (c .before .loop .k) f (omega (arith, len (c .before .before .before .before .before .before .before .before .before .before)))) (c .before .loop .inv .2))
+    let w = now (a .ns) in
+    let ts = a .s .task in
+    let f = of-task w (a .s .nodes) in
+    let k = c .before .loop .k in
+    let all-tasks = finish (concat-map f (drop k ts)) (concat-map f ts) (tasks-last ts k f (omega (arith, len start))) (c .before .loop .inv .2) in
+    held-all w bs (a .s) (at-mark-chain .mark-chain .ensures) all-tasks
 
 pub mark-nodes-spec : {M : Type 1} → statement M
 mark-nodes-spec =

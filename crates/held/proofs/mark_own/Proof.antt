@@ -44,16 +44,24 @@ loop-less c = search needs
 
 loop-again : tie.Need-loop-again Inv-loop μ-loop
 loop-again c =
-    let ts = c .before .before .before .before .before .before .before .before .before .args .s .task in
-    (omega arith, c .before .before .mark-task-buckets .ensures .long ∙ c .before .before .before .before .before .before .loop .inv .1, tasks-turn task-buckets ts (c .before .before .before .before .before .before .loop .k) _ (concat-map task-buckets ts) (omega (arith, len (c .before .before .before .before .before .before .before .before .before))) (c .before .before .before .before .before .before .loop .inv .2) (c .before .before .mark-task-buckets .ensures))
+    let loop = c .before .before .before .before .before .before .loop in
+    let start = c .before .before .before .before .before .before .before .before .before in
+    let a = start .args in
+    let ts = a .s .task in
+    let marks = c .before .before .mark-task-buckets .ensures in
+    let bs = concat-map task-buckets ts in
+    (omega arith, marks .long ∙ loop .inv .1, tasks-turn task-buckets ts (loop .k) _ bs (omega (arith, len start)) (loop .inv .2) marks)
 
 same-length : tie.Need-same-length Inv-loop μ-loop
 same-length c = c .before .loop .inv .1
 
 returns : tie.Need-returns Inv-loop μ-loop
 returns c =
-    let ts = c .before .before .before .before .args .s .task in
-    finish (concat-map task-buckets (drop (c .before .loop .k) ts)) (concat-map task-buckets ts) (tasks-last ts (c .before .loop .k) task-buckets (omega (arith, len (c .before .before .before .before)))) (c .before .loop .inv .2)
+    let a = c .before .before .before .before .args in
+    let ts = a .s .task in
+    let k = c .before .loop .k in
+    let last = tasks-last ts k task-buckets (omega (arith, len (c .before .before .before .before))) in
+    finish (concat-map task-buckets (drop k ts)) (concat-map task-buckets ts) last (c .before .loop .inv .2)
 
 pub mark-own-spec : {M : Type 1} → statement M
 mark-own-spec =

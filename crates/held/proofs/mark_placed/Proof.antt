@@ -18,7 +18,8 @@ use Rattle.held.proofs.mark_placed.Tie as tie
 
 abbrev Inv-loop : tie.InvT-loop
 Inv-loop ns m₀ nodes k₀ m k =
-    (k ≤ 64) × (length m ≡ length m₀) × ((q : List Bool) → Marks m q (concat-map (places ns) (numbers-from nodes k)) → Marks m₀ q (concat-map (places ns) (marked-numbers nodes)))
+    (k ≤ 64) × (length m ≡ length m₀) ×
+    ((q : List Bool) → Marks m q (concat-map (places ns) (numbers-from nodes k)) → Marks m₀ q (concat-map (places ns) (marked-numbers nodes)))
 
 abbrev μ-loop : tie.MeasureT-loop
 μ-loop ns m₀ nodes k₀ m k = 64 - k
@@ -43,12 +44,19 @@ loop-less c = search needs
 
 loop-again : tie.Need-loop-again Inv-loop μ-loop
 loop-again c =
-    let w = now (c .before .before .before .before .before .args .ns) in
-    let d = c .before .before .before .before .before .args .t2 in
+    let a = c .before .before .before .before .before .args in
+    let w = now (a .ns) in
+    let d = a .t2 in
     let ls = concat-map (places w) (marked-numbers d) in
+    let loop = c .before .before .loop in
+    let below = c .before .loop-test .taken in
     ⊎-elim
-    (λ t. (omega arith, ap length (t .5) ∙ t .2 .ensures .long ∙ c .before .before .loop .inv .1, placed-yes d w (c .before .before .loop .k) ls (c .before .loop-test .taken) (t .0 .taken) (c .before .before .loop .inv .2) (t .2 .ensures) (t .5)))
-    (λ t. (omega arith, ap length (t .1) ∙ c .before .before .loop .inv .1, placed-no d w (c .before .before .loop .k) ls (c .before .loop-test .taken) (t .0 .left) (c .before .before .loop .inv .2) (t .1)))
+    (λ t. (
+      omega arith,
+      ap length (t .5) ∙ t .2 .ensures .long ∙ loop .inv .1,
+      placed-yes d w (loop .k) ls below (t .0 .taken) (loop .inv .2) (t .2 .ensures) (t .5),
+    ))
+    (λ t. (omega arith, ap length (t .1) ∙ loop .inv .1, placed-no d w (loop .k) ls below (t .0 .left) (loop .inv .2) (t .1)))
     (c .if1 .came)
 
 same-length : tie.Need-same-length Inv-loop μ-loop
@@ -57,9 +65,11 @@ same-length c = c .before .loop .inv .1
 returns : tie.Need-returns Inv-loop μ-loop
 unfolding concat-map
 returns c =
-    let w = now (c .before .before .before .before .args .ns) in
-    let d = c .before .before .before .before .args .t2 in
-    finish (concat-map (places w) (numbers-from d (c .before .loop .k))) _ (ap (concat-map (places w)) (numbers-none d (c .before .loop .k) (omega arith))) (c .before .loop .inv .2)
+    let a = c .before .before .before .before .args in
+    let w = now (a .ns) in
+    let d = a .t2 in
+    let k = c .before .loop .k in
+    finish (concat-map (places w) (numbers-from d k)) _ (ap (concat-map (places w)) (numbers-none d k (omega arith))) (c .before .loop .inv .2)
 
 pub mark-placed-spec : {M : Type 1} → statement M
 mark-placed-spec =

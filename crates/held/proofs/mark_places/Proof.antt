@@ -38,16 +38,23 @@ loop-less c = search needs
 
 loop-again : tie.Need-loop-again Inv-loop μ-loop
 loop-again c =
-    let w = now (c .before .before .before .before .before .before .before .before .before .args .ns) in
-    (omega arith, c .before .before .mark .ensures .long ∙ c .before .before .before .before .before .before .loop .inv .1, places-on w (c .before .before .before .before .before .before .before .before .before .args .k) (c .before .before .before .before .before .before .loop .i) (places w (c .before .before .before .before .before .before .before .before .before .args .k)) (c .before .before .before .before .before .loop-test .taken) (c .before .before .before .before .before .before .loop .inv .2) (rw (c .before .before .before .before .place-at .ensures) at (c .before .before .mark .ensures)))
+    let at-place-at = c .before .before .before .before in
+    let at-test = at-place-at .before in
+    let loop = at-test .before .loop in
+    let a = at-test .before .before .before .before .args in
+    let w = now (a .ns) in
+    let marks = c .before .before .mark .ensures in
+    let here = rw (at-place-at .place-at .ensures) at marks in
+    (omega arith, marks .long ∙ loop .inv .1, places-on w (a .k) (loop .i) (places w (a .k)) (at-test .loop-test .taken) (loop .inv .2) here)
 
 same-length : tie.Need-same-length Inv-loop μ-loop
 same-length c = c .before .loop .inv .1
 
 returns : tie.Need-returns Inv-loop μ-loop
 returns c =
-    let w = now (c .before .before .before .before .args .ns) in
-    finish (places-from w (c .before .before .before .before .args .k) (c .before .loop .i)) (places w (c .before .before .before .before .args .k)) (places-none w (c .before .before .before .before .args .k) (c .before .loop .i) (omega arith)) (c .before .loop .inv .2)
+    let a = c .before .before .before .before .args in
+    let w = now (a .ns) in
+    finish (places-from w (a .k) (c .before .loop .i)) (places w (a .k)) (places-none w (a .k) (c .before .loop .i) (omega arith)) (c .before .loop .inv .2)
 
 pub mark-places-spec : {M : Type 1} → statement M
 mark-places-spec =

@@ -19,11 +19,20 @@ mark-requires-4 c κs = search needs
 
 same-length : tie.Need-same-length
 same-length c =
-    c .before .before .mark4 .ensures .long ∙ c .before .before .before .before .before .before .mark3 .ensures .long ∙ c .before .before .before .before .before .before .before .before .before .before .mark2 .ensures .long ∙ c .before .before .before .before .before .before .before .before .before .before .before .before .before .before .mark .ensures .long
+    let at-mark3 = c .before .before .before .before .before .before in
+    let at-mark2 = at-mark3 .before .before .before .before in
+    let at-mark = at-mark2 .before .before .before .before in
+    c .before .before .mark4 .ensures .long ∙ at-mark3 .mark3 .ensures .long ∙ at-mark2 .mark2 .ensures .long ∙ at-mark .mark .ensures .long
 
 returns : tie.Need-returns
 returns c =
-    rw (buckets-of-running (c .before .before .before .before .before .before .before .before .before .before .before .before .before .before .before .before .before .before .args .c) (c .before .before .before .before .before .before .before .before .before .before .before .before .before .before .before .before .if1 .taken)) (both (c .before .before .before .before .before .before .before .before .before .before .before .before .before .before .mark .ensures) (both (c .before .before .before .before .before .before .before .before .before .before .mark2 .ensures) (both (c .before .before .before .before .before .before .mark3 .ensures) (c .before .before .mark4 .ensures))))
+    let at-mark3 = c .before .before .before .before .before .before in
+    let at-mark2 = at-mark3 .before .before .before .before in
+    let at-mark = at-mark2 .before .before .before .before in
+    let at-if1 = at-mark .before .before in
+    let a = at-if1 .before .before .args in
+    rw (buckets-of-running (a .c) (at-if1 .if1 .taken))
+    (both (at-mark .mark .ensures) (both (at-mark2 .mark2 .ensures) (both (at-mark3 .mark3 .ensures) (c .before .before .mark4 .ensures))))
 
 returns-2 : tie.Need-returns-2
 returns-2 c = rw (buckets-of-idle (c .before .before .args .c) (c .if1 .left)) (same _)

@@ -18,11 +18,18 @@ mark-chain-requires-3 c κs = search needs
 
 same-length : tie.Need-same-length
 same-length c =
-    c .before .before .mark-chain3 .ensures .long ∙ c .before .before .before .before .before .before .mark-chain2 .ensures .long ∙ c .before .before .before .before .before .before .before .before .before .before .mark-chain .ensures .long
+    let at-mark-chain2 = c .before .before .before .before .before .before in
+    let at-mark-chain = at-mark-chain2 .before .before .before .before in
+    c .before .before .mark-chain3 .ensures .long ∙ at-mark-chain2 .mark-chain2 .ensures .long ∙ at-mark-chain .mark-chain .ensures .long
 
 returns : tie.Need-returns
 returns c =
-    task-marks (now (c .before .before .before .before .before .before .before .before .before .before .before .before .before .before .before .args .ns)) (c .before .before .before .before .before .before .before .before .before .before .before .before .before .before .before .args .h) (c .before .before .before .before .before .before .before .before .before .before .before .before .before .before .before .args .c) (c .before .before .before .before .before .before .before .before .before .before .before .before .if1 .taken) (c .before .before .before .before .before .before .before .before .before .before .mark-chain .ensures) (c .before .before .before .before .before .before .mark-chain2 .ensures) (c .before .before .mark-chain3 .ensures)
+    let at-mark-chain2 = c .before .before .before .before .before .before in
+    let at-mark-chain = at-mark-chain2 .before .before .before .before in
+    let at-if1 = at-mark-chain .before .before in
+    let a = at-if1 .before .before .before .args in
+    task-marks (now (a .ns)) (a .h) (a .c) (at-if1 .if1 .taken)
+    (at-mark-chain .mark-chain .ensures) (at-mark-chain2 .mark-chain2 .ensures) (c .before .before .mark-chain3 .ensures)
 
 returns-2 : tie.Need-returns-2
 unfolding concat-map

@@ -1,10 +1,8 @@
 -- `lines::end` meets its contract: with k below 8 the answer changes the state, and stores an idle record. Assumes nothing.
-use borrow.Author.Tests.{lt-ltb}
-use Rattle.spec.specs.Machine.{idle, with-task, with-state, state-head, state-last-node, state-last-bucket, state-task, set-task}
-use Rattle.spec.specs.Words.{apply}
-use Rattle.spec.specs.Entries.{accept, finish}
 use borrow.Author.Needs.{needs}
-use Rattle.lines.specs.Reply.{changes, settled}
+use borrow.Author.Tests.{lt-ltb}
+use Rattle.lines.specs.Reply.{changes}
+use Rattle.lines.proofs.Settling.{ends-so}
 use Rattle.lines.proofs.end.Statement.{statement}
 use Rattle.lines.proofs.end.Tie as tie
 
@@ -15,10 +13,13 @@ idle-requires : tie.Need-idle-requires
 idle-requires c κs = search needs
 
 returns : tie.Need-returns
-unfolding accept finish set-task with-task with-state state-head state-last-node state-last-bucket state-task apply settled changes
+unfolding changes
 returns c =
-    let h = lt-ltb _ _ (c .before .before .pre) in
-    (λ ns bs. rw (c .before .one-more-own-step .ensures, c .idle .ensures, h), h)
+    let own = c .before in
+    let p = own .before in (
+      λ ns bs. rw (own .one-more-own-step .ensures, c .idle .ensures) (ends-so (p .args .s) (p .args .k) (p .args .c) (p .pre) ns bs (p .args .a)),
+      lt-ltb _ _ (p .pre),
+    )
 
 pub end-spec : {M : Type 1} → statement M
 end-spec = tie.close (tie.spec one-more-own-step-requires idle-requires returns)

@@ -1,39 +1,143 @@
--- `lines_apply::line36` meets its contract: each return is the case of `step-running` that its tests lead to.
--- Assumes nothing.
+-- `lines_apply::line36` meets its contract: each return is the case of `step-running` that its tests lead to: what the bucket answers,
+-- and for an insert the number of listed tags before it. Assumes nothing.
 use mathlib.Core.Path.{_≡_, sym, ap, _∙_}
 use mathlib.Core.List.{List}
 use mathlib.Core.Bool.{false}
 use Prim.Native.Nat.{ℕ}
+use native.Mathlib.Omega.{arith}
 use denote.Ref.{now}
 use lib.Dec.{leb}
 use lib.ListN.{length}
+use borrow.Author.Tests.{le-leb, lt-leb}
+use Rattle.spec.specs.declared.Task.{Task}
+use Rattle.spec.specs.declared.Answer.{Answer}
+use Rattle.spec.specs.declared.Answer.the-variants as ans
 use Rattle.spec.specs.Machine.{Machine, with-buckets, with-i, without-places, machine-of}
 use Rattle.spec.specs.Words.{number, apply, changeable}
-use Rattle.spec.specs.Entries.{accept, refuse}
 use Rattle.spec.specs.Listed.{listed}
 use Rattle.spec.specs.Lines.{answers}
-use Rattle.spec.specs.declared.Answer.the-variants as ans
-use Rattle.lines_apply.proofs.Laws.{empty-36}
-use Rattle.lines_apply.proofs.Apply36.{added-yes, added-no, added-full, added-frozen, removed-yes, removed-no, removed-frozen, removed-full, frozen-36, full-36, yes-36, no-36, over-36, gone-36, absent-36}
-use borrow.Author.Tests.{le-leb, lt-leb}
+use Rattle.spec.specs.Entries.{Reply, accept, refuse}
+use Rattle.laws.specs.StepAt.{step-table, here}
+use Rattle.pool.specs.Pool.{add-answer, add-words, remove-answer, remove-words}
 use Rattle.pool.proofs.Facts.{link-of}
 use Rattle.pool.proofs.At.{add-here, remove-here}
 use Rattle.listing.proofs.Sound.{counted}
-use native.Mathlib.Omega.{arith}
+use Rattle.lines.proofs.Giving.{refusing, going, refuses-8}
+use Rattle.lines_apply.proofs.Apply36.{added-yes, added-no, added-full, added-frozen, removed-yes, removed-no, removed-frozen, removed-full}
+use Rattle.lines_apply.proofs.Apply36.{frozen-36, full-36, yes-36, no-36, over-36, gone-36, absent-36}
 use borrow.Author.Needs.{needs}
 use Rattle.lines_apply.proofs.line36.Statement.{statement}
 use Rattle.lines_apply.proofs.line36.Tie as tie
+
+-- ---- what is known at a place
+
+abbrev machine : tie.Start → Machine
+machine p = machine-of (p .args .s) (now (p .args .ns)) (now (p .args .bs))
+
+-- the call ends so, with these words in the bucket pool
+abbrev ends-with : tie.Start → Answer → List ℕ → Reply
+ends-with p a w = accept (machine-of (p .args .s) (now (p .args .ns)) w) (p .args .k) (p .args .c .own) (answers a)
+
+-- b is there
+module _ (p : tie.Else1) where
+  abbrev start : tie.Start
+  start = p .before .before .before
+
+  abbrev task : Task
+  task = start .args .c
+
+  at-36 : task .line ≡ 36
+  at-36 = start .pre .1
+
+-- its bucket is not frozen
+module _ (p : tie.Else2) where
+  abbrev filled-b : tie.Else1
+  filled-b = p .before .before .before
+
+  may-change : changeable (now (start filled-b .args .bs)) (number (task filled-b .b)) ≡ 0 → ⊥
+  unfolding changeable
+  may-change z = p .if2 .left (p .before .word .ensures ∙ z)
+
+-- the listed tags are counted
+count-is : (p : tie.After-count) → p .count .result ≡ length (listed (machine (start (filled-b (p .before .before .before)))))
+count-is p = let s = start (filled-b (p .before .before .before)) in p .count .ensures ∙ counted (machine s) (s .pre .2)
+
+-- ---- an insert has asked the bucket
+
+module _ (p : tie.After-add-at) where
+  abbrev unfrozen : tie.Else2
+  unfrozen = p .before .before .before .before .before .before
+
+  abbrev there : tie.Else1
+  there = filled-b unfrozen
+
+  abbrev words : List ℕ
+  words = now (start there .args .bs)
+
+  abbrev place : ℕ
+  place = number (task there .b)
+
+  abbrev tag : ℕ
+  tag = task there .tag
+
+  abbrev ended : Answer → List ℕ → Reply
+  ended = ends-with (start there)
+
+  inserting : task there .call ≡ 1
+  inserting = p .before .before .before .before .before .if3 .taken
+
+  room : leb 64 (length (listed (machine (start there)))) ≡ false
+  room = let at-if4 = p .before .before in lt-leb 64 _ (rw (count-is (at-if4 .before)) at (at-if4 .if4 .left))
+
+  gives : (p .add-at .result ≡ add-answer words place tag) × (p .add-at .last .0 ≡ add-words words place tag)
+  gives =
+      let s = start there in
+      let filled = there .if1 .left in
+      let m = link-of (machine s) (s .pre .2) (task there .b) (s .pre .3) in
+      let d = add-here words place (m .good (omega (arith, filled))) (omega (arith, m .fits, filled)) tag in
+      (p .add-at .ensures .0 ∙ d .0, p .add-at .ensures .1 ∙ d .1)
+
+-- ---- a remove has asked it
+
+module _ (p : tie.After-remove-at) where
+  abbrev r-unfrozen : tie.Else2
+  r-unfrozen = p .before .before .before
+
+  abbrev r-there : tie.Else1
+  r-there = filled-b r-unfrozen
+
+  abbrev r-words : List ℕ
+  r-words = now (start r-there .args .bs)
+
+  abbrev r-place : ℕ
+  r-place = number (task r-there .b)
+
+  abbrev r-tag : ℕ
+  r-tag = task r-there .tag
+
+  abbrev r-ended : Answer → List ℕ → Reply
+  r-ended = ends-with (start r-there)
+
+  removing : task r-there .call ≡ 1 → ⊥
+  removing = p .before .before .if3 .left
+
+  r-gives : (p .remove-at .result ≡ remove-answer r-words r-place r-tag) × (p .remove-at .last .0 ≡ remove-words r-words r-place r-tag)
+  r-gives =
+      let s = start r-there in
+      let filled = r-there .if1 .left in
+      let m = link-of (machine s) (s .pre .2) (task r-there .b) (s .pre .3) in
+      let d = remove-here r-words r-place (m .good (omega (arith, filled))) (omega (arith, m .fits, filled)) r-tag in
+      (p .remove-at .ensures .0 ∙ d .0, p .remove-at .ensures .1 ∙ d .1)
+
+-- ---- the needs
 
 refused-requires : tie.Need-refused-requires
 refused-requires c κs = search needs
 
 returns : tie.Need-returns
+unfolding step-table
 returns c =
-    let a = c .before .before .before .before .args in
-    let y : Machine = machine-of (a .s) (now (a .ns)) (now (a .bs)) in
-    let c′ = a .c in
-    let h = c .before .before .before .before .pre .1 in
-    c .refused .ensures _ _ _ ∙ sym (empty-36 y (a .k) c′ h (c .before .if1 .taken))
+    let p = c .before .before .before .before in refuses-8 (machine p) (p .args .c) 36 (p .pre .1) (here (c .before .if1 .taken)) (c .refused .ensures)
 
 cast-j : tie.Need-cast-j
 cast-j c = search needs
@@ -56,13 +160,11 @@ same-length c = search needs
 returns-2 : tie.Need-returns-2
 unfolding changeable with-i without-places
 returns-2 c =
-    let a = c .before .before .before .before .before .before .before .args in
-    let y : Machine = machine-of (a .s) (now (a .ns)) (now (a .bs)) in
-    let c′ = a .c in
-    let h = c .before .before .before .before .before .before .before .pre .1 in
-    let w = now (a .bs) in
-    let j : ℕ = number (c′ .b) in
-    c .go .ensures .0 _ _ ∙ sym (frozen-36 y (a .k) c′ h (c .before .before .before .before .if1 .left) (sym (c .before .before .word .ensures) ∙ c .before .if2 .taken))
+    let at-if1 = c .before .before .before .before in
+    let p = at-if1 .before .before .before in
+    let flag = c .before .before .word .ensures in
+    going (c .go .ensures .1) (c .go .ensures .0 _ _ ∙ sym
+    (frozen-36 (machine p) _ (p .args .c) (p .pre .1) (at-if1 .if1 .left) (sym flag ∙ c .before .if2 .taken)))
 
 count-requires : tie.Need-count-requires
 count-requires c κs = search needs
@@ -74,17 +176,14 @@ same-length-2 : tie.Need-same-length-2
 same-length-2 c = search needs
 
 returns-3 : tie.Need-returns-3
-unfolding changeable
 returns-3 c =
-    let a = c .before .before .before .before .before .before .before .before .before .before .before .args in
-    let y : Machine = machine-of (a .s) (now (a .ns)) (now (a .bs)) in
-    let c′ = a .c in
-    let h = c .before .before .before .before .before .before .before .before .before .before .before .pre .1 in
-    let w = now (a .bs) in
-    let j : ℕ = number (c′ .b) in
-    let nf : changeable w j ≡ 0 → ⊥ = λ q. c .before .before .before .before .before .if2 .left (c .before .before .before .before .before .before .word .ensures ∙ q) in
-    let n : c .before .before .count .result ≡ length (listed y) = c .before .before .count .ensures ∙ counted y (c .before .before .before .before .before .before .before .before .before .before .before .pre .2) in
-    c .end .ensures .0 _ _ ∙ sym (full-36 y (a .k) c′ h (c .before .before .before .before .before .before .before .before .if1 .left) nf (c .before .before .before .before .if3 .taken) (le-leb 64 _ (rw n at (c .before .if4 .taken))))
+    let at-if3 = c .before .before .before .before in
+    let at-if1 = at-if3 .before .before .before .before in
+    let p = at-if1 .before .before .before in
+    let n = count-is (c .before .before) in
+    going (c .end .ensures .1)
+    (c .end .ensures .0 _ _ ∙ sym (full-36 (machine p) _ (p .args .c) (p .pre .1) (at-if1 .if1 .left) (may-change (at-if3 .before)) (at-if3 .if3 .taken)
+    (le-leb 64 _ (rw n at (c .before .if4 .taken)))))
 
 add-at-requires : tie.Need-add-at-requires
 add-at-requires c κs = search needs
@@ -117,82 +216,46 @@ same-length-3 : tie.Need-same-length-3
 same-length-3 c = search needs
 
 returns-4 : tie.Need-returns-4
-unfolding changeable accept apply with-buckets
+unfolding accept apply with-buckets
 returns-4 c =
-    let a = c .before .before .before .before .before .before .before .before .before .before .before .before .before .before .before .before .before .args in
-    let y : Machine = machine-of (a .s) (now (a .ns)) (now (a .bs)) in
-    let c′ = a .c in
-    let h = c .before .before .before .before .before .before .before .before .before .before .before .before .before .before .before .before .before .pre .1 in
-    let w = now (a .bs) in
-    let j : ℕ = number (c′ .b) in
-    let z = c .before .before .before .before .before .before .before .before .before .before .before .before .before .before .if1 .left in
-    let m = link-of y (c .before .before .before .before .before .before .before .before .before .before .before .before .before .before .before .before .before .pre .2) (c′ .b) (c .before .before .before .before .before .before .before .before .before .before .before .before .before .before .before .before .before .pre .3) in
-    let d = add-here w j (m .good (omega (arith, z))) (omega (arith, m .fits, z)) (c′ .tag) in
-    let nf : changeable w j ≡ 0 → ⊥ = λ q. c .before .before .before .before .before .before .before .before .before .before .before .if2 .left (c .before .before .before .before .before .before .before .before .before .before .before .before .word .ensures ∙ q) in
-    let n : c .before .before .before .before .before .before .before .before .count .result ≡ length (listed y) = c .before .before .before .before .before .before .before .before .count .ensures ∙ counted y (c .before .before .before .before .before .before .before .before .before .before .before .before .before .before .before .before .before .pre .2) in
-    let room : leb 64 (length (listed y)) ≡ false = lt-leb 64 _ (rw n at (c .before .before .before .before .before .before .before .if4 .left)) in
-    let i = added-yes w j (c′ .tag) (sym (c .before .before .before .before .before .add-at .ensures .0 ∙ d .0) ∙ c .before .enum-told .given .1) in
-    c .end2 .ensures .0 _ _ ∙ ap (λ (v : List ℕ). accept (machine-of (a .s) (now (a .ns)) v) (a .k) (c′ .own) (answers ans.Yes)) (c .before .before .before .before .before .add-at .ensures .1 ∙ d .1 ∙ i .2) ∙ sym (yes-36 y (a .k) c′ h (c .before .before .before .before .before .before .before .before .before .before .before .before .before .before .if1 .left) nf (c .before .before .before .before .before .before .before .before .before .before .if3 .taken) room (i .0) (i .1))
+    let p = c .before .before .before .before .before in
+    let y = machine (start (there p)) in
+    let i = added-yes (words p) (place p) (tag p) (sym (gives p .0) ∙ c .before .enum-told .given .1) in
+    going (c .end2 .ensures .1)
+    (c .end2 .ensures .0 _ _ ∙ ap (ended p ans.Yes) (gives p .1 ∙ i .2)
+    ∙ sym (yes-36 y _ (task (there p)) (at-36 (there p)) (there p .if1 .left) (may-change (unfrozen p)) (inserting p) (room p) (i .0) (i .1)))
 
 same-length-4 : tie.Need-same-length-4
 same-length-4 c = search needs
 
 returns-5 : tie.Need-returns-5
-unfolding changeable
 returns-5 c =
-    let a = c .before .before .before .before .before .before .before .before .before .before .before .before .before .before .before .before .before .args in
-    let y : Machine = machine-of (a .s) (now (a .ns)) (now (a .bs)) in
-    let c′ = a .c in
-    let h = c .before .before .before .before .before .before .before .before .before .before .before .before .before .before .before .before .before .pre .1 in
-    let w = now (a .bs) in
-    let j : ℕ = number (c′ .b) in
-    let z = c .before .before .before .before .before .before .before .before .before .before .before .before .before .before .if1 .left in
-    let m = link-of y (c .before .before .before .before .before .before .before .before .before .before .before .before .before .before .before .before .before .pre .2) (c′ .b) (c .before .before .before .before .before .before .before .before .before .before .before .before .before .before .before .before .before .pre .3) in
-    let d = add-here w j (m .good (omega (arith, z))) (omega (arith, m .fits, z)) (c′ .tag) in
-    let nf : changeable w j ≡ 0 → ⊥ = λ q. c .before .before .before .before .before .before .before .before .before .before .before .if2 .left (c .before .before .before .before .before .before .before .before .before .before .before .before .word .ensures ∙ q) in
-    let n : c .before .before .before .before .before .before .before .before .count .result ≡ length (listed y) = c .before .before .before .before .before .before .before .before .count .ensures ∙ counted y (c .before .before .before .before .before .before .before .before .before .before .before .before .before .before .before .before .before .pre .2) in
-    let room : leb 64 (length (listed y)) ≡ false = lt-leb 64 _ (rw n at (c .before .before .before .before .before .before .before .if4 .left)) in
-    let i = added-no w j (c′ .tag) (sym (c .before .before .before .before .before .add-at .ensures .0 ∙ d .0) ∙ c .before .enum-told2 .given .1) in
-    c .end3 .ensures .0 _ _ ∙ ap (λ (v : List ℕ). accept (machine-of (a .s) (now (a .ns)) v) (a .k) (c′ .own) (answers ans.No)) (c .before .before .before .before .before .add-at .ensures .1 ∙ d .1 ∙ i .1) ∙ sym (no-36 y (a .k) c′ h (c .before .before .before .before .before .before .before .before .before .before .before .before .before .before .if1 .left) nf (c .before .before .before .before .before .before .before .before .before .before .if3 .taken) room (i .0))
+    let p = c .before .before .before .before .before in
+    let y = machine (start (there p)) in
+    let i = added-no (words p) (place p) (tag p) (sym (gives p .0) ∙ c .before .enum-told2 .given .1) in
+    going (c .end3 .ensures .1)
+    (c .end3 .ensures .0 _ _ ∙ ap (ended p ans.No) (gives p .1 ∙ i .1)
+    ∙ sym (no-36 y _ (task (there p)) (at-36 (there p)) (there p .if1 .left) (may-change (unfrozen p)) (inserting p) (room p) (i .0)))
 
 same-length-5 : tie.Need-same-length-5
 same-length-5 c = search needs
 
 returns-6 : tie.Need-returns-6
-unfolding changeable
 returns-6 c =
-    let a = c .before .before .before .before .before .before .before .before .before .before .before .before .before .before .before .before .before .args in
-    let y : Machine = machine-of (a .s) (now (a .ns)) (now (a .bs)) in
-    let c′ = a .c in
-    let h = c .before .before .before .before .before .before .before .before .before .before .before .before .before .before .before .before .before .pre .1 in
-    let w = now (a .bs) in
-    let j : ℕ = number (c′ .b) in
-    let z = c .before .before .before .before .before .before .before .before .before .before .before .before .before .before .if1 .left in
-    let m = link-of y (c .before .before .before .before .before .before .before .before .before .before .before .before .before .before .before .before .before .pre .2) (c′ .b) (c .before .before .before .before .before .before .before .before .before .before .before .before .before .before .before .before .before .pre .3) in
-    let d = add-here w j (m .good (omega (arith, z))) (omega (arith, m .fits, z)) (c′ .tag) in
-    let nf : changeable w j ≡ 0 → ⊥ = λ q. c .before .before .before .before .before .before .before .before .before .before .before .if2 .left (c .before .before .before .before .before .before .before .before .before .before .before .before .word .ensures ∙ q) in
-    absurd (nf (added-frozen w j (c′ .tag) (sym (c .before .before .before .before .before .add-at .ensures .0 ∙ d .0) ∙ c .before .enum-told3 .given .1)))
+    let p = c .before .before .before .before .before in
+    absurd (may-change (unfrozen p) (added-frozen (words p) (place p) (tag p) (sym (gives p .0) ∙ c .before .enum-told3 .given .1)))
 
 same-length-6 : tie.Need-same-length-6
 same-length-6 c = search needs
 
 returns-7 : tie.Need-returns-7
-unfolding changeable
 returns-7 c =
-    let a = c .before .before .before .before .before .before .before .before .before .before .before .before .before .before .before .before .before .args in
-    let y : Machine = machine-of (a .s) (now (a .ns)) (now (a .bs)) in
-    let c′ = a .c in
-    let h = c .before .before .before .before .before .before .before .before .before .before .before .before .before .before .before .before .before .pre .1 in
-    let w = now (a .bs) in
-    let j : ℕ = number (c′ .b) in
-    let z = c .before .before .before .before .before .before .before .before .before .before .before .before .before .before .if1 .left in
-    let m = link-of y (c .before .before .before .before .before .before .before .before .before .before .before .before .before .before .before .before .before .pre .2) (c′ .b) (c .before .before .before .before .before .before .before .before .before .before .before .before .before .before .before .before .before .pre .3) in
-    let d = add-here w j (m .good (omega (arith, z))) (omega (arith, m .fits, z)) (c′ .tag) in
-    let nf : changeable w j ≡ 0 → ⊥ = λ q. c .before .before .before .before .before .before .before .before .before .before .before .if2 .left (c .before .before .before .before .before .before .before .before .before .before .before .before .word .ensures ∙ q) in
-    let n : c .before .before .before .before .before .before .before .before .count .result ≡ length (listed y) = c .before .before .before .before .before .before .before .before .count .ensures ∙ counted y (c .before .before .before .before .before .before .before .before .before .before .before .before .before .before .before .before .before .pre .2) in
-    let room : leb 64 (length (listed y)) ≡ false = lt-leb 64 _ (rw n at (c .before .before .before .before .before .before .before .if4 .left)) in
-    let i = added-full w j (c′ .tag) (sym (c .before .before .before .before .before .add-at .ensures .0 ∙ d .0) ∙ c .before .enum-told4 .given .1) in
-    c .refused3 .ensures _ _ _ ∙ ap (λ (v : List ℕ). refuse 8 (machine-of (a .s) (now (a .ns)) v)) (c .before .before .before .before .before .add-at .ensures .1 ∙ d .1 ∙ i .2) ∙ sym (over-36 y (a .k) c′ h (c .before .before .before .before .before .before .before .before .before .before .before .before .before .before .if1 .left) nf (c .before .before .before .before .before .before .before .before .before .before .if3 .taken) room (i .0) (i .1))
+    let p = c .before .before .before .before .before in
+    let y = machine (start (there p)) in
+    let i = added-full (words p) (place p) (tag p) (sym (gives p .0) ∙ c .before .enum-told4 .given .1) in
+    rw (gives p .1 ∙ i .2)
+    (refusing 8 (c .refused3 .ensures)
+    (over-36 y _ (task (there p)) (at-36 (there p)) (there p .if1 .left) (may-change (unfrozen p)) (inserting p) (room p) (i .0) (i .1)))
 
 remove-at-requires : tie.Need-remove-at-requires
 remove-at-requires c κs = search needs
@@ -225,75 +288,42 @@ same-length-7 : tie.Need-same-length-7
 same-length-7 c = search needs
 
 returns-8 : tie.Need-returns-8
-unfolding changeable accept apply with-buckets
+unfolding accept apply with-buckets
 returns-8 c =
-    let a = c .before .before .before .before .before .before .before .before .before .before .before .before .before .before .args in
-    let y : Machine = machine-of (a .s) (now (a .ns)) (now (a .bs)) in
-    let c′ = a .c in
-    let h = c .before .before .before .before .before .before .before .before .before .before .before .before .before .before .pre .1 in
-    let w = now (a .bs) in
-    let j : ℕ = number (c′ .b) in
-    let z = c .before .before .before .before .before .before .before .before .before .before .before .if1 .left in
-    let m = link-of y (c .before .before .before .before .before .before .before .before .before .before .before .before .before .before .pre .2) (c′ .b) (c .before .before .before .before .before .before .before .before .before .before .before .before .before .before .pre .3) in
-    let d = remove-here w j (m .good (omega (arith, z))) (omega (arith, m .fits, z)) (c′ .tag) in
-    let nf : changeable w j ≡ 0 → ⊥ = λ q. c .before .before .before .before .before .before .before .before .if2 .left (c .before .before .before .before .before .before .before .before .before .word .ensures ∙ q) in
-    let i = removed-yes w j (c′ .tag) (sym (c .before .before .before .before .before .remove-at .ensures .0 ∙ d .0) ∙ c .before .enum-told5 .given .1) in
-    c .end4 .ensures .0 _ _ ∙ ap (λ (v : List ℕ). accept (machine-of (a .s) (now (a .ns)) v) (a .k) (c′ .own) (answers ans.Yes)) (c .before .before .before .before .before .remove-at .ensures .1 ∙ d .1 ∙ i .1) ∙ sym (gone-36 y (a .k) c′ h (c .before .before .before .before .before .before .before .before .before .before .before .if1 .left) nf (c .before .before .before .before .before .before .before .if3 .left) (i .0))
+    let p = c .before .before .before .before .before in
+    let y = machine (start (r-there p)) in
+    let i = removed-yes (r-words p) (r-place p) (r-tag p) (sym (r-gives p .0) ∙ c .before .enum-told5 .given .1) in
+    going (c .end4 .ensures .1)
+    (c .end4 .ensures .0 _ _ ∙ ap (r-ended p ans.Yes) (r-gives p .1 ∙ i .1)
+    ∙ sym (gone-36 y _ (task (r-there p)) (at-36 (r-there p)) (r-there p .if1 .left) (may-change (r-unfrozen p)) (removing p) (i .0)))
 
 same-length-8 : tie.Need-same-length-8
 same-length-8 c = search needs
 
 returns-9 : tie.Need-returns-9
-unfolding changeable
 returns-9 c =
-    let a = c .before .before .before .before .before .before .before .before .before .before .before .before .before .before .args in
-    let y : Machine = machine-of (a .s) (now (a .ns)) (now (a .bs)) in
-    let c′ = a .c in
-    let h = c .before .before .before .before .before .before .before .before .before .before .before .before .before .before .pre .1 in
-    let w = now (a .bs) in
-    let j : ℕ = number (c′ .b) in
-    let z = c .before .before .before .before .before .before .before .before .before .before .before .if1 .left in
-    let m = link-of y (c .before .before .before .before .before .before .before .before .before .before .before .before .before .before .pre .2) (c′ .b) (c .before .before .before .before .before .before .before .before .before .before .before .before .before .before .pre .3) in
-    let d = remove-here w j (m .good (omega (arith, z))) (omega (arith, m .fits, z)) (c′ .tag) in
-    let nf : changeable w j ≡ 0 → ⊥ = λ q. c .before .before .before .before .before .before .before .before .if2 .left (c .before .before .before .before .before .before .before .before .before .word .ensures ∙ q) in
-    let i = removed-no w j (c′ .tag) (sym (c .before .before .before .before .before .remove-at .ensures .0 ∙ d .0) ∙ c .before .enum-told6 .given .1) in
-    c .end5 .ensures .0 _ _ ∙ ap (λ (v : List ℕ). accept (machine-of (a .s) (now (a .ns)) v) (a .k) (c′ .own) (answers ans.No)) (c .before .before .before .before .before .remove-at .ensures .1 ∙ d .1 ∙ i .1) ∙ sym (absent-36 y (a .k) c′ h (c .before .before .before .before .before .before .before .before .before .before .before .if1 .left) nf (c .before .before .before .before .before .before .before .if3 .left) (i .0))
+    let p = c .before .before .before .before .before in
+    let y = machine (start (r-there p)) in
+    let i = removed-no (r-words p) (r-place p) (r-tag p) (sym (r-gives p .0) ∙ c .before .enum-told6 .given .1) in
+    going (c .end5 .ensures .1)
+    (c .end5 .ensures .0 _ _ ∙ ap (r-ended p ans.No) (r-gives p .1 ∙ i .1)
+    ∙ sym (absent-36 y _ (task (r-there p)) (at-36 (r-there p)) (r-there p .if1 .left) (may-change (r-unfrozen p)) (removing p) (i .0)))
 
 same-length-9 : tie.Need-same-length-9
 same-length-9 c = search needs
 
 returns-10 : tie.Need-returns-10
-unfolding changeable
 returns-10 c =
-    let a = c .before .before .before .before .before .before .before .before .before .before .before .before .before .before .args in
-    let y : Machine = machine-of (a .s) (now (a .ns)) (now (a .bs)) in
-    let c′ = a .c in
-    let h = c .before .before .before .before .before .before .before .before .before .before .before .before .before .before .pre .1 in
-    let w = now (a .bs) in
-    let j : ℕ = number (c′ .b) in
-    let z = c .before .before .before .before .before .before .before .before .before .before .before .if1 .left in
-    let m = link-of y (c .before .before .before .before .before .before .before .before .before .before .before .before .before .before .pre .2) (c′ .b) (c .before .before .before .before .before .before .before .before .before .before .before .before .before .before .pre .3) in
-    let d = remove-here w j (m .good (omega (arith, z))) (omega (arith, m .fits, z)) (c′ .tag) in
-    let nf : changeable w j ≡ 0 → ⊥ = λ q. c .before .before .before .before .before .before .before .before .if2 .left (c .before .before .before .before .before .before .before .before .before .word .ensures ∙ q) in
-    absurd (nf (removed-frozen w j (c′ .tag) (sym (c .before .before .before .before .before .remove-at .ensures .0 ∙ d .0) ∙ c .before .enum-told7 .given .1)))
+    let p = c .before .before .before .before .before in
+    absurd (may-change (r-unfrozen p) (removed-frozen (r-words p) (r-place p) (r-tag p) (sym (r-gives p .0) ∙ c .before .enum-told7 .given .1)))
 
 same-length-10 : tie.Need-same-length-10
 same-length-10 c = search needs
 
 returns-11 : tie.Need-returns-11
-unfolding changeable
 returns-11 c =
-    let a = c .before .before .before .before .before .before .before .before .before .before .before .before .before .before .args in
-    let y : Machine = machine-of (a .s) (now (a .ns)) (now (a .bs)) in
-    let c′ = a .c in
-    let h = c .before .before .before .before .before .before .before .before .before .before .before .before .before .before .pre .1 in
-    let w = now (a .bs) in
-    let j : ℕ = number (c′ .b) in
-    let z = c .before .before .before .before .before .before .before .before .before .before .before .if1 .left in
-    let m = link-of y (c .before .before .before .before .before .before .before .before .before .before .before .before .before .before .pre .2) (c′ .b) (c .before .before .before .before .before .before .before .before .before .before .before .before .before .before .pre .3) in
-    let d = remove-here w j (m .good (omega (arith, z))) (omega (arith, m .fits, z)) (c′ .tag) in
-    let nf : changeable w j ≡ 0 → ⊥ = λ q. c .before .before .before .before .before .before .before .before .if2 .left (c .before .before .before .before .before .before .before .before .before .word .ensures ∙ q) in
-    absurd (removed-full w j (c′ .tag) (sym (c .before .before .before .before .before .remove-at .ensures .0 ∙ d .0) ∙ c .before .enum-told8 .given .1))
+    let p = c .before .before .before .before .before in
+    absurd (removed-full (r-words p) (r-place p) (r-tag p) (sym (r-gives p .0) ∙ c .before .enum-told8 .given .1))
 
 pub line36-spec : {M : Type 1} → statement M
 line36-spec =

@@ -1,7 +1,9 @@
 -- `lines_gather::new_bucket_of` meets its contract: the tags of m that belong to place i, or the union of m and n, in a fresh bucket.
 -- Assumes nothing.
+use mathlib.Core.Path.{_≡_, ap, _∙_}
 use mathlib.Core.Bool.{Bool}
 use Prim.Native.Nat.{ℕ, _≤_}
+use native.Mathlib.Omega.{arith}
 use denote.Ref.{now}
 use lib.Dec.{eqb}
 use lib.ListN.{length}
@@ -13,14 +15,21 @@ use Rattle.spec.specs.Lines.{gathered}
 use Rattle.bucket.specs.declared.Bucket.{Bucket}
 use Rattle.bucket.specs.Bucket.{tags-in}
 use Rattle.bucket_copies.specs.Copies.{split-of}
-use Rattle.lines_gather.proofs.Gathering.{length-filter, few-tags}
-use mathlib.Core.Path.{_≡_, ap, _∙_}
 use Rattle.pool.proofs.At.{tags-here}
-use Rattle.lines_gather.proofs.Gathering.{makes-one, makes-two}
-use native.Mathlib.Omega.{arith}
+use Rattle.lines_gather.proofs.Gathering.{length-filter, few-tags, makes-one, makes-two}
 use borrow.Author.Needs.{needs}
 use Rattle.lines_gather.proofs.new_bucket_of.Statement.{statement}
 use Rattle.lines_gather.proofs.new_bucket_of.Tie as tie
+
+-- m's bucket is loaded
+module _ (p : tie.After-load) where
+  abbrev start : tie.Start
+  start = p .before .before .before
+
+  tags-m : tags-in (p .load .result .words) ≡ tags (now (start .args .bs)) (number (start .args .c .m))
+  tags-m =
+      let m = number (start .args .c .m) in
+      ap (λ (b : Bucket). tags-in (b .words)) (p .load .ensures) ∙ tags-here (now (start .args .bs)) m (start .pre .5) (omega arith)
 
 cast-load : tie.Need-cast-load
 cast-load c = search needs
@@ -40,15 +49,17 @@ split-requires c κs = search needs
 returns : tie.Need-returns
 unfolding gathered split-of tags-of size-of
 returns c =
-    let a = c .before .before .before .before .before .before .args in
-    λ s.
-    let w = now (a .bs) in
-    let c′ = a .c in
-    let em : tags-in (c .before .before .before .load .result .words) ≡ tags w (number (c′ .m)) = ap (λ (b : Bucket). tags-in (b .words)) (c .before .before .before .load .ensures) ∙ tags-here w (number (c′ .m)) (c .before .before .before .before .before .before .pre .5) (omega arith) in
-    let ez : c .before .size-of .result ≡ size (now (a .ns)) (number (c′ .t)) = c .before .size-of .ensures in
-    let f : ℕ → Bool = λ k. eqb (slot k (c .before .size-of .result)) (c′ .i) in
-    let l : length (filter f (tags-in (c .before .before .before .load .result .words))) ≤ 64 = rw em (omega (arith, length-filter f (tags w (number (c′ .m))), few-tags w (number (c′ .m)) (c .before .before .before .before .before .before .pre .5))) in
-    rw (c .before .before .if1 .taken, ← ez, ← em) (makes-one (c .split .result) (filter f (tags-in (c .before .before .before .load .result .words))) l (ap (λ (b : Bucket). b .words) (c .split .ensures)))
+    let loaded = c .before .before .before in
+    let p = start loaded in
+    let w = now (p .args .bs) in
+    let t = p .args .c in
+    let z : ℕ = c .before .size-of .result in
+    let f : ℕ → Bool = λ k. eqb (slot (p .args .g) k z) (t .i) in
+    let few : length (filter f (tags-in (loaded .load .result .words))) ≤ 64 =
+    rw (tags-m loaded) (omega (arith, length-filter f (tags w (number (t .m))), few-tags w (number (t .m)) (p .pre .5))) in
+    λ s same.
+    rw (same, c .before .before .if1 .taken, ← c .before .size-of .ensures, ← tags-m loaded)
+    (makes-one (c .split .result) (filter f (tags-in (loaded .load .result .words))) few (ap (λ (b : Bucket). b .words) (c .split .ensures)))
 
 cast-load-2 : tie.Need-cast-load-2
 cast-load-2 c = search needs
@@ -65,14 +76,14 @@ union-requires c κs = search needs
 returns-2 : tie.Need-returns-2
 unfolding gathered tags-of
 returns-2 c =
-    let a = c .before .before .before .before .before .before .args in
-    λ s.
-    let w = now (a .bs) in
-    let c′ = a .c in
-    let z = c .before .before .if1 .left in
-    let em : tags-in (c .before .before .before .load .result .words) ≡ tags w (number (c′ .m)) = ap (λ (b : Bucket). tags-in (b .words)) (c .before .before .before .load .ensures) ∙ tags-here w (number (c′ .m)) (c .before .before .before .before .before .before .pre .5) (omega arith) in
-    let en : tags-in (c .before .load2 .result .words) ≡ tags w (number (c′ .n)) = ap (λ (b : Bucket). tags-in (b .words)) (c .before .load2 .ensures) ∙ tags-here w (number (c′ .n)) (c .before .before .before .before .before .before .pre .6 (omega (arith, z))) (omega (arith, z)) in
-    rw (ne-eqb _ _ z, ← em, ← en, c .union .ensures) (makes-two (c .before .before .before .load .result) (c .before .load2 .result))
+    let loaded = c .before .before .before in
+    let p = start loaded in
+    let w = now (p .args .bs) in
+    let n = p .args .c .n in
+    let there = c .before .before .if1 .left in
+    let tags-n : tags-in (c .before .load2 .result .words) ≡ tags w (number n) =
+    ap (λ (b : Bucket). tags-in (b .words)) (c .before .load2 .ensures) ∙ tags-here w (number n) (p .pre .6 (omega (arith, there))) (omega (arith, there)) in
+    λ s same. rw (ne-eqb _ _ there, ← tags-m loaded, ← tags-n, c .union .ensures) (makes-two (loaded .load .result) (c .before .load2 .result))
 
 pub new-bucket-of-spec : {M : Type 1} → statement M
 new-bucket-of-spec =

@@ -1,44 +1,54 @@
--- `lines_init_bucket::line50` meets its contract: each return is the case of `step-running` that its tests lead to.
--- Assumes nothing.
-use mathlib.Core.Path.{_≡_, sym, ap, _∙_}
+-- `lines_init_bucket::line50` meets its contract: refused through an empty place or past t's size, else the place is filled if it is
+-- empty. Assumes nothing.
+use mathlib.Core.Path.{_≡_, ap, _∙_}
 use mathlib.Core.List.{List}
 use Prim.Native.Nat.{ℕ, _+_, _*_}
 use denote.Ref.{now}
 use lib.ListN.{set}
-use borrow.Author.Tests.{ne-eqb, le-leb, lt-leb}
-use Rattle.spec.specs.Machine.{with-line, with-nodes, machine-of}
+use borrow.Author.Tests.{ne-eqb}
+use Rattle.spec.specs.Machine.{Machine, with-line, with-nodes, machine-of}
 use Rattle.spec.specs.Words.{number, apply}
 use Rattle.spec.specs.Listed.{size-of, place-of}
 use Rattle.spec.specs.Lines.{moves, line-50}
 use Rattle.spec.specs.Entries.{accept}
-use Rattle.lines_init_bucket.proofs.Laws.{empty-50, empty-50-2, past-50, pass-50}
+use Rattle.laws.specs.StepAt.{AllPass, tests-at, step-table, here, next}
+use Rattle.lines.proofs.Giving.{refuses-8, goes}
 use borrow.Author.Needs.{needs}
 use Rattle.lines_init_bucket.proofs.line50.Statement.{statement}
 use Rattle.lines_init_bucket.proofs.line50.Tie as tie
+
+abbrev machine : tie.Start → List ℕ → Machine
+machine p bs = machine-of (p .args .s) (now (p .args .ns)) bs
+
+-- t and the new bucket are there, and i is below t's size
+module _ (p : tie.Else3) where
+  abbrev start : tie.Start
+  start = p .before .before .before .before .before .before
+
+  passed : (bs : List ℕ) → AllPass (tests-at 50 (machine start bs) (start .args .c))
+  unfolding step-table size-of
+  passed bs =
+      let size = p .before .size-of .ensures in
+      let new = p .before .before .before in
+      (new .before .if1 .left, (new .if2 .left, rw (← size) (p .if3 .left)))
 
 refused-requires : tie.Need-refused-requires
 refused-requires c κs = search needs
 
 returns : tie.Need-returns
+unfolding step-table
 returns c =
-    let a = c .before .before .before .args in
-    λ bs.
-    let y = machine-of (a .s) (now (a .ns)) bs in
-    let c′ = a .c in
-    let h = c .before .before .before .pre .1 in
-    c .refused .ensures _ _ bs ∙ sym (empty-50 y (a .k) c′ h (c .before .if1 .taken))
+    let p = c .before .before .before in
+    λ bs. refuses-8 (machine p bs) (p .args .c) 50 (p .pre .1) (here (c .before .if1 .taken)) (c .refused .ensures)
 
 refused-requires-2 : tie.Need-refused-requires-2
 refused-requires-2 c κs = search needs
 
 returns-2 : tie.Need-returns-2
+unfolding step-table
 returns-2 c =
-    let a = c .before .before .before .before .args in
-    λ bs.
-    let y = machine-of (a .s) (now (a .ns)) bs in
-    let c′ = a .c in
-    let h = c .before .before .before .before .pre .1 in
-    c .refused2 .ensures _ _ bs ∙ sym (empty-50-2 y (a .k) c′ h (c .before .before .if1 .left) (c .before .if2 .taken))
+    let p = c .before .before .before .before in
+    λ bs. refuses-8 (machine p bs) (p .args .c) 50 (p .pre .1) (next (here (c .before .if2 .taken))) (c .refused2 .ensures)
 
 size-of-requires : tie.Need-size-of-requires
 size-of-requires c κs = search needs
@@ -50,14 +60,11 @@ same-length : tie.Need-same-length
 same-length c = search needs
 
 returns-3 : tie.Need-returns-3
-unfolding size-of
+unfolding step-table size-of
 returns-3 c =
-    let a = c .before .before .before .before .before .before .before .args in
-    λ bs.
-    let y = machine-of (a .s) (now (a .ns)) bs in
-    let c′ = a .c in
-    let h = c .before .before .before .before .before .before .before .pre .1 in
-    c .refused3 .ensures _ _ bs ∙ sym (past-50 y (a .k) c′ h (c .before .before .before .before .before .if1 .left) (c .before .before .before .before .if2 .left) (rw (← c .before .before .size-of .ensures) (le-leb _ _ (c .before .if3 .taken))))
+    let p = c .before .before .before .before .before .before .before in
+    let size = c .before .before .size-of .ensures in
+    λ bs. refuses-8 (machine p bs) (p .args .c) 50 (p .pre .1) (next (next (here (rw (← size) (c .before .if3 .taken))))) (c .refused3 .ensures)
 
 place-of-requires : tie.Need-place-of-requires
 place-of-requires c κs = search needs
@@ -90,17 +97,23 @@ same-length-2 : tie.Need-same-length-2
 same-length-2 c = search needs
 
 returns-4 : tie.Need-returns-4
-unfolding line-50 accept apply with-nodes place-of size-of
+unfolding step-table line-50 accept apply with-nodes place-of size-of
 returns-4 c =
-    let a = c .before .before .before .before .before .before .before .before .before .before .before .before .before .before .before .args in
-    λ bs.
-    let y = machine-of (a .s) (now (a .ns)) bs in
-    let c′ = a .c in
-    let h = c .before .before .before .before .before .before .before .before .before .before .before .before .before .before .before .pre .1 in
+    let at-number-of = c .before .before .before .before .before in
+    let at-if4 = at-number-of .before in
+    let at-put = c .before .before .before in
+    let read = at-if4 .before in
+    let in-node = read .before .before in
+    let p = start in-node in
+    let a = p .args in
     let w = now (a .ns) in
-    let e : c .before .before .before .put .last .0 ≡ set w (34 * number (c′ .t) + 2 + c′ .i) (c′ .«new_bucket») = c .before .before .before .put .ensures ∙ ap (λ (j : ℕ). set w (34 * j + 2 + c′ .i) (c′ .«new_bucket»)) (c .before .before .before .before .before .number-of .ensures) in
-    c .go .ensures .0 (c .before .before .before .put .last .0) bs ∙ ap (λ (v : List ℕ). accept (machine-of (a .s) v bs) (a .k) (c′ .own) (moves (with-line 51 c′))) e
-    ∙ sym (pass-50 y (a .k) c′ h (c .before .before .before .before .before .before .before .before .before .before .before .before .before .if1 .left) (c .before .before .before .before .before .before .before .before .before .before .before .before .if2 .left) (rw (← c .before .before .before .before .before .before .before .before .before .before .size-of .ensures) (lt-leb _ _ (c .before .before .before .before .before .before .before .before .before .if3 .left))) ∙ rw (← c .before .before .before .before .before .before .before .place-of .ensures, c .before .before .before .before .before .before .if4 .taken))
+    let place = read .place-of .ensures in
+    let stored : at-put .put .last .0 ≡ set w (34 * number (a .c .t) + 2 + a .c .i) (a .c .«new_bucket») =
+    at-put .put .ensures ∙ ap (λ (j : ℕ). set w (34 * j + 2 + a .c .i) (a .c .«new_bucket»)) (at-number-of .number-of .ensures) in
+    λ bs.
+    goes (machine p bs) (a .c) 50 (p .pre .1) (passed in-node bs) tt (c .go .ensures .1)
+    (c .go .ensures .0 (at-put .put .last .0) bs ∙ ap (λ (v : List ℕ). accept (machine-of (a .s) v bs) (a .k) (a .c .own) (moves (with-line 51 (a .c)))) stored
+    ∙ rw (← place, at-if4 .if4 .taken))
 
 go-requires-2 : tie.Need-go-requires-2
 go-requires-2 c κs = search needs
@@ -109,14 +122,15 @@ same-length-3 : tie.Need-same-length-3
 same-length-3 c = search needs
 
 returns-5 : tie.Need-returns-5
-unfolding line-50 place-of size-of
+unfolding step-table line-50 place-of size-of
 returns-5 c =
-    let a = c .before .before .before .before .before .before .before .before .before .before .args in
+    let read = c .before .before in
+    let in-node = read .before .before in
+    let p = start in-node in
+    let place = read .place-of .ensures in
     λ bs.
-    let y = machine-of (a .s) (now (a .ns)) bs in
-    let c′ = a .c in
-    let h = c .before .before .before .before .before .before .before .before .before .before .pre .1 in
-    c .go2 .ensures .0 _ bs ∙ sym (pass-50 y (a .k) c′ h (c .before .before .before .before .before .before .before .before .if1 .left) (c .before .before .before .before .before .before .before .if2 .left) (rw (← c .before .before .before .before .before .size-of .ensures) (lt-leb _ _ (c .before .before .before .before .if3 .left))) ∙ rw (← c .before .before .place-of .ensures, ne-eqb _ _ (c .before .if4 .left)))
+    goes (machine p bs) (p .args .c) 50 (p .pre .1) (passed in-node bs) tt (c .go2 .ensures .1)
+    (c .go2 .ensures .0 _ bs ∙ rw (← place, ne-eqb _ _ (c .before .if4 .left)))
 
 pub line50-spec : {M : Type 1} → statement M
 line50-spec =

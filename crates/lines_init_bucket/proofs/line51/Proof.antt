@@ -1,27 +1,39 @@
--- `lines_init_bucket::line51` meets its contract: each return is the case of `step-running` that its tests lead to. Assumes
--- nothing.
+-- `lines_init_bucket::line51` meets its contract: refused through an empty place or past t's size, else the next line is by the call.
+-- Assumes nothing.
 use mathlib.Core.Path.{sym, _∙_}
+use mathlib.Core.List.{List}
+use Prim.Native.Nat.{ℕ}
 use denote.Ref.{now}
-use borrow.Author.Tests.{le-leb, lt-leb}
-use Rattle.spec.specs.Machine.{with-s, with-b, with-m, with-n, with-new-bucket, with-i, machine-of}
+use borrow.Author.Tests.{lt-ltb, le-ltb}
+use Rattle.spec.specs.Machine.{Machine, with-s, with-b, with-m, with-n, with-new-bucket, with-i, machine-of}
 use Rattle.spec.specs.Listed.{size-of, place-of}
 use Rattle.spec.specs.Lines.{line-51}
-use borrow.Author.Tests.{lt-ltb, le-ltb}
-use Rattle.lines_init_bucket.proofs.Laws.{empty-51, past-51, pass-51}
+use Rattle.laws.specs.StepAt.{AllPass, tests-at, step-table, here, next}
+use Rattle.lines.proofs.Giving.{refuses-8, goes}
 use borrow.Author.Needs.{needs}
 use Rattle.lines_init_bucket.proofs.line51.Statement.{statement}
 use Rattle.lines_init_bucket.proofs.line51.Tie as tie
+
+abbrev machine : tie.Start → List ℕ → Machine
+machine p bs = machine-of (p .args .s) (now (p .args .ns)) bs
+
+-- t is there, and i is below its size
+module _ (p : tie.Else2) where
+  abbrev start : tie.Start
+  start = p .before .before .before .before
+
+  passed : (bs : List ℕ) → AllPass (tests-at 51 (machine start bs) (start .args .c))
+  unfolding step-table size-of
+  passed bs = let size = p .before .size-of .ensures in (p .before .before .if1 .left, rw (← size) (p .if2 .left))
 
 refused-requires : tie.Need-refused-requires
 refused-requires c κs = search needs
 
 returns : tie.Need-returns
+unfolding step-table
 returns c =
-    λ bs.
-    let y = machine-of (c .before .before .before .args .s) (now (c .before .before .before .args .ns)) bs in
-    let c′ = c .before .before .before .args .c in
-    let h = c .before .before .before .pre .1 in
-    c .refused .ensures _ _ bs ∙ sym (empty-51 y (c .before .before .before .args .k) c′ h (c .before .if1 .taken))
+    let p = c .before .before .before in
+    λ bs. refuses-8 (machine p bs) (p .args .c) 51 (p .pre .1) (here (c .before .if1 .taken)) (c .refused .ensures)
 
 size-of-requires : tie.Need-size-of-requires
 size-of-requires c κs = search needs
@@ -30,13 +42,11 @@ refused-requires-2 : tie.Need-refused-requires-2
 refused-requires-2 c κs = search needs
 
 returns-2 : tie.Need-returns-2
-unfolding size-of
+unfolding step-table size-of
 returns-2 c =
-    λ bs.
-    let y = machine-of (c .before .before .before .before .before .args .s) (now (c .before .before .before .before .before .args .ns)) bs in
-    let c′ = c .before .before .before .before .before .args .c in
-    let h = c .before .before .before .before .before .pre .1 in
-    c .refused2 .ensures _ _ bs ∙ sym (past-51 y (c .before .before .before .before .before .args .k) c′ h (c .before .before .before .if1 .left) (rw (← c .before .before .size-of .ensures) (le-leb _ _ (c .before .if2 .taken))))
+    let p = c .before .before .before .before .before in
+    let size = c .before .before .size-of .ensures in
+    λ bs. refuses-8 (machine p bs) (p .args .c) 51 (p .pre .1) (next (here (rw (← size) (c .before .if2 .taken)))) (c .refused2 .ensures)
 
 is-resize-requires : tie.Need-is-resize-requires
 is-resize-requires c κs = search needs
@@ -51,25 +61,29 @@ go-requires : tie.Need-go-requires
 go-requires c κs = search needs
 
 returns-3 : tie.Need-returns-3
-unfolding line-51 with-b with-s with-m with-n with-new-bucket with-i place-of size-of
+unfolding step-table line-51 with-b with-s with-m with-n with-new-bucket with-i place-of size-of
 returns-3 c =
+    let in-node = c .before .before .before .before in
+    let p = start in-node in
+    let size = in-node .before .size-of .ensures in
+    let resizes = c .before .before .before .is-resize .ensures in
     λ bs.
-    let y = machine-of (c .before .before .before .before .before .before .before .before .args .s) (now (c .before .before .before .before .before .before .before .before .args .ns)) bs in
-    let c′ = c .before .before .before .before .before .before .before .before .args .c in
-    let h = c .before .before .before .before .before .before .before .before .pre .1 in
-    c .go .ensures .0 _ bs ∙ sym (pass-51 y (c .before .before .before .before .before .before .before .before .args .k) c′ h (c .before .before .before .before .before .before .if1 .left) (rw (← c .before .before .before .before .before .size-of .ensures) (lt-leb _ _ (c .before .before .before .before .if2 .left))) ∙ rw (sym (c .before .before .before .is-resize .ensures) ∙ c .before .before .if3 .taken, ← c .before .before .before .before .before .size-of .ensures, lt-ltb _ _ (c .before .if4 .taken)))
+    goes (machine p bs) (p .args .c) 51 (p .pre .1) (passed in-node bs) tt (c .go .ensures .1)
+    (c .go .ensures .0 _ bs ∙ rw (sym resizes ∙ c .before .before .if3 .taken, ← size, lt-ltb _ _ (c .before .if4 .taken)))
 
 go-requires-2 : tie.Need-go-requires-2
 go-requires-2 c κs = search needs
 
 returns-4 : tie.Need-returns-4
-unfolding line-51 with-b with-s with-m with-n with-new-bucket with-i place-of size-of
+unfolding step-table line-51 with-b with-s with-m with-n with-new-bucket with-i place-of size-of
 returns-4 c =
+    let in-node = c .before .before .before .before in
+    let p = start in-node in
+    let size = in-node .before .size-of .ensures in
+    let resizes = c .before .before .before .is-resize .ensures in
     λ bs.
-    let y = machine-of (c .before .before .before .before .before .before .before .before .args .s) (now (c .before .before .before .before .before .before .before .before .args .ns)) bs in
-    let c′ = c .before .before .before .before .before .before .before .before .args .c in
-    let h = c .before .before .before .before .before .before .before .before .pre .1 in
-    c .go2 .ensures .0 _ bs ∙ sym (pass-51 y (c .before .before .before .before .before .before .before .before .args .k) c′ h (c .before .before .before .before .before .before .if1 .left) (rw (← c .before .before .before .before .before .size-of .ensures) (lt-leb _ _ (c .before .before .before .before .if2 .left))) ∙ rw (sym (c .before .before .before .is-resize .ensures) ∙ c .before .before .if3 .taken, ← c .before .before .before .before .before .size-of .ensures, le-ltb _ _ (c .before .if4 .left)))
+    goes (machine p bs) (p .args .c) 51 (p .pre .1) (passed in-node bs) tt (c .go2 .ensures .1)
+    (c .go2 .ensures .0 _ bs ∙ rw (sym resizes ∙ c .before .before .if3 .taken, ← size, le-ltb _ _ (c .before .if4 .left)))
 
 place-of-requires : tie.Need-place-of-requires
 place-of-requires c κs = search needs
@@ -78,13 +92,15 @@ go-requires-3 : tie.Need-go-requires-3
 go-requires-3 c κs = search needs
 
 returns-5 : tie.Need-returns-5
-unfolding line-51 with-b with-s with-m with-n with-new-bucket with-i place-of size-of
+unfolding step-table line-51 with-b with-s with-m with-n with-new-bucket with-i place-of size-of
 returns-5 c =
+    let in-node = c .before .before .before .before in
+    let p = start in-node in
+    let resizes = c .before .before .before .is-resize .ensures in
+    let place = c .before .place-of .ensures in
     λ bs.
-    let y = machine-of (c .before .before .before .before .before .before .before .before .args .s) (now (c .before .before .before .before .before .before .before .before .args .ns)) bs in
-    let c′ = c .before .before .before .before .before .before .before .before .args .c in
-    let h = c .before .before .before .before .before .before .before .before .pre .1 in
-    c .go3 .ensures .0 _ bs ∙ sym (pass-51 y (c .before .before .before .before .before .before .before .before .args .k) c′ h (c .before .before .before .before .before .before .if1 .left) (rw (← c .before .before .before .before .before .size-of .ensures) (lt-leb _ _ (c .before .before .before .before .if2 .left))) ∙ rw (sym (c .before .before .before .is-resize .ensures) ∙ c .before .before .if3 .left, ← c .before .place-of .ensures))
+    goes (machine p bs) (p .args .c) 51 (p .pre .1) (passed in-node bs) tt (c .go3 .ensures .1)
+    (c .go3 .ensures .0 _ bs ∙ rw (sym resizes ∙ c .before .before .if3 .left, ← place))
 
 pub line51-spec : {M : Type 1} → statement M
 line51-spec =

@@ -1,28 +1,45 @@
 -- `lines_init_bucket::step` meets its contract: each arm is the line at which the task stands, whose `requires` follows from soundness; a
 -- task at none of these four is at one of `lines_gather`. Assumes nothing.
-use borrow.Author.Needs.{needs}
+use mathlib.Core.Path.{_≡_, refl, sym}
+use mathlib.Core.Bool.{true}
+use Prim.Native.Nat.{ℕ}
+use denote.Ref.{now}
+use borrow.Author.Tests.{ne-eqb}
+use Rattle.spec.specs.Lists.{member}
+use Rattle.spec.specs.Machine.{machine-of}
+use Rattle.spec.specs.Lines.{line-39}
+use Rattle.laws.specs.StepAt.{step-table, tested-at}
+use Rattle.lines.specs.Running.{init-bucket-lines, gather-lines}
 use Rattle.lines.proofs.Running.{numbers}
-use Rattle.lines_init_bucket.proofs.Laws.{left-gather}
+use Rattle.lines.proofs.Giving.{gives-as}
+use Rattle.lines_gather.specs.Places.{with-field}
+use borrow.Author.Needs.{needs}
 use Rattle.lines_init_bucket.proofs.step.Statement.{statement}
 use Rattle.lines_init_bucket.proofs.step.Tie as tie
 
-line39-requires : tie.Need-line39-requires
-line39-requires c κs = let n = numbers (c .before .before .before .before .pre) in (n .number, c .before .match .keys1)
+left-gather : (l : ℕ) → member l init-bucket-lines ≡ true → (l ≡ 39 → ⊥) → (l ≡ 40 → ⊥) → (l ≡ 50 → ⊥) → (l ≡ 51 → ⊥) → member l gather-lines ≡ true
+unfolding member
+left-gather l h n39 n40 n50 n51 = rw (ne-eqb l 39 n39, ne-eqb l 40 n40, ne-eqb l 50 n50, ne-eqb l 51 n51) at h
+
+cast-read-place : tie.Need-cast-read-place
+cast-read-place c = search needs
+
+read-place-requires : tie.Need-read-place-requires
+read-place-requires c κs = numbers (c .before .before .before .before .before .pre) .number
 
 line40-requires : tie.Need-line40-requires
-line40-requires c κs = let n = numbers (c .before .before .before .before .pre) in (n .number, c .before .match .keys2)
+line40-requires c κs = (numbers (c .before .before .before .before .pre) .number, c .before .match .keys2)
 
 line50-requires : tie.Need-line50-requires
-line50-requires c κs = let n = numbers (c .before .before .before .before .pre) in (n .number, c .before .match .keys3)
+line50-requires c κs = (numbers (c .before .before .before .before .pre) .number, c .before .match .keys3)
 
 line51-requires : tie.Need-line51-requires
-line51-requires c κs = let n = numbers (c .before .before .before .before .pre) in (n .number, c .before .match .keys4)
+line51-requires c κs = (numbers (c .before .before .before .before .pre) .number, c .before .match .keys4)
 
 step-requires : tie.Need-step-requires
 step-requires c κs =
-    let at-match = c .before .before in
-    let runs = at-match .before .before .before .pre in
-    let others = at-match .match .rest in
+    let runs = c .before .before .before .before .before .pre in
+    let others = c .before .before .match .rest in
     record {
       is-sound = runs .is-sound;
       task = runs .task;
@@ -33,7 +50,11 @@ same-length : tie.Need-same-length
 same-length c = search needs
 
 returns : tie.Need-returns
-returns c = c .line39 .ensures _
+unfolding step-table line-39 with-field
+returns c =
+    let a = c .before .before .before .before .before .before .args in
+    gives-as (sym (tested-at (machine-of (a .s) (now (a .ns)) (now (a .bs))) (a .c) 39 (c .before .before .before .match .keys1) (a .k) refl))
+    (c .read-place .ensures _)
 
 same-length-2 : tie.Need-same-length-2
 same-length-2 c = search needs
@@ -66,7 +87,8 @@ pub step-spec : {M : Type 1} → statement M
 step-spec =
     tie.close
     (tie.spec
-    line39-requires
+    cast-read-place
+    read-place-requires
     line40-requires
     line50-requires
     line51-requires

@@ -1,30 +1,30 @@
--- `lines_resize::line24` meets its contract: each return is the case of `step-running` that its tests lead to.
--- Assumes nothing.
-use mathlib.Core.Path.{_≡_, sym, ap, _∙_}
+-- `lines_resize::line24` meets its contract: refused through an empty place, else t's predecessor is none. Assumes nothing.
+use mathlib.Core.Path.{_≡_, ap, _∙_}
 use mathlib.Core.List.{List}
 use Prim.Native.Nat.{ℕ, _+_, _*_}
 use denote.Ref.{now}
 use lib.ListN.{set}
-use Rattle.spec.specs.Machine.{with-line, with-nodes, machine-of}
+use Rattle.spec.specs.Machine.{Machine, with-line, with-nodes, machine-of}
 use Rattle.spec.specs.Words.{number, apply}
 use Rattle.spec.specs.Lines.{moves, line-24}
 use Rattle.spec.specs.Entries.{accept}
-use Rattle.lines_resize.proofs.Laws.{empty-24, pass-24}
+use Rattle.laws.specs.StepAt.{step-table, here}
+use Rattle.lines.proofs.Giving.{refuses-8, goes}
 use borrow.Author.Needs.{needs}
 use Rattle.lines_resize.proofs.line24.Statement.{statement}
 use Rattle.lines_resize.proofs.line24.Tie as tie
+
+abbrev machine : tie.Start → List ℕ → Machine
+machine p bs = machine-of (p .args .s) (now (p .args .ns)) bs
 
 refused-requires : tie.Need-refused-requires
 refused-requires c κs = search needs
 
 returns : tie.Need-returns
+unfolding step-table
 returns c =
-    let a = c .before .before .before .args in
-    λ bs.
-    let y = machine-of (a .s) (now (a .ns)) bs in
-    let c′ = a .c in
-    let h = c .before .before .before .pre .1 in
-    c .refused .ensures _ _ bs ∙ sym (empty-24 y (a .k) c′ h (c .before .if1 .taken))
+    let p = c .before .before .before in
+    λ bs. refuses-8 (machine p bs) (p .args .c) 24 (p .pre .1) (here (c .before .if1 .taken)) (c .refused .ensures)
 
 number-of-requires : tie.Need-number-of-requires
 number-of-requires c κs = search needs
@@ -48,16 +48,19 @@ same-length : tie.Need-same-length
 same-length c = search needs
 
 returns-2 : tie.Need-returns-2
-unfolding line-24 accept apply with-nodes
+unfolding step-table line-24 accept apply with-nodes
 returns-2 c =
-    let a = c .before .before .before .before .before .before .before .before .args in
-    λ bs.
-    let y = machine-of (a .s) (now (a .ns)) bs in
-    let c′ = a .c in
-    let h = c .before .before .before .before .before .before .before .before .pre .1 in
+    let at-number-of = c .before .before .before .before .before in
+    let at-if1 = at-number-of .before in
+    let at-put = c .before .before .before in
+    let p = at-if1 .before .before in
+    let a = p .args in
     let w = now (a .ns) in
-    let e : c .before .before .before .put .last .0 ≡ set w (34 * number (c′ .t) + 1) 0 = c .before .before .before .put .ensures ∙ ap (λ (j : ℕ). set w (34 * j + 1) 0) (c .before .before .before .before .before .number-of .ensures) in
-    c .go .ensures .0 (c .before .before .before .put .last .0) bs ∙ ap (λ (v : List ℕ). accept (machine-of (a .s) v bs) (a .k) (c′ .own) (moves (with-line 27 c′))) e ∙ sym (pass-24 y (a .k) c′ h (c .before .before .before .before .before .before .if1 .left))
+    let stored : at-put .put .last .0 ≡ set w (34 * number (a .c .t) + 1) 0 = at-put .put .ensures ∙ ap (λ (j : ℕ). set w (34 * j + 1) 0)
+    (at-number-of .number-of .ensures) in
+    λ bs.
+    goes (machine p bs) (a .c) 24 (p .pre .1) (at-if1 .if1 .left) tt (c .go .ensures .1)
+    (c .go .ensures .0 (at-put .put .last .0) bs ∙ ap (λ (v : List ℕ). accept (machine-of (a .s) v bs) (a .k) (a .c .own) (moves (with-line 27 (a .c)))) stored)
 
 pub line24-spec : {M : Type 1} → statement M
 line24-spec =

@@ -1,40 +1,41 @@
--- `lines_resize::line28` meets its contract: each return is the case of `step-running` that its tests lead to; the new head is one
--- of the parts that the line gives. Assumes nothing.
-use mathlib.Core.Path.{sym, _∙_}
+-- `lines_resize::line28` meets its contract: refused through an empty place; else the new node becomes head, one of the parts that the
+-- line gives, if the head is t. Assumes nothing.
+use mathlib.Core.Path.{_∙_}
+use mathlib.Core.List.{List}
+use Prim.Native.Nat.{ℕ, _-_}
 use borrow.Author.Tests.{eq-eqb, ne-eqb}
-use Rattle.spec.specs.Machine.{with-state, with-head, state-head, machine-of}
+use Rattle.spec.specs.Machine.{Machine, with-state, with-head, state-head, machine-of}
 use Rattle.spec.specs.Words.{apply}
 use Rattle.spec.specs.Listed.{head-of}
 use Rattle.spec.specs.Entries.{accept}
 use Rattle.spec.specs.Lines.{line-28}
-use Prim.Native.Nat.{_-_}
+use Rattle.laws.specs.StepAt.{step-table, here, next}
 use Rattle.lines.proofs.Settling.{over-head}
-use Rattle.lines_resize.proofs.Laws.{empty-28, empty-28-2, pass-28}
+use Rattle.lines.proofs.Giving.{refuses-8, goes}
 use borrow.Author.Needs.{needs}
 use Rattle.lines_resize.proofs.line28.Statement.{statement}
 use Rattle.lines_resize.proofs.line28.Tie as tie
+
+abbrev machine : tie.Start → List ℕ → List ℕ → Machine
+machine p ns bs = machine-of (p .args .s) ns bs
 
 refused-requires : tie.Need-refused-requires
 refused-requires c κs = search needs
 
 returns : tie.Need-returns
+unfolding step-table
 returns c =
-    λ ns bs.
-    let y = machine-of (c .before .before .args .s) ns bs in
-    let c′ = c .before .before .args .c in
-    let h = c .before .before .pre .1 in
-    c .refused .ensures _ ns bs ∙ sym (empty-28 y (c .before .before .args .k) c′ h (c .before .if1 .taken))
+    let p = c .before .before in
+    λ ns bs. refuses-8 (machine p ns bs) (p .args .c) 28 (p .pre .1) (here (c .before .if1 .taken)) (c .refused .ensures)
 
 refused-requires-2 : tie.Need-refused-requires-2
 refused-requires-2 c κs = search needs
 
 returns-2 : tie.Need-returns-2
+unfolding step-table
 returns-2 c =
-    λ ns bs.
-    let y = machine-of (c .before .before .before .args .s) ns bs in
-    let c′ = c .before .before .before .args .c in
-    let h = c .before .before .before .pre .1 in
-    c .refused2 .ensures _ ns bs ∙ sym (empty-28-2 y (c .before .before .before .args .k) c′ h (c .before .before .if1 .left) (c .before .if2 .taken))
+    let p = c .before .before .before in
+    λ ns bs. refuses-8 (machine p ns bs) (p .args .c) 28 (p .pre .1) (next (here (c .before .if2 .taken))) (c .refused2 .ensures)
 
 add-h : tie.Need-add-h
 add-h c = search needs
@@ -46,25 +47,27 @@ end-requires : tie.Need-end-requires
 end-requires c κs = search needs
 
 returns-3 : tie.Need-returns-3
-unfolding line-28 head-of accept apply with-head with-state state-head
+unfolding step-table line-28 head-of accept apply with-head with-state state-head
 returns-3 c =
+    let at-if1 = c .before .before .before .before in
+    let p = at-if1 .before in
+    let a = p .args in
     λ ns bs.
-    let y = machine-of (c .before .before .before .before .before .args .s) ns bs in
-    let c′ = c .before .before .before .before .before .args .c in
-    let h = c .before .before .before .before .before .pre .1 in
-    over-head (c′ .«new_node» - 1) (c .before .before .before .before .before .args .s) (c .before .before .before .before .before .args .k) (c .end .result) ns bs (c .end .ensures .1) (c .end .ensures .0 ns bs) ∙ sym (pass-28 y (c .before .before .before .before .before .args .k) c′ h (c .before .before .before .before .if1 .left) (c .before .before .before .if2 .left) ∙ rw (eq-eqb _ _ (c .before .if3 .taken)))
+    goes (machine p ns bs) (a .c) 28 (p .pre .1) (at-if1 .if1 .left, c .before .before .before .if2 .left) tt (c .end .ensures .1)
+    (over-head (a .c .«new_node» - 1) (a .s) (a .k) (c .end .result) ns bs (c .end .ensures .1) (c .end .ensures .0 ns bs) ∙ rw
+    (eq-eqb _ _ (c .before .if3 .taken)))
 
 end-requires-2 : tie.Need-end-requires-2
 end-requires-2 c κs = search needs
 
 returns-4 : tie.Need-returns-4
-unfolding line-28 head-of
+unfolding step-table line-28 head-of
 returns-4 c =
+    let at-if1 = c .before .before .before .before in
+    let p = at-if1 .before in
     λ ns bs.
-    let y = machine-of (c .before .before .before .before .before .args .s) ns bs in
-    let c′ = c .before .before .before .before .before .args .c in
-    let h = c .before .before .before .before .before .pre .1 in
-    c .end2 .ensures .0 ns bs ∙ sym (pass-28 y (c .before .before .before .before .before .args .k) c′ h (c .before .before .before .before .if1 .left) (c .before .before .before .if2 .left) ∙ rw (ne-eqb _ _ (c .before .if3 .left)))
+    goes (machine p ns bs) (p .args .c) 28 (p .pre .1) (at-if1 .if1 .left, c .before .before .before .if2 .left) tt (c .end2 .ensures .1)
+    (c .end2 .ensures .0 ns bs ∙ rw (ne-eqb _ _ (c .before .if3 .left)))
 
 pub line28-spec : {M : Type 1} → statement M
 line28-spec =

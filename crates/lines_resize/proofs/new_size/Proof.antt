@@ -11,7 +11,8 @@ use Rattle.lines_resize.proofs.new_size.Tie as tie
 
 returns : tie.Need-returns
 returns c =
-    sized-no (c .before .before .args .call) (c .before .before .args .z) (2 * c .before .before .args .z) (twice (c .before .before .args .call) (c .before .before .args .z) (c .before .if1 .taken)) (big (c .before .before .args .z) (c .if2 .taken))
+    let a = c .before .before .args in
+    sized-no (a .call) (a .z) (2 * a .z) (twice (a .call) (a .z) (c .before .if1 .taken)) (big (a .z) (c .if2 .taken))
 
 mul-w : tie.Need-mul-w
 mul-w c = search needs
@@ -21,11 +22,17 @@ is-listed-size-requires c κs = search needs
 
 returns-2 : tie.Need-returns-2
 returns-2 c =
-    sized-yes (c .before .before .before .before .args .call) (c .before .before .before .before .args .z) (2 * c .before .before .before .before .args .z) (twice (c .before .before .before .before .args .call) (c .before .before .before .before .args .z) (c .before .before .before .if1 .taken)) (sym (c .before .is-listed-size .ensures) ∙ c .if3 .taken)
+    let at-if1 = c .before .before .before in
+    let a = at-if1 .before .args in
+    let listed = sym (c .before .is-listed-size .ensures) ∙ c .if3 .taken in
+    sized-yes (a .call) (a .z) (2 * a .z) (twice (a .call) (a .z) (at-if1 .if1 .taken)) listed
 
 returns-3 : tie.Need-returns-3
 returns-3 c =
-    sized-no (c .before .before .before .before .args .call) (c .before .before .before .before .args .z) (2 * c .before .before .before .before .args .z) (twice (c .before .before .before .before .args .call) (c .before .before .before .before .args .z) (c .before .before .before .if1 .taken)) (sym (c .before .is-listed-size .ensures) ∙ c .if3 .left)
+    let at-if1 = c .before .before .before in
+    let a = at-if1 .before .args in
+    let listed = sym (c .before .is-listed-size .ensures) ∙ c .if3 .left in
+    sized-no (a .call) (a .z) (2 * a .z) (twice (a .call) (a .z) (at-if1 .if1 .taken)) listed
 
 is-listed-size-requires-2 : tie.Need-is-listed-size-requires-2
 is-listed-size-requires-2 c κs = search needs
@@ -33,14 +40,18 @@ is-listed-size-requires-2 c κs = search needs
 returns-4 : tie.Need-returns-4
 unfolding resized
 returns-4 c =
-    let q : c .before .before .before .args .z / 2 ≡ resized (c .before .before .before .args .call) (c .before .before .before .args .z) = rw (ne-eqb _ _ (c .before .before .if1 .left)) in
-    sized-yes (c .before .before .before .args .call) (c .before .before .before .args .z) (c .before .before .before .args .z / 2) q (sym (c .before .is-listed-size2 .ensures) ∙ c .if4 .taken)
+    let at-if1 = c .before .before in
+    let a = at-if1 .before .args in
+    let half : a .z / 2 ≡ resized (a .call) (a .z) = rw (ne-eqb _ _ (at-if1 .if1 .left)) in
+    sized-yes (a .call) (a .z) (a .z / 2) half (sym (c .before .is-listed-size2 .ensures) ∙ c .if4 .taken)
 
 returns-5 : tie.Need-returns-5
 unfolding resized
 returns-5 c =
-    let q : c .before .before .before .args .z / 2 ≡ resized (c .before .before .before .args .call) (c .before .before .before .args .z) = rw (ne-eqb _ _ (c .before .before .if1 .left)) in
-    sized-no (c .before .before .before .args .call) (c .before .before .before .args .z) (c .before .before .before .args .z / 2) q (sym (c .before .is-listed-size2 .ensures) ∙ c .if4 .left)
+    let at-if1 = c .before .before in
+    let a = at-if1 .before .args in
+    let half : a .z / 2 ≡ resized (a .call) (a .z) = rw (ne-eqb _ _ (at-if1 .if1 .left)) in
+    sized-no (a .call) (a .z) (a .z / 2) half (sym (c .before .is-listed-size2 .ensures) ∙ c .if4 .left)
 
 pub new-size-spec : {M : Type 1} → statement M
 new-size-spec =

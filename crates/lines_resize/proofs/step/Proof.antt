@@ -1,10 +1,19 @@
 -- `lines_resize::step` meets its contract: each arm is the line at which the task stands, whose `requires` follows from soundness; the
 -- last is line 28, since no other of the procedure is left. Assumes nothing.
+use mathlib.Core.Path.{_≡_}
+use mathlib.Core.Bool.{true}
+use Prim.Native.Nat.{ℕ}
+use borrow.Author.Tests.{ne-eqb}
+use Rattle.spec.specs.Lists.{member}
+use Rattle.lines.specs.Running.{resize-lines}
+use Rattle.lines.proofs.Running.{numbers, only}
 use borrow.Author.Needs.{needs}
-use Rattle.lines.proofs.Running.{numbers}
-use Rattle.lines_resize.proofs.Laws.{left-28}
 use Rattle.lines_resize.proofs.step.Statement.{statement}
 use Rattle.lines_resize.proofs.step.Tie as tie
+
+left-28 : (l : ℕ) → member l resize-lines ≡ true → (l ≡ 20 → ⊥) → (l ≡ 24 → ⊥) → (l ≡ 27 → ⊥) → l ≡ 28
+unfolding member
+left-28 l h n20 n24 n27 = only (rw (ne-eqb l 20 n20, ne-eqb l 24 n24, ne-eqb l 27 n27) at h)
 
 line20-requires : tie.Need-line20-requires
 line20-requires c κs = let n = numbers (c .before .before .before .pre .1) in (n .number, c .before .match .keys1, n .head)
@@ -14,8 +23,7 @@ line24-requires c κs = let n = numbers (c .before .before .before .pre .1) in (
 
 line27-requires : tie.Need-line27-requires
 line27-requires c κs =
-    let n = numbers (c .before .before .before .pre .1) in
-    (n .number, c .before .match .keys3, n .head, n .nodes, n .last-node, n .nodes-length)
+    let n = numbers (c .before .before .before .pre .1) in (n .number, c .before .match .keys3, n .head, n .nodes, n .last-node, n .nodes-length)
 
 line28-requires : tie.Need-line28-requires
 line28-requires c κs =

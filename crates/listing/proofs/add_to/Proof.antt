@@ -17,11 +17,17 @@ enum-told c = search needs
 
 returns-2 : tie.Need-returns-2
 returns-2 c =
-    sym (now-full (c .before .before .before .before .before .before .args .g) (c .before .before .before .before .before .before .args .tag) (c .before .before .before .before .before .if1 .left) (c .before .before .before .add .result) (c .before .before .before .add .ensures) (c .enum-told .given .1))
+    let at-if1 = c .before .before .before .before .before in
+    let a = at-if1 .before .args in
+    let added = c .before .before .before .add in
+    sym (now-full (a .g) (a .tag) (at-if1 .if1 .left) (added .result) (added .ensures) (c .enum-told .given .1))
 
 returns-3 : tie.Need-returns-3
 returns-3 c =
-    sym (not-full-yet (c .before .before .before .before .before .args .g) (c .before .before .before .before .before .args .tag) (c .before .before .before .before .if1 .left) (c .before .before .add .result) (c .before .before .add .ensures) (not-full (c .before .before .add .result .answer) (c .match .keys2)))
+    let at-if1 = c .before .before .before .before in
+    let a = at-if1 .before .args in
+    let added = c .before .before .add in
+    sym (not-full-yet (a .g) (a .tag) (at-if1 .if1 .left) (added .result) (added .ensures) (not-full (added .result .answer) (c .match .keys2)))
 
 pub add-to-spec : {M : Type 1} → statement M
 add-to-spec = tie.close (tie.spec returns add-requires enum-told returns-2 returns-3)

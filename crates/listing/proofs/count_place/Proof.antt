@@ -16,11 +16,12 @@ use Rattle.listing.proofs.count_place.Statement.{statement}
 use Rattle.listing.proofs.count_place.Tie as tie
 
 abbrev Inv-loop : tie.InvT-loop
-Inv-loop ns bs head k old j l w n found₀ i₀ found i =
-    (i ≤ n) × (found ≤ i) × (found + length (filter (looked-up ns head k old j) (drop i (tags-in w))) ≡ length (filter (looked-up ns head k old j) (tags-in w)))
+Inv-loop g ns bs head k old j l w n found₀ i₀ found i =
+    let f = looked-up g ns head k old j in
+    (i ≤ n) × (found ≤ i) × (found + length (filter f (drop i (tags-in w))) ≡ length (filter f (tags-in w)))
 
 abbrev μ-loop : tie.MeasureT-loop
-μ-loop ns bs head k old j l w n found₀ i₀ found i = n - i
+μ-loop g ns bs head k old j l w n found₀ i₀ found i = n - i
 
 place-at-requires : tie.Need-place-at-requires Inv-loop μ-loop
 place-at-requires c κs = search needs
@@ -28,7 +29,10 @@ place-at-requires c κs = search needs
 returns : tie.Need-returns Inv-loop μ-loop
 returns c =
     let a = c .before .before .before .before .args in
-    (sym (ap length (place-empty (now (a .ns)) (now (a .bs)) (a .head) (a .k) (a .old) (a .j) (c .before .place-at .result) (c .before .place-at .ensures) (c .if1 .taken))), omega arith)
+    let g = a .g in
+    let placed = c .before .place-at in
+    let none = place-empty g (now (a .ns)) (now (a .bs)) (a .head) (a .k) (a .old) (a .j) (placed .result) (placed .ensures) (c .if1 .taken) in
+    (sym (ap length none), omega arith)
 
 cast-load : tie.Need-cast-load Inv-loop μ-loop
 cast-load c = search needs
@@ -44,7 +48,9 @@ count-requires c κs = search needs
 
 loop-holds : tie.Need-loop-holds Inv-loop μ-loop
 loop-holds c =
-    let z = zero-add (length (filter (looked-up (now (c .before .before .before .before .before .before .before .args .ns)) (c .before .before .before .before .before .before .before .args .head) (c .before .before .before .before .before .before .before .args .k) (c .before .before .before .before .before .before .before .args .old) (c .before .before .before .before .before .before .before .args .j)) (tags-in (c .before .before .load .result .words)))) in
+    let a = c .before .before .before .before .before .before .before .args in
+    let f = looked-up (a .g) (now (a .ns)) (a .head) (a .k) (a .old) (a .j) in
+    let z = zero-add (length (filter f (tags-in (c .before .before .load .result .words)))) in
     (omega arith, omega arith, z)
 
 add-is-looked-up : tie.Need-add-is-looked-up Inv-loop μ-loop
@@ -71,7 +77,8 @@ loop-less c = search needs
 loop-again : tie.Need-loop-again Inv-loop μ-loop
 loop-again c =
     let a = c .before .before .before .before .before .before .before .before .before .before .before .args in
-    let f = looked-up (now (a .ns)) (a .head) (a .k) (a .old) (a .j) in
+    let g = a .g in
+    let f = looked-up g (now (a .ns)) (a .head) (a .k) (a .old) (a .j) in
     let ws = c .before .before .before .before .before .before .load .result .words in
     let ts = tags-in ws in
     let i = c .before .before .before .loop .i in
@@ -86,13 +93,19 @@ loop-again c =
 
 returns-2 : tie.Need-returns-2 Inv-loop μ-loop
 returns-2 c =
-    let a = c .before .before .before .before .before .before .before .before .before .args in
-    let f = looked-up (now (a .ns)) (a .head) (a .k) (a .old) (a .j) in
-    let ts = tags-in (c .before .before .before .before .load .result .words) in
+    let loaded = c .before .before .before .before .load in
+    let tested = c .before .before .before .before .before in
+    let placed = tested .before .place-at in
+    let a = tested .before .before .before .before .args in
+    let ns = now (a .ns) in
+    let bs = now (a .bs) in
+    let f = looked-up (a .g) ns (a .head) (a .k) (a .old) (a .j) in
+    let ts = tags-in (loaded .result .words) in
     let v = c .before .loop .inv .2 in
     let z = ap length (rest-none f ts (c .before .loop .i) (omega arith)) in
     let e : c .before .loop .found ≡ length (filter f ts) = omega arith in
-    (e ∙ sym (ap length (place-filled (now (a .ns)) (now (a .bs)) (a .head) (a .k) (a .old) (a .j) (c .before .before .before .before .before .before .place-at .result) (c .before .before .before .before .before .before .place-at .ensures) (c .before .before .before .before .before .if1 .left) (c .before .before .before .before .load .result) (c .before .before .before .before .load .ensures))), omega arith)
+    let here = place-filled (a .g) ns bs (a .head) (a .k) (a .old) (a .j) (placed .result) (placed .ensures) (tested .if1 .left) _ (loaded .ensures) in
+    (e ∙ sym (ap length here), omega arith)
 
 pub count-place-spec : {M : Type 1} → statement M
 count-place-spec =

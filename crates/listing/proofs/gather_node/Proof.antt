@@ -11,11 +11,11 @@ use Rattle.listing.proofs.gather_node.Statement.{statement}
 use Rattle.listing.proofs.gather_node.Tie as tie
 
 abbrev Inv-loop : tie.InvT-loop
-Inv-loop ns bs head k old out₀ j₀ out j =
-    (j ≤ 32) × (adds out (places-tags ns bs head k old j (32 - j)) ≡ adds out₀ (places-tags ns bs head k old 0 32))
+Inv-loop g ns bs head k old out₀ j₀ out j =
+    (j ≤ 32) × (adds out (places-tags g ns bs head k old j (32 - j)) ≡ adds out₀ (places-tags g ns bs head k old 0 32))
 
 abbrev μ-loop : tie.MeasureT-loop
-μ-loop ns bs head k old out₀ j₀ out j = 32 - j
+μ-loop g ns bs head k old out₀ j₀ out j = 32 - j
 
 loop-holds : tie.Need-loop-holds Inv-loop μ-loop
 loop-holds c = (omega arith, refl)
@@ -31,16 +31,23 @@ loop-less c = search needs
 
 loop-again : tie.Need-loop-again Inv-loop μ-loop
 loop-again c =
+    let loop = c .before .before .loop in
     let a = c .before .before .before .before .before .args in
-    let j = c .before .before .loop .j in
-    let xs = place-tags (now (a .ns)) (now (a .bs)) (a .head) (a .k) (a .old) j in
-    let ys = places-tags (now (a .ns)) (now (a .bs)) (a .head) (a .k) (a .old) (j + 1) (32 - (j + 1)) in
-    (omega arith, ap (λ (g : Gathered). adds g ys) (c .gather-place .ensures) ∙ sym (adds-append (c .before .before .loop .out) xs ys) ∙ ap (adds (c .before .before .loop .out)) (sym (places-on (now (a .ns)) (now (a .bs)) (a .head) (a .k) (a .old) j (omega arith))) ∙ c .before .before .loop .inv .1)
+    let ns = now (a .ns) in
+    let bs = now (a .bs) in
+    let j = loop .j in
+    let here = place-tags (a .g) ns bs (a .head) (a .k) (a .old) j in
+    let rest = places-tags (a .g) ns bs (a .head) (a .k) (a .old) (j + 1) (32 - (j + 1)) in
+    let on = sym (places-on (a .g) ns bs (a .head) (a .k) (a .old) j (omega arith)) in
+    let added = ap (λ (g : Gathered). adds g rest) (c .gather-place .ensures) in
+    (omega arith, added ∙ sym (adds-append (loop .out) here rest) ∙ ap (adds (loop .out)) on ∙ loop .inv .1)
 
 returns : tie.Need-returns Inv-loop μ-loop
 returns c =
+    let loop = c .before .loop in
     let a = c .before .before .before .before .args in
-    sym (adds-none (c .before .loop .out)) ∙ ap (adds (c .before .loop .out)) (sym (places-none (now (a .ns)) (now (a .bs)) (a .head) (a .k) (a .old) (c .before .loop .j) (omega arith))) ∙ c .before .loop .inv .1
+    let none = sym (places-none (a .g) (now (a .ns)) (now (a .bs)) (a .head) (a .k) (a .old) (loop .j) (omega arith)) in
+    sym (adds-none (loop .out)) ∙ ap (adds (loop .out)) none ∙ loop .inv .1
 
 pub gather-node-spec : {M : Type 1} → statement M
 gather-node-spec =

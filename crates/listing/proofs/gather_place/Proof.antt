@@ -16,11 +16,12 @@ use Rattle.listing.proofs.gather_place.Statement.{statement}
 use Rattle.listing.proofs.gather_place.Tie as tie
 
 abbrev Inv-loop : tie.InvT-loop
-Inv-loop ns bs head k old j l w n out₀ i₀ out i =
-    (i ≤ n) × (adds out (filter (looked-up ns head k old j) (drop i (tags-in w))) ≡ adds out₀ (filter (looked-up ns head k old j) (tags-in w)))
+Inv-loop g ns bs head k old j l w n out₀ i₀ out i =
+    let f = looked-up g ns head k old j in
+    (i ≤ n) × (adds out (filter f (drop i (tags-in w))) ≡ adds out₀ (filter f (tags-in w)))
 
 abbrev μ-loop : tie.MeasureT-loop
-μ-loop ns bs head k old j l w n out₀ i₀ out i = n - i
+μ-loop g ns bs head k old j l w n out₀ i₀ out i = n - i
 
 place-at-requires : tie.Need-place-at-requires Inv-loop μ-loop
 place-at-requires c κs = search needs
@@ -28,7 +29,10 @@ place-at-requires c κs = search needs
 returns : tie.Need-returns Inv-loop μ-loop
 returns c =
     let a = c .before .before .before .before .args in
-    sym (ap (adds (a .g)) (place-empty (now (a .ns)) (now (a .bs)) (a .head) (a .k) (a .old) (a .j) (c .before .place-at .result) (c .before .place-at .ensures) (c .if1 .taken)) ∙ adds-none (a .g))
+    let g = a .g in
+    let placed = c .before .place-at in
+    let none = place-empty g (now (a .ns)) (now (a .bs)) (a .head) (a .k) (a .old) (a .j) (placed .result) (placed .ensures) (c .if1 .taken) in
+    sym (ap (adds (a .had)) none ∙ adds-none (a .had))
 
 cast-load : tie.Need-cast-load Inv-loop μ-loop
 cast-load c = search needs
@@ -68,28 +72,40 @@ loop-less c = search needs
 
 loop-again : tie.Need-loop-again Inv-loop μ-loop
 loop-again c =
+    let loop = c .before .before .before .loop in
+    let loaded = c .before .before .before .before .before .before .load in
     let a = c .before .before .before .before .before .before .before .before .before .before .before .args in
-    let f = looked-up (now (a .ns)) (a .head) (a .k) (a .old) (a .j) in
-    let ws = c .before .before .before .before .before .before .load .result .words in
+    let f = looked-up (a .g) (now (a .ns)) (a .head) (a .k) (a .old) (a .j) in
+    let ws = loaded .result .words in
     let ts = tags-in ws in
-    let i = c .before .before .before .loop .i in
+    let i = loop .i in
     let h : i < length ts = omega arith in
     let t : getD ts i 0 ≡ getD ws (2 + i) 0 = tag-at ws i h in
     let test = ap f t ∙ sym (c .before .is-looked-up .ensures) in
     let tail = filter f (drop (i + 1) ts) in
-    let v = c .before .before .before .loop .inv .1 in
+    let v = loop .inv .1 in
     ⊎-elim
-    (λ w. (omega arith, ap (λ (g : Gathered). adds g tail) (w .2 ∙ w .1 .ensures ∙ ap (add-to (c .before .before .before .loop .out)) (sym t)) ∙ sym (adds-one (c .before .before .before .loop .out) (getD ts i 0) tail) ∙ ap (adds (c .before .before .before .loop .out)) (sym (pass f ts i h (test ∙ w .0 .taken))) ∙ v))
-    (λ w. (omega arith, ap (λ (g : Gathered). adds g tail) (w .1) ∙ ap (adds (c .before .before .before .loop .out)) (sym (skip f ts i h (test ∙ w .0 .left))) ∙ v))
+    (λ w.
+    let added = w .2 ∙ w .1 .ensures ∙ ap (add-to (loop .out)) (sym t) in
+    let met = sym (pass f ts i h (test ∙ w .0 .taken)) in
+    (omega arith, ap (λ (g : Gathered). adds g tail) added ∙ sym (adds-one (loop .out) (getD ts i 0) tail) ∙ ap (adds (loop .out)) met ∙ v))
+    (λ w. (omega arith, ap (λ (g : Gathered). adds g tail) (w .1) ∙ ap (adds (loop .out)) (sym (skip f ts i h (test ∙ w .0 .left))) ∙ v))
     (c .if2 .came)
 
 returns-2 : tie.Need-returns-2 Inv-loop μ-loop
 returns-2 c =
-    let a = c .before .before .before .before .before .before .before .before .before .args in
-    let f = looked-up (now (a .ns)) (a .head) (a .k) (a .old) (a .j) in
-    let ts = tags-in (c .before .before .before .before .load .result .words) in
-    let out = c .before .loop .out in
-    sym (adds-none out) ∙ ap (adds out) (sym (rest-none f ts (c .before .loop .i) (omega arith))) ∙ c .before .loop .inv .1 ∙ ap (adds (a .g)) (sym (place-filled (now (a .ns)) (now (a .bs)) (a .head) (a .k) (a .old) (a .j) (c .before .before .before .before .before .before .place-at .result) (c .before .before .before .before .before .before .place-at .ensures) (c .before .before .before .before .before .if1 .left) (c .before .before .before .before .load .result) (c .before .before .before .before .load .ensures)))
+    let loop = c .before .loop in
+    let loaded = c .before .before .before .before .load in
+    let tested = c .before .before .before .before .before in
+    let placed = tested .before .place-at in
+    let a = tested .before .before .before .before .args in
+    let ns = now (a .ns) in
+    let bs = now (a .bs) in
+    let f = looked-up (a .g) ns (a .head) (a .k) (a .old) (a .j) in
+    let ts = tags-in (loaded .result .words) in
+    let all-done = sym (adds-none (loop .out)) ∙ ap (adds (loop .out)) (sym (rest-none f ts (loop .i) (omega arith))) in
+    let here = place-filled (a .g) ns bs (a .head) (a .k) (a .old) (a .j) (placed .result) (placed .ensures) (tested .if1 .left) _ (loaded .ensures) in
+    all-done ∙ loop .inv .1 ∙ ap (adds (a .had)) (sym here)
 
 pub gather-place-spec : {M : Type 1} → statement M
 gather-place-spec =

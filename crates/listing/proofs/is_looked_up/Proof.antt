@@ -20,8 +20,10 @@ slot-requires c κs = search needs
 returns : tie.Need-returns
 unfolding looked-up left-over
 returns c =
-    let e : c .before .slot .result ≡ slot (c .before .before .before .before .args .tag) (size (now (c .before .before .before .before .args .ns)) (c .before .before .before .before .args .k)) = c .before .slot .ensures ∙ ap (slot (c .before .before .before .before .args .tag)) (c .before .before .size-at .ensures) in
-    rw (← e, ne-eqb _ _ (c .if1 .taken))
+    let a = c .before .before .before .before .args in
+    let spot : c .before .slot .result ≡ slot (a .g) (a .tag) (size (now (a .ns)) (a .k)) =
+    c .before .slot .ensures ∙ ap (slot (a .g) (a .tag)) (c .before .before .size-at .ensures) in
+    rw (← spot, ne-eqb _ _ (c .if1 .taken))
 
 place-for-at-requires : tie.Need-place-for-at-requires
 place-for-at-requires c κs = search needs
@@ -29,14 +31,20 @@ place-for-at-requires c κs = search needs
 returns-2 : tie.Need-returns-2
 unfolding looked-up left-over
 returns-2 c =
-    let e : c .before .before .before .slot .result ≡ slot (c .before .before .before .before .before .before .args .tag) (size (now (c .before .before .before .before .before .before .args .ns)) (c .before .before .before .before .before .before .args .k)) = c .before .before .before .slot .ensures ∙ ap (slot (c .before .before .before .before .before .before .args .tag)) (c .before .before .before .before .size-at .ensures) in
-    rw (← e, eq-eqb _ _ (c .before .before .if1 .left), c .before .if2 .taken) (ap (λ (p : ℕ). eqb p 0) (c .place-for-at .ensures))
+    let at-slot = c .before .before .before in
+    let a = at-slot .before .before .before .args in
+    let spot : at-slot .slot .result ≡ slot (a .g) (a .tag) (size (now (a .ns)) (a .k)) =
+    at-slot .slot .ensures ∙ ap (slot (a .g) (a .tag)) (at-slot .before .size-at .ensures) in
+    rw (← spot, eq-eqb _ _ (c .before .before .if1 .left), c .before .if2 .taken) (ap (λ (p : ℕ). eqb p 0) (c .place-for-at .ensures))
 
 returns-3 : tie.Need-returns-3
 unfolding looked-up left-over
 returns-3 c =
-    let e : c .before .before .slot .result ≡ slot (c .before .before .before .before .before .args .tag) (size (now (c .before .before .before .before .before .args .ns)) (c .before .before .before .before .before .args .k)) = c .before .before .slot .ensures ∙ ap (slot (c .before .before .before .before .before .args .tag)) (c .before .before .before .size-at .ensures) in
-    rw (← e, eq-eqb _ _ (c .before .if1 .left), c .if2 .left)
+    let at-slot = c .before .before in
+    let a = at-slot .before .before .before .args in
+    let spot : at-slot .slot .result ≡ slot (a .g) (a .tag) (size (now (a .ns)) (a .k)) =
+    at-slot .slot .ensures ∙ ap (slot (a .g) (a .tag)) (at-slot .before .size-at .ensures) in
+    rw (← spot, eq-eqb _ _ (c .before .if1 .left), c .if2 .left)
 
 pub is-looked-up-spec : {M : Type 1} → statement M
 is-looked-up-spec =

@@ -35,15 +35,22 @@ loop-less c = search needs
 
 loop-again : tie.Need-loop-again Inv-loop μ-loop
 loop-again c =
-    (omega arith, simp length-set (c .before .loop .inv .1), ap (λ (l : List ℕ). set l (c .before .loop .i) 0) (c .before .loop .inv .2) ∙ fill-more (c .before .loop .i) 0 (now (c .before .before .args .s)) (omega arith))
+    let loop = c .before .loop in
+    let s = now (c .before .before .args .s) in
+    let stored = ap (λ (l : List ℕ). set l (loop .i) 0) (loop .inv .2) ∙ fill-more (loop .i) 0 s (omega arith) in
+    (omega arith, simp length-set (loop .inv .1), stored)
 
 same-length : tie.Need-same-length Inv-loop μ-loop
 same-length c = c .before .loop .inv .1
 
 returns : tie.Need-returns Inv-loop μ-loop
 returns c =
-    let e : c .before .loop .i ≡ length (now (c .before .before .args .s)) = omega arith in
-    c .before .loop .inv .2 ∙ ap (λ (l : List ℕ). replicate (c .before .loop .i) 0 ++ l) (drop-of-length-le (now (c .before .before .args .s)) {i = c .before .loop .i} (omega arith)) ∙ append-nil (replicate (c .before .loop .i) 0) ∙ rw e
+    let loop = c .before .loop in
+    let s = now (c .before .before .args .s) in
+    let zeros : List ℕ = replicate (loop .i) 0 in
+    let e : loop .i ≡ length s = omega arith in
+    let none-left = drop-of-length-le s {i = loop .i} (omega arith) in
+    loop .inv .2 ∙ ap (λ (l : List ℕ). zeros ++ l) none-left ∙ append-nil zeros ∙ rw e
 
 pub zero-spec : {M : Type 1} → statement M
 zero-spec =

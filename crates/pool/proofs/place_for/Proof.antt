@@ -16,8 +16,9 @@ place-for-at-requires c κs = search needs
 
 returns : tie.Need-returns
 returns c =
-    let w = now (c .before .before .before .args .ns) in
-    c .place-for-at .ensures ∙ ap (λ (k : ℕ). place w k (slot (c .before .before .before .args .tag) (size w k))) (c .before .number-of .ensures)
+    let a = c .before .before .before .args in
+    let w = now (a .ns) in
+    c .place-for-at .ensures ∙ ap (λ (k : ℕ). place w k (slot (a .g) (a .tag) (size w k))) (c .before .number-of .ensures)
 
 pub place-for-spec : {M : Type 1} → statement M
 place-for-spec = tie.close (tie.spec number-of-requires place-for-at-requires returns)

@@ -21,7 +21,8 @@ returns : tie.Need-returns
 returns c =
     let a = c .before .before .before .before .args in
     let w = now (a .ns) in
-    c .place-at .ensures ∙ ap (λ (i : ℕ). place w (a .k) i) (c .before .slot .ensures ∙ ap (λ (z : ℕ). slot (a .tag) z) (c .before .before .size-at .ensures))
+    let spot = c .before .slot .ensures ∙ ap (λ (z : ℕ). slot (a .g) (a .tag) z) (c .before .before .size-at .ensures) in
+    c .place-at .ensures ∙ ap (λ (i : ℕ). place w (a .k) i) spot
 
 pub place-for-at-spec : {M : Type 1} → statement M
 place-for-at-spec = tie.close (tie.spec size-at-requires slot-requires place-at-requires returns)

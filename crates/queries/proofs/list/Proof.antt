@@ -86,22 +86,29 @@ same-length c = search needs
 returns-4 : tie.Need-returns-4
 unfolding overwrite write-front
 returns-4 c =
-    let a = c .before .before .before .before .before .before .before .before .before .before .before .before .before .before .before .before .before .args in
-    let y : Machine = machine-of (a .s) (now (a .ns)) (now (a .bs)) in
-    let s = sym (c .before .before .before .before .before .before .before .before .before .before .before .before .before .sound .ensures) ∙ not-false _ (c .before .before .before .before .before .before .before .before .before .before .before .before .if1 .left) in
-    let g : Holds (c .before .before .before .before .before .before .before .before .before .before .before .gather .result) (listed y) = rw (c .before .before .before .before .before .before .before .before .before .before .before .gather .ensures) (gathered y s) in
-    let f = g .fine (c .before .before .before .before .before .before .before .before .before .before .if2 .left) in
+    let counted = c .before .before .before .before .before .before .before .count in
+    let at-room = c .before .before .before .before .before .before .before .before .before in
+    let at-full = at-room .before in
+    let held = at-full .before .gather in
+    let at-sound = at-full .before .before in
+    let a = at-sound .before .before .before .before .before .args in
     let w = now (a .out) in
-    let ws = c .before .before .before .before .before .before .before .before .before .before .before .gather .result .bucket .words in
+    let y : Machine = machine-of (a .s) (now (a .ns)) (now (a .bs)) in
+    let s = sym (at-sound .before .sound .ensures) ∙ not-false _ (at-sound .if1 .left) in
+    let g : Holds (held .result) (listed y) = rw (held .ensures) (gathered y s) in
+    let f = g .fine (at-full .if2 .left) in
+    let room = at-room .if3 .left in
+    let ws = held .result .bucket .words in
     let t : tags-in ws ≡ listed y = ap tags-in (f .1) ∙ tags-of-bucket 1 (listed y) in
-    let n : c .before .before .before .before .before .before .before .count .result ≡ length (listed y) = c .before .before .before .before .before .before .before .count .ensures .0 ∙ ap length t in
-    let q : 2 + c .before .before .before .before .before .before .before .count .result - 2 ≡ length (tags-in ws) = omega (arith, c .before .before .before .before .before .before .before .count .ensures .0) in
-    let v : take (2 + c .before .before .before .before .before .before .before .count .result - 2) (drop 2 ws) ≡ listed y = ap (λ (m : ℕ). take m (drop 2 ws)) q ∙ sym (tags-words ws) ∙ t in
+    let n : counted .result ≡ length (listed y) = counted .ensures .0 ∙ ap length t in
+    let q : 2 + counted .result - 2 ≡ length (tags-in ws) = omega (arith, counted .ensures .0) in
+    let v : take (2 + counted .result - 2) (drop 2 ws) ≡ listed y = ap (λ (m : ℕ). take m (drop 2 ws)) q ∙ sym (tags-words ws) ∙ t in
     let z : 0 + length (listed y) ≡ length (listed y) = omega arith in
     let o : overwrite w 0 (listed y) ≡ listed y ++ drop (length (listed y)) w = rw z in
-    let p = list-goes y w s (f .0) (c .before .before .before .before .before .before .before .before .before .if3 .left) in
-    let f2 : write-front w (listed y) ≡ overwrite w 0 (listed y) = rw (le-leb (length (listed y)) (length w) (omega (arith, f .0, c .before .before .before .before .before .before .before .before .before .if3 .left))) in
-    (ap Count n ∙ sym (ap (λ (z : Written). z .says) p), c .before .before .write-over .ensures ∙ ap (λ (l : List ℕ). write-front w l) v ∙ f2 ∙ o ∙ sym (ap (λ (z : Written). z .words) p))
+    let p = list-goes y w s (f .0) room in
+    let front : write-front w (listed y) ≡ overwrite w 0 (listed y) = rw (le-leb (length (listed y)) (length w) (omega (arith, f .0, room))) in
+    let written = c .before .before .write-over .ensures ∙ ap (λ (l : List ℕ). write-front w l) v ∙ front ∙ o in
+    (ap Count n ∙ sym (ap (λ (z : Written). z .says) p), written ∙ sym (ap (λ (z : Written). z .words) p))
 
 pub list-spec : {M : Type 1} → statement M
 list-spec =

@@ -44,8 +44,8 @@ part-result-end-2 c = search needs
 returns-2 : tie.Need-returns-2
 unfolding show
 returns-2 c =
-    let y : Machine = machine-of (c .before .before .before .before .before .before .before .args .s) (now (c .before .before .before .before .before .before .before .args .ns)) (now (c .before .before .before .before .before .before .before .args .bs)) in
-    let s = sym (c .before .before .before .before .sound .ensures) ∙ not-false _ (c .before .before .before .if1 .left) in
+    let at-sound = c .before .before .before in
+    let s = sym (at-sound .before .sound .ensures) ∙ not-false _ (at-sound .if1 .left) in
     rw (s, le-ltb _ _ (c .before .if2 .taken))
 
 sub-result-3 : tie.Need-sub-result-3
@@ -59,9 +59,10 @@ part-result-end-3 c = search needs
 
 returns-3 : tie.Need-returns-3
 returns-3 c =
-    let y : Machine = machine-of (c .before .before .before .before .before .before .before .before .args .s) (now (c .before .before .before .before .before .before .before .before .args .ns)) (now (c .before .before .before .before .before .before .before .before .args .bs)) in
-    let s = sym (c .before .before .before .before .before .sound .ensures) ∙ not-false _ (c .before .before .before .before .if1 .left) in
-    let n = numbers-of y s in
+    let at-sound = c .before .before .before .before in
+    let a = at-sound .before .before .before .before .args in
+    let y : Machine = machine-of (a .s) (now (a .ns)) (now (a .bs)) in
+    let n = numbers-of y (sym (at-sound .before .sound .ensures) ∙ not-false _ (at-sound .if1 .left)) in
     absurd (omega (arith, c .before .before .if2 .left, c .before .if3 .taken))
 
 mul-a : tie.Need-mul-a
@@ -94,13 +95,17 @@ part-result-end-4 c = search needs
 returns-4 : tie.Need-returns-4
 unfolding count
 returns-4 c =
-    let y : Machine = machine-of (c .before .before .before .before .before .before .before .before .before .before .args .s) (now (c .before .before .before .before .before .before .before .before .before .before .args .ns)) (now (c .before .before .before .before .before .before .before .before .before .before .args .bs)) in
-    let s = sym (c .before .before .before .before .before .before .before .sound .ensures) ∙ not-false _ (c .before .before .before .before .before .before .if1 .left) in
-    let w = now (c .before .before .before .before .before .before .before .before .before .before .args .bs) in
+    let at-word = c .before .before in
+    let at-k = at-word .before .before in
+    let at-sound = at-k .before .before in
+    let a = at-sound .before .before .before .before .args in
+    let w = now (a .bs) in
+    let y : Machine = machine-of (a .s) (now (a .ns)) w in
+    let s = sym (at-sound .before .sound .ensures) ∙ not-false _ (at-sound .if1 .left) in
     let n = numbers-of y s in
-    let m : count w (c .before .before .before .before .before .before .before .before .before .before .args .k) ≤ 64 = few w (c .before .before .before .before .before .before .before .before .before .before .args .k) (bucket-fact y s (c .before .before .before .before .before .before .before .before .before .before .args .k) (c .before .before .before .before .if2 .left)) in
-    let e : c .before .before .word .result ≡ count w (c .before .before .before .before .before .before .before .before .before .before .args .k) = c .before .before .word .ensures in
-    absurd (omega (arith, c .before .if4 .taken, c .before .before .before .before .if2 .left))
+    let m : count w (a .k) ≤ 64 = few w (a .k) (bucket-fact y s (a .k) (at-k .if2 .left)) in
+    let e : at-word .word .result ≡ count w (a .k) = at-word .word .ensures in
+    absurd (omega (arith, c .before .if4 .taken, at-k .if2 .left))
 
 mul-result : tie.Need-mul-result
 mul-result c = search needs
@@ -117,14 +122,18 @@ part-result-end-5 c = search needs
 returns-5 : tie.Need-returns-5
 unfolding show tags count
 returns-5 c =
-    let y : Machine = machine-of (c .before .before .before .before .before .before .before .before .before .before .args .s) (now (c .before .before .before .before .before .before .before .before .before .before .args .ns)) (now (c .before .before .before .before .before .before .before .before .before .before .args .bs)) in
-    let s = sym (c .before .before .before .before .before .before .before .sound .ensures) ∙ not-false _ (c .before .before .before .before .before .before .if1 .left) in
-    let w = now (c .before .before .before .before .before .before .before .before .before .before .args .bs) in
+    let at-word = c .before .before in
+    let at-k = at-word .before .before in
+    let at-sound = at-k .before .before in
+    let a = at-sound .before .before .before .before .args in
+    let w = now (a .bs) in
+    let y : Machine = machine-of (a .s) (now (a .ns)) w in
+    let s = sym (at-sound .before .sound .ensures) ∙ not-false _ (at-sound .if1 .left) in
     let n = numbers-of y s in
-    let m : count w (c .before .before .before .before .before .before .before .before .before .before .args .k) ≤ 64 = few w (c .before .before .before .before .before .before .before .before .before .before .args .k) (bucket-fact y s (c .before .before .before .before .before .before .before .before .before .before .args .k) (c .before .before .before .before .if2 .left)) in
-    let e : c .before .before .word .result ≡ count w (c .before .before .before .before .before .before .before .before .before .before .args .k) = c .before .before .word .ensures in
-    let q : 66 * c .before .before .before .before .before .before .before .before .before .before .args .k + 2 + c .before .before .word .result - (66 * c .before .before .before .before .before .before .before .before .before .before .args .k + 2) ≡ count w (c .before .before .before .before .before .before .before .before .before .before .args .k) = omega arith in
-    rw (s, lt-ltb _ _ (c .before .before .before .before .if2 .left)) (ap (λ (m : ℕ). take m (drop (66 * c .before .before .before .before .before .before .before .before .before .before .args .k + 2) w)) q)
+    let m : count w (a .k) ≤ 64 = few w (a .k) (bucket-fact y s (a .k) (at-k .if2 .left)) in
+    let e : at-word .word .result ≡ count w (a .k) = at-word .word .ensures in
+    let q : 66 * a .k + 2 + at-word .word .result - (66 * a .k + 2) ≡ count w (a .k) = omega arith in
+    rw (s, lt-ltb _ _ (at-k .if2 .left)) (ap (λ (m : ℕ). take m (drop (66 * a .k + 2) w)) q)
 
 pub show-spec : {M : Type 1} → statement M
 show-spec =

@@ -24,7 +24,7 @@ returns c =
     let a = c .before .before .before .before .before .before .before .before .before .before .before .before .before .before .args in
     let o = c .before .before .before .before .before .before .«open» .ensures in
     let d = c .if1 .taken in
-    (not-run (a .tasks) (now (a .ns)) (now (a .bs)) (now (a .events)) (now (a .outs)) (now (a .tags)) _ (o .0) _ (o .1) d, λ z. absurd (d z))
+    (not-run (a .g) (now (a .ns)) (now (a .bs)) (now (a .events)) (now (a .outs)) (now (a .tags)) _ (o .0) _ (o .1) d, λ z. absurd (d z))
 
 number-of-events-requires : tie.Need-number-of-events-requires
 number-of-events-requires c κs = search needs
@@ -60,8 +60,8 @@ returns-2 c =
     let n = at-number .number-of-events .ensures in
     let r = at-events .run-events .ensures in
     let l = at-list .list .ensures in (
-      all-run (a .tasks) (now (a .ns)) (now (a .bs)) (now (a .events)) (now (a .outs)) (now (a .tags)) _ (o .0) _ (o .1) z _ n _ (r .0) _ (r .1) _ (l .0) _ (l .1),
-      λ e. linearizable (a .tasks) (now (a .ns)) (now (a .bs)) (sym (o .0) ∙ z) (decoded (now (a .events)) (now (a .outs))),
+      all-run (a .g) (now (a .ns)) (now (a .bs)) (now (a .events)) (now (a .outs)) (now (a .tags)) _ (o .0) _ (o .1) z _ n _ (r .0) _ (r .1) _ (l .0) _ (l .1),
+      λ e. linearizable (a .g) (now (a .ns)) (now (a .bs)) (sym (o .0) ∙ z) (decoded (now (a .events)) (now (a .outs))),
     )
 
 pub run-spec : {M : Type 1} → statement M

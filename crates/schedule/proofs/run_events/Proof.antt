@@ -42,23 +42,23 @@ mul-k c = search needs
 shared-slice-read-k : tie.Need-shared-slice-read-k Inv-loop μ-loop
 shared-slice-read-k c = search needs
 
-mul-one : tie.Need-mul-one Inv-loop μ-loop
-mul-one c = search needs
+mul-run-event : tie.Need-mul-run-event Inv-loop μ-loop
+mul-run-event c = search needs
 
-shared-slice-read-one : tie.Need-shared-slice-read-one Inv-loop μ-loop
-shared-slice-read-one c = search needs
+shared-slice-read-run-event : tie.Need-shared-slice-read-run-event Inv-loop μ-loop
+shared-slice-read-run-event c = search needs
 
-add-one : tie.Need-add-one Inv-loop μ-loop
-add-one c = search needs
+add-run-event : tie.Need-add-run-event Inv-loop μ-loop
+add-run-event c = search needs
 
-mul-one-2 : tie.Need-mul-one-2 Inv-loop μ-loop
-mul-one-2 c = search needs
+mul-run-event-2 : tie.Need-mul-run-event-2 Inv-loop μ-loop
+mul-run-event-2 c = search needs
 
-shared-slice-read-one-2 : tie.Need-shared-slice-read-one-2 Inv-loop μ-loop
-shared-slice-read-one-2 c = search needs
+shared-slice-read-run-event-2 : tie.Need-shared-slice-read-run-event-2 Inv-loop μ-loop
+shared-slice-read-run-event-2 c = search needs
 
-one-requires : tie.Need-one-requires Inv-loop μ-loop
-one-requires c κs = search needs
+run-event-requires : tie.Need-run-event-requires Inv-loop μ-loop
+run-event-requires c κs = search needs
 
 write-output-requires : tie.Need-write-output-requires Inv-loop μ-loop
 write-output-requires c κs = search needs
@@ -82,14 +82,14 @@ loop-again : tie.Need-loop-again Inv-loop μ-loop
 unfolding state-head state-last-node state-last-bucket state-task
 loop-again c =
     let at-write = c .before .before .before .before .before in
-    let at-one = at-write .before .before .before .before .before .before in
-    let at-test = at-one .before .before .before .before .before .before in
+    let at-event = at-write .before .before .before .before .before .before in
+    let at-test = at-event .before .before .before .before .before .before in
     let at-loop = at-test .before in
     let start = at-loop .before .before .before .before .before in
     let room = start .pre .1 in
     let l = at-loop .loop in
     let h = at-test .loop-test .taken in
-    let m = at-one .one in
+    let m = at-event .run-event in
     let o = at-write .write-output in
     let k = getD (now (start .args .events)) (4 * l .i + 1) 0 in
     let q = sym (c .before .before .changes .ensures) ∙ c .before .if1 .taken in (
@@ -106,14 +106,14 @@ loop-less-2 c = search needs
 loop-again-2 : tie.Need-loop-again-2 Inv-loop μ-loop
 loop-again-2 c =
     let at-write = c .before .before .before .before in
-    let at-one = at-write .before .before .before .before .before .before in
-    let at-test = at-one .before .before .before .before .before .before in
+    let at-event = at-write .before .before .before .before .before .before in
+    let at-test = at-event .before .before .before .before .before .before in
     let at-loop = at-test .before in
     let start = at-loop .before .before .before .before .before in
     let room = start .pre .1 in
     let l = at-loop .loop in
     let h = at-test .loop-test .taken in
-    let m = at-one .one in
+    let m = at-event .run-event in
     let o = at-write .write-output in
     let k = getD (now (start .args .events)) (4 * l .i + 1) 0 in
     let q = sym (c .before .changes .ensures) ∙ c .if1 .left in (
@@ -151,12 +151,12 @@ run-events-spec =
     add-k
     mul-k
     shared-slice-read-k
-    mul-one
-    shared-slice-read-one
-    add-one
-    mul-one-2
-    shared-slice-read-one-2
-    one-requires
+    mul-run-event
+    shared-slice-read-run-event
+    add-run-event
+    mul-run-event-2
+    shared-slice-read-run-event-2
+    run-event-requires
     write-output-requires
     changes-requires
     cast-j

@@ -3,22 +3,28 @@
 use Prim.Native.Nat.{ℕ}
 use mathlib.Core.Path.{ap, _∙_}
 use denote.Ref.{now}
+use Rattle.spec.specs.declared.Config.{Config}
 use Rattle.schedule_words.specs.Events.{listing-number}
-use Rattle.schedule.specs.Encoding.{Result, c-result, c-result-of}
+use Rattle.schedule.specs.Encoding.{Result, run-words, c-result, c-result-of}
 use Rattle.schedule.proofs.Laws.{number-small}
 use native.Mathlib.Omega.{arith}
 use borrow.Author.Needs.{needs}
 use Rattle.schedule.proofs.schedule_run.Statement.{statement}
 use Rattle.schedule.proofs.schedule_run.Tie as tie
 
+config-requires : tie.Need-config-requires
+config-requires c κs = search needs
+
 run-requires : tie.Need-run-requires
 run-requires c κs = search needs
 
 listing-number-requires : tie.Need-listing-number-requires
 listing-number-requires c κs =
-    let a = c .before .before .before .before .before .before .before .before .before .before .before .before .before .before .before .before .before .before .args in
-    let e = ap (λ (x : Result). listing-number (x .listing)) (c .before .before .before .before .before .before .before .before .run .ensures .0) in
-    let z = number-small (a .tasks) (now (a .ns)) (now (a .bs)) (now (a .events)) (now (a .outs)) (now (a .tags)) in
+    let at-run = c .before .before .before .before .before .before .before .before in
+    let at-config = at-run .before .before .before .before .before in
+    let a = at-config .before .before .before .before .before .before .args in
+    let e = ap (λ (x : Result). listing-number (x .listing)) (at-run .run .ensures .0) in
+    let z = number-small (at-config .config .result) (now (a .ns)) (now (a .bs)) (now (a .events)) (now (a .outs)) (now (a .tags)) in
     omega arith
 
 same-length : tie.Need-same-length
@@ -35,14 +41,19 @@ same-length-4 c = search needs
 
 returns : tie.Need-returns
 returns c =
-    let r = c .before .before .before .before .before .before .before .before .before .run in
-    let w = r .last .1 in
-    ap (λ (n : ℕ). c-result n (w .0) (w .1 .0) (w .1 .1 .1 .0) (w .1 .1 .1 .1 .0)) (c .listing-number .ensures) ∙ ap c-result-of (r .ensures .0)
+    let at-run = c .before .before .before .before .before .before .before .before .before in
+    let at-config = at-run .before .before .before .before .before in
+    let a = at-config .before .before .before .before .before .before .args in
+    let w = at-run .run .last .1 in
+    let numbered = ap (λ (n : ℕ). c-result n (w .0) (w .1 .0) (w .1 .1 .1 .0) (w .1 .1 .1 .1 .0)) (c .listing-number .ensures) in
+    let opened : Config → Result = λ g. run-words g (now (a .ns)) (now (a .bs)) (now (a .events)) (now (a .outs)) (now (a .tags)) in
+    numbered ∙ ap c-result-of (at-run .run .ensures .0) ∙ ap (λ (g : Config). c-result-of (opened g)) (at-config .config .ensures)
 
 pub schedule-run-spec : {M : Type 1} → statement M
 schedule-run-spec =
     tie.close
     (tie.spec
+    config-requires
     run-requires
     listing-number-requires
     same-length

@@ -83,7 +83,8 @@ digits-returns-2 t c =
     let entry = at-if2 .before .before .before in
     let a = entry .args in
     let e : suc (a .most - 1) ≡ a .most = omega arith in
-    let g : decimal-digits (a .most) (a .n) ≡ (48 + a .n) ∷ [] = ap (λ (p : ℕ). decimal-digits p (a .n)) (sym e) ∙ decimal-one (a .most - 1) (a .n) (at-if2 .if2 .taken) in
+    let same = ap (λ (p : ℕ). decimal-digits p (a .n)) (sym e) in
+    let g : decimal-digits (a .most) (a .n) ≡ (48 + a .n) ∷ [] = same ∙ decimal-one (a .most - 1) (a .n) (at-if2 .if2 .taken) in
     c .before .before .one-byte .ensures ∙ ap (λ (l : List ℕ). append l (buffer (now (a .buf)) (a .at))) (sym g)
 
 digits-sub-digits : (t : ℕ) → digits-lts.Need-sub-digits (
@@ -148,7 +149,9 @@ digits-returns-3 t c =
     let a = entry .args in
     let e : suc (a .most - 1) ≡ a .most = omega arith in
     let front = decimal-digits (a .most - 1) (a .n / 10) in
-    let g : decimal-digits (a .most) (a .n) ≡ front ++ ((48 + a .n % 10) ∷ []) = ap (λ (p : ℕ). decimal-digits p (a .n)) (sym e) ∙ decimal-more (a .most - 1) (a .n) (at-if2 .if2 .left) in
+    let same = ap (λ (p : ℕ). decimal-digits p (a .n)) (sym e) in
+    let more = decimal-more (a .most - 1) (a .n) (at-if2 .if2 .left) in
+    let g : decimal-digits (a .most) (a .n) ≡ front ++ ((48 + a .n % 10) ∷ []) = same ∙ more in
     c .before .before .one-byte2 .ensures
     ∙ ap (append-byte (48 + a .n % 10)) (at-digits .digits .ensures)
     ∙ sym (append-both front ((48 + a .n % 10) ∷ []) (buffer (now (a .buf)) (a .at)))

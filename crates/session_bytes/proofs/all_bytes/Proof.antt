@@ -39,7 +39,9 @@ loop-again c =
     let entry = at-loop .before .before .before in
     let l = at-loop .loop in
     let s = now (entry .args .s) in
-    (ap (append (drop (l .i + 1) s)) (at-one-byte .one-byte .ensures) ∙ sym (append-on s (l .i) _ (at-loop-test .loop-test .taken)) ∙ l .inv .0, at-one-byte .one-byte .kept .0 ∙ l .inv .1)
+    let b = at-one-byte .one-byte in
+    let on = sym (append-on s (l .i) _ (at-loop-test .loop-test .taken)) in
+    (ap (append (drop (l .i + 1) s)) (b .ensures) ∙ on ∙ l .inv .0, b .kept .0 ∙ l .inv .1)
 
 same-length : tie.Need-same-length Inv-loop μ-loop
 same-length c = c .before .loop .inv .1

@@ -48,13 +48,19 @@ transcript-requires c κs = search needs
 
 array-share-prefix-out : tie.Need-array-share-prefix-out
 array-share-prefix-out c =
-    let r = c .before .before .before .before .before .transcript in
-    omega (arith, written-within _ _ _ _ (r .ensures .0 .wrote), r .kept .1 .1 .1 .0, c .before .before .before .before .before .before .before .before .before .before .large-buffer3 .ensures)
+    let at-transcript = c .before .before .before .before .before in
+    let at-large-buffer3 = at-transcript .before .before .before .before .before in
+    let r = at-transcript .transcript in
+    omega (arith, written-within _ _ _ _ (r .ensures .0 .wrote), r .kept .1 .1 .1 .0, at-large-buffer3 .large-buffer3 .ensures)
 
 slice-aggregate-same : tie.Need-slice-aggregate-same
 slice-aggregate-same c =
-    let r = c .before .before .before .before .before .before .transcript in
-    sym (length-take-le (r .result) (r .last .1 .1 .1 .0) (omega (arith, written-within _ _ _ _ (r .ensures .0 .wrote), r .kept .1 .1 .1 .0, c .before .before .before .before .before .before .before .before .before .before .before .large-buffer3 .ensures)))
+    let at-transcript = c .before .before .before .before .before .before in
+    let at-large-buffer3 = at-transcript .before .before .before .before .before in
+    let r = at-transcript .transcript in
+    let within = written-within _ _ _ _ (r .ensures .0 .wrote) in
+    let room = at-large-buffer3 .large-buffer3 .ensures in
+    sym (length-take-le (r .result) (r .last .1 .1 .1 .0) (omega (arith, within, r .kept .1 .1 .1 .0, room)))
 
 array-share-prefix-expected : tie.Need-array-share-prefix-expected
 array-share-prefix-expected c = search needs

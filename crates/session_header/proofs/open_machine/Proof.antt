@@ -2,6 +2,7 @@
 -- pools, put back into the whole of them. Assumes nothing.
 use mathlib.Core.Path.{sym}
 use denote.Ref.{now}
+use Rattle.session_state.proofs.Laws.{line-as}
 use Rattle.session_header.proofs.Laws.{opens, refuses}
 use lib.Seq.{length-take-le}
 use borrow.Author.Needs.{needs}
@@ -19,7 +20,7 @@ slice-relend-prefix-open c = search needs
 
 slice-aggregate-open : tie.Need-slice-aggregate-open
 slice-aggregate-open c =
-    let at-node-extent = c .before .before in
+    let at-node-extent = c .before .before .before in
     let entry = at-node-extent .before .before .before .before in
     sym (length-take-le (at-node-extent .node-extent .result) (now (entry .args .ns)) (at-node-extent .node-extent .ensures .1))
 
@@ -28,13 +29,16 @@ slice-relend-prefix-open-2 c = search needs
 
 slice-aggregate-open-2 : tie.Need-slice-aggregate-open-2
 slice-aggregate-open-2 c =
-    let at-bucket-extent = c .before .before in
+    let at-bucket-extent = c .before .before .before in
     let entry = at-bucket-extent .before .before .before .before .before in
     sym
     (length-take-le (at-bucket-extent .bucket-extent .result) (now (entry .args .bs)) (at-bucket-extent .bucket-extent .ensures .1))
 
 open-requires : tie.Need-open-requires
 open-requires c κs = search needs
+
+after-line-requires : tie.Need-after-line-requires
+after-line-requires c κs = search needs
 
 same-length : tie.Need-same-length
 same-length c = search needs
@@ -44,17 +48,23 @@ same-length-2 c = search needs
 
 returns : tie.Need-returns
 returns c =
-    let at-open = c .before .before .before .before .before .before in
-    let at-bucket-extent = at-open .before .before .before in
+    let at-if1 = c .before in
+    let at-open = at-if1 .before .before .before .before .before .before in
+    let at-bucket-extent = at-open .before .before .before .before in
     let at-node-extent = at-bucket-extent .before in
     let entry = at-node-extent .before .before .before .before in
-    opens (entry .args .s) (now (entry .args .ns)) (now (entry .args .bs)) (at-node-extent .node-extent .result)
-    (at-bucket-extent .bucket-extent .result) (at-node-extent .node-extent .ensures .0)
-    (at-bucket-extent .bucket-extent .ensures .0) (at-open .«open» .result .state) _ _ (at-open .«open» .result .refusal)
-    (at-open .«open» .ensures .0) (at-open .«open» .ensures .1) _ (c .if1 .taken)
+    let a = at-node-extent .node-extent in
+    let b = at-bucket-extent .bucket-extent in
+    let o = at-open .«open» in
+    line-as _ _ _ _ _ _ _ (c .after-line .ensures)
+    (opens (entry .args .h) (now (entry .args .ns)) (now (entry .args .bs)) (a .result) (b .result) (a .ensures .0) (b .ensures .0)
+    (o .result .state) _ _ (o .result .refusal) (o .ensures .0) (o .ensures .1) _ (at-if1 .if1 .taken))
 
 refusal-requires : tie.Need-refusal-requires
 refusal-requires c κs = search needs
+
+after-line-requires-2 : tie.Need-after-line-requires-2
+after-line-requires-2 c κs = search needs
 
 same-length-3 : tie.Need-same-length-3
 same-length-3 c = search needs
@@ -67,15 +77,18 @@ same-length-5 c = search needs
 
 returns-2 : tie.Need-returns-2
 returns-2 c =
-    let at-if1 = c .before .before .before .before in
+    let at-refusal = c .before .before .before in
+    let at-if1 = at-refusal .before .before in
     let at-open = at-if1 .before .before .before .before .before .before in
-    let at-bucket-extent = at-open .before .before .before in
+    let at-bucket-extent = at-open .before .before .before .before in
     let at-node-extent = at-bucket-extent .before in
     let entry = at-node-extent .before .before .before .before in
-    refuses (entry .args .s) (now (entry .args .ns)) (now (entry .args .bs)) (at-node-extent .node-extent .result)
-    (at-bucket-extent .bucket-extent .result) (at-node-extent .node-extent .ensures .0)
-    (at-bucket-extent .bucket-extent .ensures .0) (at-open .«open» .result .state) _ _ (at-open .«open» .result .refusal)
-    (at-open .«open» .ensures .0) (at-open .«open» .ensures .1) _ _ _ (at-if1 .if1 .left) (c .before .before .refusal .ensures)
+    let a = at-node-extent .node-extent in
+    let b = at-bucket-extent .bucket-extent in
+    let o = at-open .«open» in
+    line-as _ _ _ _ _ _ _ (c .after-line2 .ensures)
+    (refuses (entry .args .h) (now (entry .args .ns)) (now (entry .args .bs)) (a .result) (b .result) (a .ensures .0) (b .ensures .0)
+    (o .result .state) _ _ (o .result .refusal) (o .ensures .0) (o .ensures .1) _ _ _ (at-if1 .if1 .left) (at-refusal .refusal .ensures))
 
 pub open-machine-spec : {M : Type 1} → statement M
 open-machine-spec =
@@ -88,10 +101,12 @@ open-machine-spec =
     slice-relend-prefix-open-2
     slice-aggregate-open-2
     open-requires
+    after-line-requires
     same-length
     same-length-2
     returns
     refusal-requires
+    after-line-requires-2
     same-length-3
     same-length-4
     same-length-5

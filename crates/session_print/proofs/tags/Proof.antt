@@ -52,7 +52,9 @@ loop-again c =
     let entry = at-loop .before .before .before in
     let l = at-loop .loop in
     let s = now (entry .args .ts) in
-    (ap (append (tag-lines (drop (l .i + 1) s))) (at-key-line .key-line .ensures) ∙ sym (tags-on s (l .i) _ (at-loop-test .loop-test .taken)) ∙ l .inv .0, at-key-line .key-line .kept .0 ∙ l .inv .1)
+    let k = at-key-line .key-line in
+    let on = sym (tags-on s (l .i) _ (at-loop-test .loop-test .taken)) in
+    (ap (append (tag-lines (drop (l .i + 1) s))) (k .ensures) ∙ on ∙ l .inv .0, k .kept .0 ∙ l .inv .1)
 
 same-length : tie.Need-same-length Inv-loop μ-loop
 same-length c = c .before .loop .inv .1

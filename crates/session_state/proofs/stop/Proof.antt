@@ -1,6 +1,6 @@
--- `session_state::stop` meets its contract. The session as it was but for its phase, and the refusal's line appended. Assumes
--- nothing.
+-- `session_state::stop` meets its contract. The refusal's line is printed, and the session has stopped. Assumes nothing.
 use mathlib.Core.Path.{refl}
+use Rattle.session_state.proofs.Laws.{session-as}
 use Rattle.session_state.specs.Handling.{stopped}
 use borrow.Author.Needs.{needs}
 use Rattle.session_state.proofs.stop.Statement.{statement}
@@ -9,12 +9,17 @@ use Rattle.session_state.proofs.stop.Tie as tie
 refusal-requires : tie.Need-refusal-requires
 refusal-requires c κs = search needs
 
+after-line-requires : tie.Need-after-line-requires
+after-line-requires c κs = search needs
+
 same-length : tie.Need-same-length
 same-length c = search needs
 
 returns : tie.Need-returns
 unfolding stopped
-returns c = record { next = refl; wrote = c .before .before .before .refusal .ensures }
+returns c =
+    let at-refusal = c .before .before .before .before .before in
+    session-as _ _ _ _ _ (c .after-line .ensures) (record { next = refl; wrote = at-refusal .refusal .ensures })
 
 pub stop-spec : {M : Type 1} → statement M
-stop-spec = tie.close (tie.spec refusal-requires same-length returns)
+stop-spec = tie.close (tie.spec refusal-requires after-line-requires same-length returns)

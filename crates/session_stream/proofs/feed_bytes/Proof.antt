@@ -44,25 +44,36 @@ feed-byte-requires c κs = search needs
 
 add-at : tie.Need-add-at Inv-loop μ-loop
 add-at c =
-    let f = c .before .before .before .before .before .before .before .before .before .feed-byte in
-    let l = c .before .before .before .before .before .before .before .before .before .before .before .before .before .before .before .loop in
-    omega (arith, append-within _ _ _ _ (f .ensures .wrote), rest-length (l .out) (l .at), append-within _ _ _ _ (l .inv .0 .wrote), l .inv .3, c .before .before .before .before .before .before .before .before .before .before .before .before .before .before .before .before .before .before .before .before)
+    let at-feed-byte = c .before .before .before .before .before .before .before .before .before in
+    let at-loop = at-feed-byte .before .before .before .before .before .before in
+    let entry = at-loop .before .before .before .before .before in
+    let f = at-feed-byte .feed-byte in
+    let l = at-loop .loop in
+    let byte-within = append-within _ _ _ _ (f .ensures .wrote) in
+    let so-far-within = append-within _ _ _ _ (l .inv .0 .wrote) in
+    omega (arith, byte-within, rest-length (l .out) (l .at), so-far-within, l .inv .3, entry)
 
 add-i : tie.Need-add-i Inv-loop μ-loop
-add-i c = omega (arith, c .before .before .before .before .before .before .before .before .before .before .before .before .before .before .loop-test .taken, c .before .before .before .before .before .before .before .before .before .before .before .before .before .before .before .before .before .before .before .before)
+add-i c =
+    let at-feed-byte = c .before .before .before .before .before .before .before .before .before in
+    let in-loop = at-feed-byte .before .before .before .before .before in
+    let entry = in-loop .before .before .before .before .before .before in
+    omega (arith, in-loop .loop-test .taken, entry)
 
 loop-less : tie.Need-loop-less Inv-loop μ-loop
 loop-less c = search needs
 
 loop-again : tie.Need-loop-again Inv-loop μ-loop
 loop-again c =
-    let f = c .before .before .before .before .before .before .before .before .before .feed-byte in
-    let q = c .before .before .before .before .before .before .before .before .before .before .before .before .before .before in
-    let l = q .before .loop in
-    let a = q .before .before .before .before .before .before .args in
+    let at-feed-byte = c .before .before .before .before .before .before .before .before .before in
+    let in-loop = at-feed-byte .before .before .before .before .before in
+    let f = at-feed-byte .feed-byte in
+    let l = in-loop .before .loop in
+    let a = in-loop .before .before .before .before .before .before .args in
     let p = begin (a .s) (a .h) (now (a .ns)) (now (a .bs)) in
     let w : l .at ≤ length (l .out) = omega (arith, append-within _ _ _ _ (l .inv .0 .wrote), l .inv .3) in (
-      feeds-next p (now (a .input)) (l .i) (q .loop-test .taken) (l .session) (l .line) (l .at) (l .ns) (l .bs) (now (a .out)) (l .out) (l .inv .0) (l .inv .3) (f .result) _ _ _ (f .ensures),
+      feeds-next p (now (a .input)) (l .i) (in-loop .loop-test .taken) (l .session) (l .line) (l .at) (l .ns) (l .bs) (now (a .out)) (l .out)
+          (l .inv .0) (l .inv .3) (f .result) _ _ _ (f .ensures),
       f .kept .1 .1 .1 .0 ∙ l .inv .1,
       f .kept .1 .1 .1 .1 .0 ∙ l .inv .2,
       back-length (l .out) (f .last .1 .1 .1 .1 .1 .0) (l .at) w (f .kept .1 .1 .1 .1 .1 .0) ∙ l .inv .3,
@@ -81,7 +92,8 @@ returns : tie.Need-returns Inv-loop μ-loop
 returns c =
     let l = c .before .loop in
     let a = c .before .before .before .before .before .before .args in
-    feeds-all (begin (a .s) (a .h) (now (a .ns)) (now (a .bs))) (now (a .input)) (l .i) (c .loop-test .left) (fed (l .session) (l .line) (l .at)) (l .ns) (l .bs) (now (a .out)) (l .out) (l .inv .0)
+    let p = begin (a .s) (a .h) (now (a .ns)) (now (a .bs)) in
+    feeds-all p (now (a .input)) (l .i) (c .loop-test .left) (fed (l .session) (l .line) (l .at)) (l .ns) (l .bs) (now (a .out)) (l .out) (l .inv .0)
 
 pub feed-bytes-spec : {M : Type 1} → statement M
 feed-bytes-spec =

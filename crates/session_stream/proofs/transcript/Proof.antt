@@ -20,12 +20,14 @@ feed-bytes-requires c κs = search needs
 
 sub-end-stream : tie.Need-sub-end-stream
 sub-end-stream c =
-    let f = c .before .before .before .before .before .before .before .before .before .before .feed-bytes in
+    let at-line = c .before .before in
+    let f = at-line .before .before .before .before .before .before .before .before .feed-bytes in
     omega (arith, append-within _ _ _ _ (f .ensures .wrote), f .kept .1 .1 .1 .1 .1 .0)
 
 part-end-stream-start : tie.Need-part-end-stream-start
 part-end-stream-start c =
-    let f = c .before .before .before .before .before .before .before .before .before .before .feed-bytes in
+    let at-line = c .before .before in
+    let f = at-line .before .before .before .before .before .before .before .before .feed-bytes in
     omega (arith, append-within _ _ _ _ (f .ensures .wrote), f .kept .1 .1 .1 .1 .1 .0)
 
 part-end-stream-end : tie.Need-part-end-stream-end
@@ -36,9 +38,15 @@ end-stream-requires c κs = search needs
 
 add-result : tie.Need-add-result
 add-result c =
-    let e = c .before .before .end-stream in
-    let f = c .before .before .before .before .before .before .before .before .before .before .before .before .before .before .feed-bytes in
-    omega (arith, append-within _ _ _ _ (e .ensures), append-within _ _ _ _ (f .ensures .wrote), f .kept .1 .1 .1 .1 .1 .0, rest-length (f .last .1 .1 .1 .1 .1 .0) (f .result .printed), c .before .before .before .before .before .before .before .before .before .before .before .before .before .before .before .before .before .before .before .before .before .before .before .before)
+    let at-end-stream = c .before .before .before .before .before .before in
+    let at-line = at-end-stream .before .before .before .before in
+    let at-feed-bytes = at-line .before .before .before .before .before .before .before .before in
+    let e = at-end-stream .end-stream in
+    let f = at-feed-bytes .feed-bytes in
+    let entry = at-feed-bytes .before .before .before .before .before .before .before .before .before .before in
+    let fed-within = append-within _ _ _ _ (f .ensures .wrote) in
+    let end-within = append-within _ _ _ _ (e .ensures .wrote) in
+    omega (arith, end-within, fed-within, f .kept .1 .1 .1 .1 .1 .0, rest-length (f .last .1 .1 .1 .1 .1 .0) (f .result .printed), entry)
 
 same-length : tie.Need-same-length
 same-length c = search needs
@@ -51,12 +59,19 @@ same-length-3 c = search needs
 
 returns : tie.Need-returns
 returns c =
-    let e = c .before .before .end-stream in
-    let f = c .before .before .before .before .before .before .before .before .before .before .before .before .before .before .feed-bytes in
-    let h = c .before .before .before .before .before .before .before .before .before .before .before .before .before .before .before .before .before .before .empty-line in
-    let s = c .before .before .before .before .before .before .before .before .before .before .before .before .before .before .before .before .before .before .before .new-session in
-    let a = c .before .before .before .before .before .before .before .before .before .before .before .before .before .before .before .before .before .before .before .before .before .before .before .before .args in
-    let r = ends-session (s .result) (h .result) (s .ensures) (h .ensures) (now (a .input)) (now (a .ns)) (now (a .bs)) (now (a .out)) (f .result) (f .last .1 .1 .1 .0) (f .last .1 .1 .1 .1 .0) (f .last .1 .1 .1 .1 .1 .0) (e .last .1 .1 .1 .1 .0) (e .result) (f .ensures) (f .kept .1 .1 .1 .1 .1 .0) (e .ensures) in
+    let at-end-stream = c .before .before .before .before .before .before in
+    let at-line = at-end-stream .before .before .before .before in
+    let at-feed-bytes = at-line .before .before .before .before .before .before .before .before in
+    let at-empty-line = at-feed-bytes .before .before .before .before in
+    let at-new-session = at-empty-line .before in
+    let entry = at-new-session .before .before .before .before .before in
+    let e = at-end-stream .end-stream in
+    let f = at-feed-bytes .feed-bytes in
+    let h = at-empty-line .empty-line in
+    let s = at-new-session .new-session in
+    let a = entry .args in
+    let r = ends-session (s .result) (h .result) (s .ensures) (h .ensures) (now (a .input)) (now (a .ns)) (now (a .bs)) (now (a .out))
+    (f .result) _ _ (f .last .1 .1 .1 .1 .1 .0) (f .ensures) (f .kept .1 .1 .1 .1 .1 .0) (e .result) _ _ _ (e .ensures) in
     (r, λ i j. ends-transcript (now (a .input)) (now (a .ns)) (now (a .bs)) (now (a .out)) (f .result .printed + e .result) _ _ _ r i j)
 
 pub transcript-spec : {M : Type 1} → statement M

@@ -39,8 +39,9 @@ loop-less c = omega arith
 
 loop-again : tie.Need-loop-again Inv-loop μ-loop
 loop-again c =
-    let s = c .before .before .before .before .args .s .now in
-    let b = c .before .before .before .before .args .b in
+    let a = c .before .before .before .before .args in
+    let s = a .s .now in
+    let b = a .b in
     let i = c .before .before .before .loop .i in
     let v = c .before .before .before .loop .inv .2 in
     ⊎-elim

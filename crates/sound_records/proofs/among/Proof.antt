@@ -28,7 +28,9 @@ shared-slice-read-if1 c = search needs
 
 returns : tie.Need-returns Inv-loop μ-loop
 returns c =
-    sym (c .before .before .before .loop .inv .1 ∙ member-here (now (c .before .before .before .before .args .s)) (c .before .before .before .loop .i) (omega arith) (c .before .before .before .before .args .x) (c .if1 .taken))
+    let loop = c .before .before .before .loop in
+    let a = c .before .before .before .before .args in
+    sym (loop .inv .1 ∙ member-here (now (a .s)) (loop .i) (omega arith) (a .x) (c .if1 .taken))
 
 add-i : tie.Need-add-i Inv-loop μ-loop
 add-i c = search needs
@@ -38,11 +40,15 @@ loop-less c = search needs
 
 loop-again : tie.Need-loop-again Inv-loop μ-loop
 loop-again c =
-    (omega arith, c .before .before .before .loop .inv .1 ∙ member-on (now (c .before .before .before .before .args .s)) (c .before .before .before .loop .i) (omega arith) (c .before .before .before .before .args .x) (c .if1 .left))
+    let loop = c .before .before .before .loop in
+    let a = c .before .before .before .before .args in
+    (omega arith, loop .inv .1 ∙ member-on (now (a .s)) (loop .i) (omega arith) (a .x) (c .if1 .left))
 
 returns-2 : tie.Need-returns-2 Inv-loop μ-loop
 returns-2 c =
-    sym (c .before .loop .inv .1 ∙ member-end (c .before .before .args .x) (now (c .before .before .args .s)) (c .before .loop .i) (omega arith))
+    let loop = c .before .loop in
+    let a = c .before .before .args in
+    sym (loop .inv .1 ∙ member-end (a .x) (now (a .s)) (loop .i) (omega arith))
 
 pub among-spec : {M : Type 1} → statement M
 among-spec =

@@ -48,11 +48,14 @@ is-ascending-requires c κs = search needs
 returns-3 : tie.Need-returns-3
 unfolding sound-bucket
 returns-3 c =
-    let w = now (c .before .before .before .before .before .before .before .before .args .w) in
+    let at-count = c .before .before .before in
+    let at-flag = at-count .before .before in
+    let w = now (at-flag .before .before .before .args .w) in
     let k = getD w 1 0 in
     let e : 2 + k - 2 ≡ k = omega arith in
-    let q : ascending (take k (drop 2 w)) ≡ false = ap (λ (m : ℕ). ascending (take m (drop 2 w))) (sym e) ∙ sym (c .before .is-ascending .ensures) ∙ not-true _ (c .if3 .taken) in
-    rw (le-leb _ _ (c .before .before .before .before .before .if1 .left), le-leb _ _ (c .before .before .before .if2 .left), q)
+    let tags : ascending (take k (drop 2 w)) ≡ false =
+    ap (λ (m : ℕ). ascending (take m (drop 2 w))) (sym e) ∙ sym (c .before .is-ascending .ensures) ∙ not-true _ (c .if3 .taken) in
+    rw (le-leb _ _ (at-flag .if1 .left), le-leb _ _ (at-count .if2 .left), tags)
 
 sub-zero-words : tie.Need-sub-zero-words
 sub-zero-words c = search needs
@@ -63,11 +66,15 @@ zero-words-requires c κs = search needs
 returns-4 : tie.Need-returns-4
 unfolding sound-bucket
 returns-4 c =
-    let w = now (c .before .before .before .before .before .before .before .before .before .args .w) in
+    let at-tags = c .before in
+    let at-count = at-tags .before .before .before in
+    let at-flag = at-count .before .before in
+    let w = now (at-flag .before .before .before .args .w) in
     let k = getD w 1 0 in
     let e : 2 + k - 2 ≡ k = omega arith in
-    let q : ascending (take k (drop 2 w)) ≡ true = ap (λ (m : ℕ). ascending (take m (drop 2 w))) (sym e) ∙ sym (c .before .before .is-ascending .ensures) ∙ not-false _ (c .before .if3 .left) in
-    rw (le-leb _ _ (c .before .before .before .before .before .before .if1 .left), le-leb _ _ (c .before .before .before .before .if2 .left), q) (c .zero-words .ensures)
+    let tags : ascending (take k (drop 2 w)) ≡ true =
+    ap (λ (m : ℕ). ascending (take m (drop 2 w))) (sym e) ∙ sym (at-tags .before .is-ascending .ensures) ∙ not-false _ (at-tags .if3 .left) in
+    rw (le-leb _ _ (at-flag .if1 .left), le-leb _ _ (at-count .if2 .left), tags) (c .zero-words .ensures)
 
 pub bucket-ok-spec : {M : Type 1} → statement M
 bucket-ok-spec =

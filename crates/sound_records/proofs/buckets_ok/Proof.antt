@@ -40,13 +40,17 @@ part-bucket-ok-end c = search needs
 
 bucket-ok-requires : tie.Need-bucket-ok-requires Inv-loop μ-loop
 bucket-ok-requires c κs =
-    rw (rest (now (c .before .before .before .before .args .bs)) (66 * c .before .before .loop .k), length-drop (66 * c .before .before .loop .k) (now (c .before .before .before .before .args .bs))) (omega arith)
+    let w = now (c .before .before .before .before .args .bs) in
+    let at = 66 * c .before .before .loop .k in
+    rw (rest w at, length-drop at w) (omega arith)
 
 returns : tie.Need-returns Inv-loop μ-loop
 returns c =
-    let w = now (c .before .before .before .before .before .before .args .bs) in
-    let q = ap sound-bucket (sym (rest w (66 * c .before .before .before .before .loop .k))) ∙ sym (c .before .bucket-ok .ensures) ∙ not-true _ (c .if1 .taken) in
-    sym (c .before .before .before .before .loop .inv .1 ∙ buckets-no w (c .before .before .before .before .before .before .args .n) (c .before .before .before .before .loop .k) (c .before .before .before .loop-test .taken) q)
+    let loop = c .before .before .before .before .loop in
+    let a = c .before .before .before .before .before .before .args in
+    let w = now (a .bs) in
+    let fails = ap sound-bucket (sym (rest w (66 * loop .k))) ∙ sym (c .before .bucket-ok .ensures) ∙ not-true _ (c .if1 .taken) in
+    sym (loop .inv .1 ∙ buckets-no w (a .n) (loop .k) (c .before .before .before .loop-test .taken) fails)
 
 add-k : tie.Need-add-k Inv-loop μ-loop
 add-k c = search needs
@@ -56,13 +60,17 @@ loop-less c = search needs
 
 loop-again : tie.Need-loop-again Inv-loop μ-loop
 loop-again c =
-    let w = now (c .before .before .before .before .before .before .args .bs) in
-    let q = ap sound-bucket (sym (rest w (66 * c .before .before .before .before .loop .k))) ∙ sym (c .before .bucket-ok .ensures) ∙ not-false _ (c .if1 .left) in
-    (omega arith, c .before .before .before .before .loop .inv .1 ∙ buckets-on w (c .before .before .before .before .before .before .args .n) (c .before .before .before .before .loop .k) (c .before .before .before .loop-test .taken) q)
+    let loop = c .before .before .before .before .loop in
+    let a = c .before .before .before .before .before .before .args in
+    let w = now (a .bs) in
+    let holds = ap sound-bucket (sym (rest w (66 * loop .k))) ∙ sym (c .before .bucket-ok .ensures) ∙ not-false _ (c .if1 .left) in
+    (omega arith, loop .inv .1 ∙ buckets-on w (a .n) (loop .k) (c .before .before .before .loop-test .taken) holds)
 
 returns-2 : tie.Need-returns-2 Inv-loop μ-loop
 returns-2 c =
-    sym (c .before .loop .inv .1 ∙ buckets-end (drop (66 * c .before .loop .k) (now (c .before .before .before .args .bs))) (c .before .before .before .args .n) (c .before .loop .k) (c .loop-test .left))
+    let loop = c .before .loop in
+    let a = c .before .before .before .args in
+    sym (loop .inv .1 ∙ buckets-end (drop (66 * loop .k) (now (a .bs))) (a .n) (loop .k) (c .loop-test .left))
 
 pub buckets-ok-spec : {M : Type 1} → statement M
 buckets-ok-spec =

@@ -47,9 +47,10 @@ loop-less c = omega arith
 
 loop-again : tie.Need-loop-again Inv-loop μ-loop
 loop-again c =
+    let loop = c .before .before .before .before .loop in
     let s = c .before .before .before .before .before .args .s .now in
-    let i = c .before .before .before .before .loop .i in
-    let v = c .before .before .before .before .loop .inv .2 in
+    let i = loop .i in
+    let v = loop .inv .2 in
     ⊎-elim
     (λ t. (omega arith, omega arith, omega (arith, falls-fail s i (omega arith) (omega arith) (t .0 .taken))))
     (λ t. (omega arith, omega arith, omega (arith, falls-pass s i (omega arith) (omega arith) (t .0 .left))))

@@ -20,12 +20,16 @@ size-of-requires c κs = search needs
 returns-3 : tie.Need-returns-3
 unfolding node-link
 returns-3 c =
-    λ y e h. rw (h, le-leb _ _ (c .before .before .before .if1 .left), e, ne-eqb _ _ (c .before .before .if2 .left), ← c .before .size-of .ensures, c .if3 .taken)
+    let at-none = c .before .before in
+    let in-pool = le-leb _ _ (at-none .before .if1 .left) in
+    λ y e h. rw (h, in-pool, e, ne-eqb _ _ (at-none .if2 .left), ← c .before .size-of .ensures, c .if3 .taken)
 
 returns-4 : tie.Need-returns-4
 unfolding node-link
 returns-4 c =
-    λ y e h. rw (h, le-leb _ _ (c .before .before .before .if1 .left), e, ne-eqb _ _ (c .before .before .if2 .left), ← c .before .size-of .ensures, ne-eqb _ _ (c .if3 .left))
+    let at-none = c .before .before in
+    let in-pool = le-leb _ _ (at-none .before .if1 .left) in
+    λ y e h. rw (h, in-pool, e, ne-eqb _ _ (at-none .if2 .left), ← c .before .size-of .ensures, ne-eqb _ _ (c .if3 .left))
 
 pub link-ok-spec : {M : Type 1} → statement M
 link-ok-spec = tie.close (tie.spec returns returns-2 size-of-requires returns-3 returns-4)

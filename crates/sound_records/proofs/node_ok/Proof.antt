@@ -31,7 +31,9 @@ link-ok-requires c κs = search needs
 returns-2 : tie.Need-returns-2
 unfolding sound-node bucket-link
 returns-2 c =
-    λ y e h d. rw (sym (c .before .before .before .before .size-ok .ensures) ∙ not-false _ (c .before .before .before .if1 .left), sym (c .before .link-ok .ensures y e h) ∙ not-true _ (c .if2 .taken))
+    let at-size = c .before .before .before in
+    let size = sym (at-size .before .size-ok .ensures) ∙ not-false _ (at-size .if1 .left) in
+    λ y e h d. rw (size, sym (c .before .link-ok .ensures y e h) ∙ not-true _ (c .if2 .taken))
 
 sub-all-within : tie.Need-sub-all-within
 sub-all-within c = search needs
@@ -48,11 +50,20 @@ all-within-requires c κs = search needs
 returns-3 : tie.Need-returns-3
 unfolding sound-node bucket-link
 returns-3 c =
-    λ y e h d. rw (sym (c .before .before .before .before .before .before .before .size-ok .ensures) ∙ not-false _ (c .before .before .before .before .before .before .if1 .left), sym (c .before .before .before .before .link-ok .ensures y e h) ∙ not-false _ (c .before .before .before .if2 .left), d, sym (c .before .all-within .ensures) ∙ not-true _ (c .if3 .taken))
+    let at-pred = c .before .before .before in
+    let at-size = at-pred .before .before .before in
+    let size = sym (at-size .before .size-ok .ensures) ∙ not-false _ (at-size .if1 .left) in
+    λ y e h d.
+    let pred = sym (at-pred .before .link-ok .ensures y e h) ∙ not-false _ (at-pred .if2 .left) in
+    rw (size, pred, d, sym (c .before .all-within .ensures) ∙ not-true _ (c .if3 .taken))
 
 returns-4 : tie.Need-returns-4
 returns-4 c =
-    λ y e h d. let l : getD (now (c .before .before .before .before .before .before .before .before .before .before .before .before .args .w)) 0 0 ≤ 32 = listed-small (getD (now (c .before .before .before .before .before .before .before .before .before .before .before .before .args .w)) 0 0) (sym (c .before .before .before .before .before .before .before .before .size-ok .ensures) ∙ not-false _ (c .before .before .before .before .before .before .before .if1 .left)) in absurd (omega (arith, c .if4 .taken))
+    let at-size = c .before .before .before .before .before .before .before in
+    let z = getD (now (at-size .before .before .before .before .before .args .w)) 0 0 in
+    λ y e h d.
+    let l : z ≤ 32 = listed-small z (sym (at-size .before .size-ok .ensures) ∙ not-false _ (at-size .if1 .left)) in
+    absurd (omega (arith, c .if4 .taken))
 
 cast-n : tie.Need-cast-n
 cast-n c = search needs
@@ -69,7 +80,14 @@ zero-words-requires c κs = search needs
 returns-5 : tie.Need-returns-5
 unfolding sound-node bucket-link
 returns-5 c =
-    λ y e h d. rw (sym (c .before .before .before .before .before .before .before .before .before .size-ok .ensures) ∙ not-false _ (c .before .before .before .before .before .before .before .before .if1 .left), sym (c .before .before .before .before .before .before .link-ok .ensures y e h) ∙ not-false _ (c .before .before .before .before .before .if2 .left), d, sym (c .before .before .before .all-within .ensures) ∙ not-false _ (c .before .before .if3 .left)) (c .zero-words .ensures)
+    let at-places = c .before .before in
+    let at-pred = at-places .before .before .before in
+    let at-size = at-pred .before .before .before in
+    let size = sym (at-size .before .size-ok .ensures) ∙ not-false _ (at-size .if1 .left) in
+    let places = sym (at-places .before .all-within .ensures) ∙ not-false _ (at-places .if3 .left) in
+    λ y e h d.
+    let pred = sym (at-pred .before .link-ok .ensures y e h) ∙ not-false _ (at-pred .if2 .left) in
+    rw (size, pred, d, places) (c .zero-words .ensures)
 
 pub node-ok-spec : {M : Type 1} → statement M
 node-ok-spec =

@@ -42,14 +42,18 @@ part-node-ok-end c = search needs
 
 node-ok-requires : tie.Need-node-ok-requires Inv-loop μ-loop
 node-ok-requires c κs =
-    rw (rest (now (c .before .before .before .before .args .ns)) (34 * c .before .before .loop .k), length-drop (34 * c .before .before .loop .k) (now (c .before .before .before .before .args .ns))) (omega arith)
+    let w = now (c .before .before .before .before .args .ns) in
+    let at = 34 * c .before .before .loop .k in
+    rw (rest w at, length-drop at w) (omega arith)
 
 returns : tie.Need-returns Inv-loop μ-loop
 returns c =
+    let loop = c .before .before .before .before .loop in
+    let a = c .before .before .before .before .before .before .args in
+    let w = now (a .ns) in
     λ y e h d.
-    let w = now (c .before .before .before .before .before .before .args .ns) in
-    let q = ap (sound-node y) (sym (rest w (34 * c .before .before .before .before .loop .k))) ∙ sym (c .before .node-ok .ensures y e h d) ∙ not-true _ (c .if1 .taken) in
-    sym (c .before .before .before .before .loop .inv .1 y e h d ∙ nodes-no w (c .before .before .before .before .before .before .args .h) (c .before .before .before .before .loop .k) (c .before .before .before .loop-test .taken) y q)
+    let fails = ap (sound-node y) (sym (rest w (34 * loop .k))) ∙ sym (c .before .node-ok .ensures y e h d) ∙ not-true _ (c .if1 .taken) in
+    sym (loop .inv .1 y e h d ∙ nodes-no w (a .h) (loop .k) (c .before .before .before .loop-test .taken) y fails)
 
 add-k : tie.Need-add-k Inv-loop μ-loop
 add-k c = search needs
@@ -58,17 +62,21 @@ loop-less : tie.Need-loop-less Inv-loop μ-loop
 loop-less c = search needs
 
 loop-again : tie.Need-loop-again Inv-loop μ-loop
-loop-again c = (
-  omega arith,
-  λ y e h d.
-      let w = now (c .before .before .before .before .before .before .args .ns) in
-      let q = ap (sound-node y) (sym (rest w (34 * c .before .before .before .before .loop .k))) ∙ sym (c .before .node-ok .ensures y e h d) ∙ not-false _ (c .if1 .left) in
-      c .before .before .before .before .loop .inv .1 y e h d ∙ nodes-on w (c .before .before .before .before .before .before .args .h) (c .before .before .before .before .loop .k) (c .before .before .before .loop-test .taken) y q,
-)
+loop-again c =
+    let loop = c .before .before .before .before .loop in
+    let a = c .before .before .before .before .before .before .args in
+    let w = now (a .ns) in (
+      omega arith,
+      λ y e h d.
+          let holds = ap (sound-node y) (sym (rest w (34 * loop .k))) ∙ sym (c .before .node-ok .ensures y e h d) ∙ not-false _ (c .if1 .left) in
+          loop .inv .1 y e h d ∙ nodes-on w (a .h) (loop .k) (c .before .before .before .loop-test .taken) y holds,
+    )
 
 returns-2 : tie.Need-returns-2 Inv-loop μ-loop
 returns-2 c =
-    λ y e h d. sym (c .before .loop .inv .1 y e h d ∙ nodes-end (drop (34 * c .before .loop .k) (now (c .before .before .before .args .ns))) (c .before .before .before .args .h) (c .before .loop .k) (c .loop-test .left) y)
+    let loop = c .before .loop in
+    let a = c .before .before .before .args in
+    λ y e h d. sym (loop .inv .1 y e h d ∙ nodes-end (drop (34 * loop .k) (now (a .ns))) (a .h) (loop .k) (c .loop-test .left) y)
 
 pub nodes-ok-spec : {M : Type 1} → statement M
 nodes-ok-spec =

@@ -19,7 +19,10 @@ link-ok-requires-2 c κs = search needs
 returns-2 : tie.Need-returns-2
 unfolding every
 returns-2 c =
-    λ y e h. rw (sym (c .before .before .before .link-ok .ensures y e h) ∙ not-false _ (c .before .before .if1 .left), sym (c .before .link-ok2 .ensures y e h) ∙ not-true _ (c .if2 .taken))
+    let at-t = c .before .before in
+    λ y e h.
+    let t = sym (at-t .before .link-ok .ensures y e h) ∙ not-false _ (at-t .if1 .left) in
+    rw (t, sym (c .before .link-ok2 .ensures y e h) ∙ not-true _ (c .if2 .taken))
 
 link-ok-requires-3 : tie.Need-link-ok-requires-3
 link-ok-requires-3 c κs = search needs
@@ -27,12 +30,22 @@ link-ok-requires-3 c κs = search needs
 returns-3 : tie.Need-returns-3
 unfolding every
 returns-3 c =
-    λ y e h. rw (sym (c .before .before .before .before .before .link-ok .ensures y e h) ∙ not-false _ (c .before .before .before .before .if1 .left), sym (c .before .before .before .link-ok2 .ensures y e h) ∙ not-false _ (c .before .before .if2 .left), sym (c .before .link-ok3 .ensures y e h) ∙ not-true _ (c .if3 .taken))
+    let at-s = c .before .before in
+    let at-t = at-s .before .before in
+    λ y e h.
+    let t = sym (at-t .before .link-ok .ensures y e h) ∙ not-false _ (at-t .if1 .left) in
+    let s = sym (at-s .before .link-ok2 .ensures y e h) ∙ not-false _ (at-s .if2 .left) in
+    rw (t, s, sym (c .before .link-ok3 .ensures y e h) ∙ not-true _ (c .if3 .taken))
 
 returns-4 : tie.Need-returns-4
 unfolding every
 returns-4 c =
-    λ y e h. rw (sym (c .before .before .before .before .before .link-ok .ensures y e h) ∙ not-false _ (c .before .before .before .before .if1 .left), sym (c .before .before .before .link-ok2 .ensures y e h) ∙ not-false _ (c .before .before .if2 .left), sym (c .before .link-ok3 .ensures y e h) ∙ not-false _ (c .if3 .left))
+    let at-s = c .before .before in
+    let at-t = at-s .before .before in
+    λ y e h.
+    let t = sym (at-t .before .link-ok .ensures y e h) ∙ not-false _ (at-t .if1 .left) in
+    let s = sym (at-s .before .link-ok2 .ensures y e h) ∙ not-false _ (at-s .if2 .left) in
+    rw (t, s, sym (c .before .link-ok3 .ensures y e h) ∙ not-false _ (c .if3 .left))
 
 pub links-ok-spec : {M : Type 1} → statement M
 links-ok-spec =

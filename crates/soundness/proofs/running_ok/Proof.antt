@@ -12,7 +12,9 @@ use Rattle.soundness.proofs.running_ok.Tie as tie
 returns : tie.Need-returns
 unfolding sound-running bucket-link
 returns c =
-    λ y e t h b. let l : y .state .tasks ≤ c .before .before .args .k = rw t (c .if1 .taken) in rw (le-ltb _ _ l)
+    λ y e t h b.
+    let past-T : y .state .config .tasks ≤ c .before .before .args .k = rw t (c .if1 .taken) in
+    rw (le-ltb _ _ past-T)
 
 line-ok-requires : tie.Need-line-ok-requires
 line-ok-requires c κs = search needs
@@ -20,12 +22,20 @@ line-ok-requires c κs = search needs
 returns-2 : tie.Need-returns-2
 unfolding sound-running bucket-link
 returns-2 c =
-    λ y e t h b. let l : c .before .before .before .before .args .k < y .state .tasks = rw t (c .before .before .if1 .left) in rw (lt-ltb _ _ l, sym (c .before .line-ok .ensures) ∙ not-true _ (c .if2 .taken))
+    let at-T = c .before .before in
+    λ y e t h b.
+    let below-T : at-T .before .before .args .k < y .state .config .tasks = rw t (at-T .if1 .left) in
+    rw (lt-ltb _ _ below-T, sym (c .before .line-ok .ensures) ∙ not-true _ (c .if2 .taken))
 
 returns-3 : tie.Need-returns-3
 unfolding sound-running bucket-link
 returns-3 c =
-    λ y e t h b. let l : c .before .before .before .before .before .before .args .k < y .state .tasks = rw t (c .before .before .before .before .if1 .left) in rw (lt-ltb _ _ l, sym (c .before .before .before .line-ok .ensures) ∙ not-false _ (c .before .before .if2 .left), lt-leb _ _ (c .if3 .taken))
+    let at-line = c .before .before in
+    let at-T = at-line .before .before in
+    λ y e t h b.
+    let below-T : at-T .before .before .args .k < y .state .config .tasks = rw t (at-T .if1 .left) in
+    let line = sym (at-line .before .line-ok .ensures) ∙ not-false _ (at-line .if2 .left) in
+    rw (lt-ltb _ _ below-T, line, lt-leb _ _ (c .if3 .taken))
 
 tag-ok-requires : tie.Need-tag-ok-requires
 tag-ok-requires c κs = search needs
@@ -33,7 +43,13 @@ tag-ok-requires c κs = search needs
 returns-4 : tie.Need-returns-4
 unfolding sound-running bucket-link
 returns-4 c =
-    λ y e t h b. let l : c .before .before .before .before .before .before .before .before .args .k < y .state .tasks = rw t (c .before .before .before .before .before .before .if1 .left) in rw (lt-ltb _ _ l, sym (c .before .before .before .before .before .line-ok .ensures) ∙ not-false _ (c .before .before .before .before .if2 .left), le-leb _ _ (c .before .before .if3 .left), sym (c .before .tag-ok .ensures) ∙ not-true _ (c .if4 .taken))
+    let at-i = c .before .before in
+    let at-line = at-i .before .before in
+    let at-T = at-line .before .before in
+    λ y e t h b.
+    let below-T : at-T .before .before .args .k < y .state .config .tasks = rw t (at-T .if1 .left) in
+    let line = sym (at-line .before .line-ok .ensures) ∙ not-false _ (at-line .if2 .left) in
+    rw (lt-ltb _ _ below-T, line, le-leb _ _ (at-i .if3 .left), sym (c .before .tag-ok .ensures) ∙ not-true _ (c .if4 .taken))
 
 links-ok-requires : tie.Need-links-ok-requires
 links-ok-requires c κs = search needs
@@ -41,7 +57,15 @@ links-ok-requires c κs = search needs
 returns-5 : tie.Need-returns-5
 unfolding sound-running bucket-link
 returns-5 c =
-    λ y e t h b. let l : c .before .before .before .before .before .before .before .before .before .before .args .k < y .state .tasks = rw t (c .before .before .before .before .before .before .before .before .if1 .left) in rw (lt-ltb _ _ l, sym (c .before .before .before .before .before .before .before .line-ok .ensures) ∙ not-false _ (c .before .before .before .before .before .before .if2 .left), le-leb _ _ (c .before .before .before .before .if3 .left), sym (c .before .before .before .tag-ok .ensures) ∙ not-false _ (c .before .before .if4 .left), sym (c .before .links-ok .ensures y e h) ∙ not-true _ (c .if5 .taken))
+    let at-tag = c .before .before in
+    let at-i = at-tag .before .before in
+    let at-line = at-i .before .before in
+    let at-T = at-line .before .before in
+    λ y e t h b.
+    let below-T : at-T .before .before .args .k < y .state .config .tasks = rw t (at-T .if1 .left) in
+    let line = sym (at-line .before .line-ok .ensures) ∙ not-false _ (at-line .if2 .left) in
+    let tag = sym (at-tag .before .tag-ok .ensures) ∙ not-false _ (at-tag .if4 .left) in
+    rw (lt-ltb _ _ below-T, line, le-leb _ _ (at-i .if3 .left), tag, sym (c .before .links-ok .ensures y e h) ∙ not-true _ (c .if5 .taken))
 
 slice-aggregate-all-within : tie.Need-slice-aggregate-all-within
 slice-aggregate-all-within c = search needs
@@ -52,7 +76,17 @@ all-within-requires c κs = search needs
 returns-6 : tie.Need-returns-6
 unfolding sound-running bucket-link
 returns-6 c =
-    λ y e t h b. let l : c .before .before .before .before .before .before .before .before .before .before .before .before .args .k < y .state .tasks = rw t (c .before .before .before .before .before .before .before .before .before .before .if1 .left) in rw (lt-ltb _ _ l, sym (c .before .before .before .before .before .before .before .before .before .line-ok .ensures) ∙ not-false _ (c .before .before .before .before .before .before .before .before .if2 .left), le-leb _ _ (c .before .before .before .before .before .before .if3 .left), sym (c .before .before .before .before .before .tag-ok .ensures) ∙ not-false _ (c .before .before .before .before .if4 .left), sym (c .before .before .before .links-ok .ensures y e h) ∙ not-false _ (c .before .before .if5 .left), b) (c .all-within .ensures)
+    let at-links = c .before .before in
+    let at-tag = at-links .before .before in
+    let at-i = at-tag .before .before in
+    let at-line = at-i .before .before in
+    let at-T = at-line .before .before in
+    λ y e t h b.
+    let below-T : at-T .before .before .args .k < y .state .config .tasks = rw t (at-T .if1 .left) in
+    let line = sym (at-line .before .line-ok .ensures) ∙ not-false _ (at-line .if2 .left) in
+    let tag = sym (at-tag .before .tag-ok .ensures) ∙ not-false _ (at-tag .if4 .left) in
+    let links = sym (at-links .before .links-ok .ensures y e h) ∙ not-false _ (at-links .if5 .left) in
+    rw (lt-ltb _ _ below-T, line, le-leb _ _ (at-i .if3 .left), tag, links, b) (c .all-within .ensures)
 
 pub running-ok-spec : {M : Type 1} → statement M
 running-ok-spec =

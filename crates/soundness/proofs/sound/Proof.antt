@@ -27,26 +27,33 @@ nodes-ok-requires c κs =
 returns-2 : tie.Need-returns-2
 unfolding sound
 returns-2 c =
-    let a = c .before .before .before .before .before .before .args in
+    let at-if1 = c .before .before in
+    let a = at-if1 .before .before .before .before .args in
     let Y : Machine = machine-of (a .s) (now (a .ns)) (now (a .bs)) in
-    rw (sym (c .before .before .before .numbers-ok .ensures) ∙ not-false _ (c .before .before .if1 .left), sym (c .before .nodes-ok .ensures Y refl refl refl) ∙ not-true _ (c .if2 .taken))
+    let numbers-sound = sym (at-if1 .before .numbers-ok .ensures) ∙ not-false _ (at-if1 .if1 .left) in
+    rw (numbers-sound, sym (c .before .nodes-ok .ensures Y refl refl refl) ∙ not-true _ (c .if2 .taken))
 
 cast-buckets-ok : tie.Need-cast-buckets-ok
 cast-buckets-ok c = search needs
 
 buckets-ok-requires : tie.Need-buckets-ok-requires
 buckets-ok-requires c κs =
-    let a = c .before .before .before .before .before .before .args in
+    let at-if1 = c .before .before in
+    let a = at-if1 .before .before .before .before .args in
     let Y : Machine = machine-of (a .s) (now (a .ns)) (now (a .bs)) in
-    let n = numbers Y (sym (c .before .before .before .numbers-ok .ensures) ∙ not-false _ (c .before .before .if1 .left)) in
+    let n = numbers Y (sym (at-if1 .before .numbers-ok .ensures) ∙ not-false _ (at-if1 .if1 .left)) in
     omega arith
 
 returns-3 : tie.Need-returns-3
 unfolding sound
 returns-3 c =
-    let a = c .before .before .before .before .before .before .before .before .args in
+    let at-if2 = c .before .before in
+    let at-if1 = at-if2 .before .before in
+    let a = at-if1 .before .before .before .before .args in
     let Y : Machine = machine-of (a .s) (now (a .ns)) (now (a .bs)) in
-    rw (sym (c .before .before .before .before .before .numbers-ok .ensures) ∙ not-false _ (c .before .before .before .before .if1 .left), sym (c .before .before .before .nodes-ok .ensures Y refl refl refl) ∙ not-false _ (c .before .before .if2 .left), sym (c .before .buckets-ok .ensures) ∙ not-true _ (c .if3 .taken))
+    let numbers-sound = sym (at-if1 .before .numbers-ok .ensures) ∙ not-false _ (at-if1 .if1 .left) in
+    let nodes-sound = sym (at-if2 .before .nodes-ok .ensures Y refl refl refl) ∙ not-false _ (at-if2 .if2 .left) in
+    rw (numbers-sound, nodes-sound, sym (c .before .buckets-ok .ensures) ∙ not-true _ (c .if3 .taken))
 
 tasks-ok-requires : tie.Need-tasks-ok-requires
 tasks-ok-requires c κs = search needs
@@ -54,9 +61,15 @@ tasks-ok-requires c κs = search needs
 returns-4 : tie.Need-returns-4
 unfolding sound
 returns-4 c =
-    let a = c .before .before .before .before .before .before .before .before .before .args in
+    let at-if3 = c .before in
+    let at-if2 = at-if3 .before .before in
+    let at-if1 = at-if2 .before .before in
+    let a = at-if1 .before .before .before .before .args in
     let Y : Machine = machine-of (a .s) (now (a .ns)) (now (a .bs)) in
-    rw (sym (c .before .before .before .before .before .before .numbers-ok .ensures) ∙ not-false _ (c .before .before .before .before .before .if1 .left), sym (c .before .before .before .before .nodes-ok .ensures Y refl refl refl) ∙ not-false _ (c .before .before .before .if2 .left), sym (c .before .before .buckets-ok .ensures) ∙ not-false _ (c .before .if3 .left)) (c .tasks-ok .ensures Y refl refl)
+    let numbers-sound = sym (at-if1 .before .numbers-ok .ensures) ∙ not-false _ (at-if1 .if1 .left) in
+    let nodes-sound = sym (at-if2 .before .nodes-ok .ensures Y refl refl refl) ∙ not-false _ (at-if2 .if2 .left) in
+    let buckets-sound = sym (at-if3 .before .buckets-ok .ensures) ∙ not-false _ (at-if3 .if3 .left) in
+    rw (numbers-sound, nodes-sound, buckets-sound) (c .tasks-ok .ensures Y refl refl)
 
 pub sound-spec : {M : Type 1} → statement M
 sound-spec =

@@ -10,14 +10,16 @@ running-ok-requires c κs = search needs
 
 returns : tie.Need-returns
 returns c =
-    λ y e t h b. c .running-ok .ensures y e t h b ∙ sym (task-runs y (c .before .before .before .args .k) (c .before .before .before .args .c) (c .before .if1 .taken))
+    let a = c .before .before .before .args in
+    λ y e t h b. c .running-ok .ensures y e t h b ∙ sym (task-runs y (a .k) (a .c) (c .before .if1 .taken))
 
 idle-ok-requires : tie.Need-idle-ok-requires
 idle-ok-requires c κs = search needs
 
 returns-2 : tie.Need-returns-2
 returns-2 c =
-    λ y e t h b. c .idle-ok .ensures ∙ sym (task-idle y (c .before .before .before .args .k) (c .before .before .before .args .c) (c .before .if1 .left))
+    let a = c .before .before .before .args in
+    λ y e t h b. c .idle-ok .ensures ∙ sym (task-idle y (a .k) (a .c) (c .before .if1 .left))
 
 pub task-ok-spec : {M : Type 1} → statement M
 task-ok-spec = tie.close (tie.spec running-ok-requires returns idle-ok-requires returns-2)

@@ -16,7 +16,9 @@ use Rattle.soundness.proofs.tasks_ok.Tie as tie
 
 abbrev Inv-loop : tie.InvT-loop
 Inv-loop ns ts t h b k₀ k =
-    (k ≤ 8) × ((y : Machine) → y .nodes ≡ ns → y .state .tasks ≡ t → y .state .nodes ≡ h → y .state .buckets ≡ b → sound-tasks y 0 ts ≡ sound-tasks y k (drop k ts))
+    (k ≤ 8) ×
+    ((y : Machine) → y .nodes ≡ ns → y .state .config .tasks ≡ t → y .state .nodes ≡ h → y .state .buckets ≡ b
+    → sound-tasks y 0 ts ≡ sound-tasks y k (drop k ts))
 
 abbrev μ-loop : tie.MeasureT-loop
 μ-loop ns ts t h b k₀ k = 8 - k
@@ -39,9 +41,23 @@ cast-task-ok c = search needs
 task-ok-requires : tie.Need-task-ok-requires Inv-loop μ-loop
 task-ok-requires c κs = search needs
 
+-- what the records' tests ask of the machine, for one with this state
+tasks-of : {r s : State} → r ≡ s → r .config .tasks ≡ s .config .tasks
+tasks-of e = ap (λ (z : State). z .config .tasks) e
+
+nodes-of : {r s : State} → r ≡ s → r .nodes ≡ s .nodes
+nodes-of e = ap (λ (z : State). z .nodes) e
+
+buckets-of : {r s : State} → r ≡ s → r .buckets ≡ s .buckets
+buckets-of e = ap (λ (z : State). z .buckets) e
+
 returns : tie.Need-returns Inv-loop μ-loop
 returns c =
-    λ y e s. sym (c .before .before .before .before .loop .inv .1 y e (ap (λ (z : State). z .tasks) s) (ap (λ (z : State). z .nodes) s) (ap (λ (z : State). z .buckets) s) ∙ tasks-no y (c .before .before .before .before .before .before .before .args .s .task) (c .before .before .before .before .loop .k) _ (omega (arith, len (c .before .before .before .before .before .before .before))) (sym (c .before .task-ok .ensures y e (ap (λ (z : State). z .tasks) s) (ap (λ (z : State). z .nodes) s) (ap (λ (z : State). z .buckets) s)) ∙ not-true _ (c .if1 .taken)))
+    let loop = c .before .before .before .before .loop in
+    let first = c .before .before .before .before .before .before .before in
+    λ y e s.
+    let fails = sym (c .before .task-ok .ensures y e (tasks-of s) (nodes-of s) (buckets-of s)) ∙ not-true _ (c .if1 .taken) in
+    sym (loop .inv .1 y e (tasks-of s) (nodes-of s) (buckets-of s) ∙ tasks-no y (first .args .s .task) (loop .k) _ (omega (arith, len first)) fails)
 
 add-k : tie.Need-add-k Inv-loop μ-loop
 add-k c = search needs
@@ -51,11 +67,19 @@ loop-less c = search needs
 
 loop-again : tie.Need-loop-again Inv-loop μ-loop
 loop-again c =
-    (omega arith, λ y e t h b. c .before .before .before .before .loop .inv .1 y e t h b ∙ tasks-on y (c .before .before .before .before .before .before .before .args .s .task) (c .before .before .before .before .loop .k) _ (omega (arith, len (c .before .before .before .before .before .before .before))) (sym (c .before .task-ok .ensures y e t h b) ∙ not-false _ (c .if1 .left)))
+    let loop = c .before .before .before .before .loop in
+    let first = c .before .before .before .before .before .before .before in (
+      omega arith,
+      λ y e t h b.
+          let holds = sym (c .before .task-ok .ensures y e t h b) ∙ not-false _ (c .if1 .left) in
+          loop .inv .1 y e t h b ∙ tasks-on y (first .args .s .task) (loop .k) _ (omega (arith, len first)) holds,
+    )
 
 returns-2 : tie.Need-returns-2 Inv-loop μ-loop
 returns-2 c =
-    λ y e s. sym (c .before .loop .inv .1 y e (ap (λ (z : State). z .tasks) s) (ap (λ (z : State). z .nodes) s) (ap (λ (z : State). z .buckets) s) ∙ tasks-end y (c .before .before .before .before .args .s .task) (c .before .loop .k) (omega (arith, len (c .before .before .before .before))))
+    let loop = c .before .loop in
+    let first = c .before .before .before .before in
+    λ y e s. sym (loop .inv .1 y e (tasks-of s) (nodes-of s) (buckets-of s) ∙ tasks-end y (first .args .s .task) (loop .k) (omega (arith, len first)))
 
 pub tasks-ok-spec : {M : Type 1} → statement M
 tasks-ok-spec =

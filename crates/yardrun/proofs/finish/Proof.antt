@@ -18,19 +18,28 @@ end-stream-requires c κs = search needs
 
 array-share-prefix-out : tie.Need-array-share-prefix-out
 array-share-prefix-out c =
-    let at-output-room = c .before .before .before in
-    let e = c .before .end-stream in
-    omega (arith, append-within _ _ _ _ (e .ensures), e .kept .1 .1 .1 .1 .0, at-output-room .output-room .ensures)
+    let at-end-stream = c .before .before .before .before .before in
+    let at-output-room = at-end-stream .before .before .before .before in
+    let e = at-end-stream .end-stream in
+    omega (arith, append-within _ _ _ _ (e .ensures .wrote), e .kept .1 .1 .1 .1 .0, at-output-room .output-room .ensures)
 
 slice-aggregate-write-all : tie.Need-slice-aggregate-write-all
 slice-aggregate-write-all c =
-    let at-output-room = c .before .before .before .before in
-    let e = c .before .before .end-stream in
+    let at-end-stream = c .before .before .before .before .before .before in
+    let at-output-room = at-end-stream .before .before .before .before in
+    let e = at-end-stream .end-stream in
+    let within = append-within _ _ _ _ (e .ensures .wrote) in
     sym
-    (length-take-le (e .result) (e .last .1 .1 .1 .1 .0) (omega (arith, append-within _ _ _ _ (e .ensures), e .kept .1 .1 .1 .1 .0, at-output-room .output-room .ensures)))
+    (length-take-le (e .result) (e .last .1 .1 .1 .1 .0) (omega (arith, within, e .kept .1 .1 .1 .1 .0, at-output-room .output-room .ensures)))
 
 write-all-requires : tie.Need-write-all-requires
 write-all-requires c κs = search needs
+
+same-length : tie.Need-same-length
+same-length c = search needs
+
+same-length-2 : tie.Need-same-length-2
+same-length-2 c = search needs
 
 returns : tie.Need-returns
 returns c = search needs
@@ -45,4 +54,6 @@ finish-spec =
     array-share-prefix-out
     slice-aggregate-write-all
     write-all-requires
+    same-length
+    same-length-2
     returns)

@@ -52,8 +52,9 @@ slice-aggregate-write-all c =
     let at-feed-bytes = c .before .before .before .before .before .before .before .before in
     let at-output-room = at-feed-bytes .before .before .before .before .before in
     let f = at-feed-bytes .feed-bytes in
-    sym
-    (length-take-le (f .result .printed) (f .last .1 .1 .1 .1 .1 .0) (omega (arith, append-within _ _ _ _ (f .ensures .wrote), f .kept .1 .1 .1 .1 .1 .0, at-output-room .output-room .ensures)))
+    let within = append-within _ _ _ _ (f .ensures .wrote) in
+    let room = at-output-room .output-room .ensures in
+    sym (length-take-le (f .result .printed) (f .last .1 .1 .1 .1 .1 .0) (omega (arith, within, f .kept .1 .1 .1 .1 .1 .0, room)))
 
 write-all-requires : tie.Need-write-all-requires
 write-all-requires c κs = search needs

@@ -32,7 +32,9 @@ stands-at-requires c κs = search needs
 returns-2 : tie.Need-returns-2
 unfolding added
 returns-2 c =
-    let f : found (c .before .before .before .before .before .args .tag) (tags-in (c .before .before .before .before .before .args .t1 .words)) ≡ true = found-at _ _ _ _ (c .before .before .position .ensures) (c .before .stands-at .ensures) ∙ c .if2 .taken in
+    let a = c .before .before .before .before .before .args in
+    let f : found (a .tag) (tags-in (a .t1 .words)) ≡ true =
+    found-at _ _ _ _ (c .before .before .position .ensures) (c .before .stands-at .ensures) ∙ c .if2 .taken in
     rw (ne-eqb _ _ (c .before .before .before .if1 .left), f)
 
 count-requires : tie.Need-count-requires
@@ -41,20 +43,32 @@ count-requires c κs = search needs
 returns-3 : tie.Need-returns-3
 unfolding added
 returns-3 c =
-    let f : found (c .before .before .before .before .before .before .before .args .tag) (tags-in (c .before .before .before .before .before .before .before .args .t1 .words)) ≡ false = found-at _ _ _ _ (c .before .before .before .before .position .ensures) (c .before .before .before .stands-at .ensures) ∙ c .before .before .if2 .left in
-    rw (ne-eqb _ _ (c .before .before .before .before .before .if1 .left), f, le-leb 64 _ (rw (c .before .count .ensures .0) at (c .if3 .taken)))
+    let at-position = c .before .before .before .before in
+    let at-if1 = at-position .before in
+    let a = at-if1 .before .before .args in
+    let f : found (a .tag) (tags-in (a .t1 .words)) ≡ false =
+    found-at _ _ _ _ (at-position .position .ensures) (c .before .before .before .stands-at .ensures) ∙ c .before .before .if2 .left in
+    rw (ne-eqb _ _ (at-if1 .if1 .left), f, le-leb 64 _ (rw (c .before .count .ensures .0) at (c .if3 .taken)))
 
 put-requires : tie.Need-put-requires
 put-requires c κs =
-    let f : found (c .before .before .before .before .before .before .before .args .tag) (tags-in (c .before .before .before .before .before .before .before .args .t1 .words)) ≡ false = found-at _ _ _ _ (c .before .before .before .before .position .ensures) (c .before .before .before .stands-at .ensures) ∙ c .before .before .if2 .left in
-    let r = rank-le (c .before .before .before .before .before .before .before .args .tag) (tags-in (c .before .before .before .before .before .before .before .args .t1 .words)) in
-    (omega arith, omega arith, omega arith, c .before .before .before .before .position .ensures, f)
+    let at-position = c .before .before .before .before in
+    let a = at-position .before .before .before .args in
+    let f : found (a .tag) (tags-in (a .t1 .words)) ≡ false =
+    found-at _ _ _ _ (at-position .position .ensures) (c .before .before .before .stands-at .ensures) ∙ c .before .before .if2 .left in
+    let r = rank-le (a .tag) (tags-in (a .t1 .words)) in
+    (omega arith, omega arith, omega arith, at-position .position .ensures, f)
 
 returns-4 : tie.Need-returns-4
 unfolding added
 returns-4 c =
-    let f : found (c .before .before .before .before .before .before .before .before .args .tag) (tags-in (c .before .before .before .before .before .before .before .before .args .t1 .words)) ≡ false = found-at _ _ _ _ (c .before .before .before .before .before .position .ensures) (c .before .before .before .before .stands-at .ensures) ∙ c .before .before .before .if2 .left in
-    rw (ne-eqb _ _ (c .before .before .before .before .before .before .if1 .left), f, lt-leb 64 _ (rw (c .before .before .count .ensures .0) at (c .before .if3 .left))) (ap yes (c .put .ensures))
+    let at-stands-at = c .before .before .before .before in
+    let at-position = at-stands-at .before in
+    let at-if1 = at-position .before in
+    let a = at-if1 .before .before .args in
+    let f : found (a .tag) (tags-in (a .t1 .words)) ≡ false =
+    found-at _ _ _ _ (at-position .position .ensures) (at-stands-at .stands-at .ensures) ∙ c .before .before .before .if2 .left in
+    rw (ne-eqb _ _ (at-if1 .if1 .left), f, lt-leb 64 _ (rw (c .before .before .count .ensures .0) at (c .before .if3 .left))) (ap yes (c .put .ensures))
 
 pub add-spec : {M : Type 1} → statement M
 add-spec =

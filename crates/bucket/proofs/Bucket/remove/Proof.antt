@@ -34,20 +34,28 @@ count-requires c κs = search needs
 
 cut-requires : tie.Need-cut-requires
 cut-requires c κs =
-    let f : found (c .before .before .before .before .before .before .args .tag) (tags-in (c .before .before .before .before .before .before .args .t1 .words)) ≡ true = found-at _ _ _ _ (c .before .before .before .position .ensures) (c .before .before .stands-at .ensures) ∙ c .before .if2 .taken in
-    let r = rank-below (c .before .before .before .before .before .before .args .tag) (tags-in (c .before .before .before .before .before .before .args .t1 .words)) f in
+    let a = c .before .before .before .before .before .before .args in
+    let f : found (a .tag) (tags-in (a .t1 .words)) ≡ true =
+    found-at _ _ _ _ (c .before .before .before .position .ensures) (c .before .before .stands-at .ensures) ∙ c .before .if2 .taken in
+    let r = rank-below (a .tag) (tags-in (a .t1 .words)) f in
     (omega arith, omega arith, omega arith, c .before .before .before .position .ensures, f)
 
 returns-2 : tie.Need-returns-2
 unfolding removed
 returns-2 c =
-    let f : found (c .before .before .before .before .before .before .before .args .tag) (tags-in (c .before .before .before .before .before .before .before .args .t1 .words)) ≡ true = found-at _ _ _ _ (c .before .before .before .before .position .ensures) (c .before .before .before .stands-at .ensures) ∙ c .before .before .if2 .taken in
-    rw (ne-eqb _ _ (c .before .before .before .before .before .if1 .left), f) (ap yes (c .cut .ensures))
+    let at-position = c .before .before .before .before in
+    let at-if1 = at-position .before in
+    let a = at-if1 .before .before .args in
+    let f : found (a .tag) (tags-in (a .t1 .words)) ≡ true =
+    found-at _ _ _ _ (at-position .position .ensures) (c .before .before .before .stands-at .ensures) ∙ c .before .before .if2 .taken in
+    rw (ne-eqb _ _ (at-if1 .if1 .left), f) (ap yes (c .cut .ensures))
 
 returns-3 : tie.Need-returns-3
 unfolding removed
 returns-3 c =
-    let f : found (c .before .before .before .before .before .args .tag) (tags-in (c .before .before .before .before .before .args .t1 .words)) ≡ false = found-at _ _ _ _ (c .before .before .position .ensures) (c .before .stands-at .ensures) ∙ c .if2 .left in
+    let a = c .before .before .before .before .before .args in
+    let f : found (a .tag) (tags-in (a .t1 .words)) ≡ false =
+    found-at _ _ _ _ (c .before .before .position .ensures) (c .before .stands-at .ensures) ∙ c .if2 .left in
     rw (ne-eqb _ _ (c .before .before .before .if1 .left), f)
 
 pub remove-spec : {M : Type 1} → statement M

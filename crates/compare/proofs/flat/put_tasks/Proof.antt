@@ -1,25 +1,28 @@
 -- `compare::flat::put_tasks` is safe and ends: counters stay within their bounds, and lent slices keep their lengths. Assumes nothing.
 use Prim.Native.Nat.{_≤_, _-_}
-use borrow.Author.Needs.{needs}
-use mathlib.Core.Path.{_≡_}
-use lib.ListN.{length}
 use Rattle.compare.proofs.flat.put_tasks.Statement.{statement}
 use Rattle.compare.proofs.flat.put_tasks.Tie as tie
+use borrow.Author.Needs.{needs}
+use lib.ListN.{length}
+use mathlib.Core.Path.{_≡_}
 
 abbrev Inv-loop : tie.InvT-loop
-Inv-loop w₀ ts k₀ w k = (k ≤ 8) × (length w ≡ length w₀)
+Inv-loop m₀ ts k₀ m k = (k ≤ 8) × (length m ≡ length m₀)
 
 abbrev μ-loop : tie.MeasureT-loop
-μ-loop w₀ ts k₀ w k = 8 - k
+μ-loop m₀ ts k₀ m k = 8 - k
 
 loop-holds : tie.Need-loop-holds Inv-loop μ-loop
 loop-holds c = search needs
 
+add-put-task : tie.Need-add-put-task Inv-loop μ-loop
+add-put-task c = search needs
+
 mul-put-task : tie.Need-mul-put-task Inv-loop μ-loop
 mul-put-task c = search needs
 
-add-put-task : tie.Need-add-put-task Inv-loop μ-loop
-add-put-task c = search needs
+add-put-task-2 : tie.Need-add-put-task-2 Inv-loop μ-loop
+add-put-task-2 c = search needs
 
 mul-put-task-2 : tie.Need-mul-put-task-2 Inv-loop μ-loop
 mul-put-task-2 c = search needs
@@ -52,8 +55,9 @@ put-tasks-spec =
     Inv-loop
     μ-loop
     loop-holds
-    mul-put-task
     add-put-task
+    mul-put-task
+    add-put-task-2
     mul-put-task-2
     array-copy-out-put-task
     put-task-requires

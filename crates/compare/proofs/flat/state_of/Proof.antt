@@ -1,14 +1,16 @@
 -- `compare::flat::state_of` is safe and ends: counters stay within their bounds, and lent slices keep their lengths. Assumes nothing.
 use Prim.Native.Nat.{_≤_, _-_}
-use borrow.Author.Needs.{needs}
 use Rattle.compare.proofs.flat.state_of.Statement.{statement}
 use Rattle.compare.proofs.flat.state_of.Tie as tie
+use borrow.Author.Needs.{needs}
+use lib.ListN.{length}
+use mathlib.Core.Path.{_≡_}
 
 abbrev Inv-loop : tie.InvT-loop
-Inv-loop w ts₀ k₀ ts k = (k ≤ 8)
+Inv-loop m ts₀ k₀ ts k = (k ≤ 8) × (8 ≡ length ts)
 
 abbrev μ-loop : tie.MeasureT-loop
-μ-loop w ts₀ k₀ ts k = 8 - k
+μ-loop m ts₀ k₀ ts k = 8 - k
 
 task-at-requires : tie.Need-task-at-requires Inv-loop μ-loop
 task-at-requires c κs = search needs
@@ -37,6 +39,9 @@ loop-less c = search needs
 loop-again : tie.Need-loop-again Inv-loop μ-loop
 loop-again c = search needs
 
+config-of-requires : tie.Need-config-of-requires Inv-loop μ-loop
+config-of-requires c κs = search needs
+
 get-requires : tie.Need-get-requires Inv-loop μ-loop
 get-requires c κs = search needs
 
@@ -51,9 +56,6 @@ get-requires-4 c κs = search needs
 
 get-requires-5 : tie.Need-get-requires-5 Inv-loop μ-loop
 get-requires-5 c κs = search needs
-
-get-requires-6 : tie.Need-get-requires-6 Inv-loop μ-loop
-get-requires-6 c κs = search needs
 
 returns : tie.Need-returns Inv-loop μ-loop
 returns c = search needs
@@ -73,10 +75,10 @@ state-of-spec =
     add-k
     loop-less
     loop-again
+    config-of-requires
     get-requires
     get-requires-2
     get-requires-3
     get-requires-4
     get-requires-5
-    get-requires-6
     returns)

@@ -1,14 +1,17 @@
 -- `compare::report::row` is safe and ends: counters stay within their bounds, and lent slices keep their lengths. Assumes nothing.
 use Prim.Native.Nat.{_≤_, _-_}
-use borrow.Author.Needs.{needs}
 use Rattle.compare.proofs.report.row.Statement.{statement}
 use Rattle.compare.proofs.report.row.Tie as tie
+use borrow.Author.Needs.{needs}
 
 abbrev Inv-loop : tie.InvT-loop
-Inv-loop name c a n i₀ t6 i = (i ≤ n)
+Inv-loop name m a first i₀ i = (i ≤ 64)
 
 abbrev μ-loop : tie.MeasureT-loop
-μ-loop name c a n i₀ t6 i = n - i
+μ-loop name m a first i₀ i = 64 - i
+
+add-first : tie.Need-add-first Inv-loop μ-loop
+add-first c = search needs
 
 text-requires : tie.Need-text-requires Inv-loop μ-loop
 text-requires c κs = search needs
@@ -37,12 +40,6 @@ loop-less c = search needs
 loop-again : tie.Need-loop-again Inv-loop μ-loop
 loop-again c = search needs
 
-slice-aggregate-text : tie.Need-slice-aggregate-text Inv-loop μ-loop
-slice-aggregate-text c = search needs
-
-text-requires-2 : tie.Need-text-requires-2 Inv-loop μ-loop
-text-requires-2 c κs = search needs
-
 returns : tie.Need-returns Inv-loop μ-loop
 returns c = search needs
 
@@ -52,6 +49,7 @@ row-spec =
     (tie.spec
     Inv-loop
     μ-loop
+    add-first
     text-requires
     loop-holds
     cast-get
@@ -61,6 +59,4 @@ row-spec =
     add-i
     loop-less
     loop-again
-    slice-aggregate-text
-    text-requires-2
     returns)

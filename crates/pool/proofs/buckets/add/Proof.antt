@@ -24,8 +24,11 @@ same-length c = search needs
 
 returns : tie.Need-returns
 returns c =
+    let at-add = c .before .before .before .before .before in
+    let at-front = at-add .before in
     let a = c .before .before .before .before .before .before .before .before .before .args in
-    let e : c .before .before .before .before .before .add .result ≡ added (front-of (now (a .part))) (a .tag) = c .before .before .before .before .before .add .ensures ∙ ap (λ (b : Bucket). added b (a .tag)) (c .before .before .before .before .before .before .front .ensures) in
+    let e : at-add .add .result ≡ added (front-of (now (a .part))) (a .tag) =
+    at-add .add .ensures ∙ ap (λ (b : Bucket). added b (a .tag)) (at-front .front .ensures) in
     (ap (λ (d : Changed). d .answer) e, c .before .before .store .ensures ∙ ap (λ (d : Changed). overwrite (now (a .part)) 0 (d .bucket .words)) e)
 
 pub add-spec : {M : Type 1} → statement M

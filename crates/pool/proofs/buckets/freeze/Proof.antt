@@ -22,7 +22,10 @@ same-length c = search needs
 
 returns : tie.Need-returns
 returns c =
-    c .before .before .store .ensures ∙ ap (λ (b : Bucket). overwrite (now (c .before .before .before .before .before .before .before .before .args .part)) 0 (b .words)) (c .before .before .before .freeze .ensures ∙ ap frozen-of (c .before .before .before .before .before .front .ensures))
+    let at-front = c .before .before .before .before .before in
+    let a = at-front .before .before .before .args in
+    let frozen = c .before .before .before .freeze .ensures ∙ ap frozen-of (at-front .front .ensures) in
+    c .before .before .store .ensures ∙ ap (λ (b : Bucket). overwrite (now (a .part)) 0 (b .words)) frozen
 
 pub freeze-spec : {M : Type 1} → statement M
 freeze-spec =

@@ -35,9 +35,10 @@ front-requires c κs =
 
 returns-2 : tie.Need-returns-2
 returns-2 c =
-    let p = now (c .before .before .before .before .args .pool) in
+    let a = c .before .before .before .before .args in
+    let p = now (a .pool) in
     let i = c .before .before .if1 .left in
-    c .front .ensures ∙ ap front-of (rest p (66 * c .before .before .before .before .args .k)) ∙ sym (bucket-here p (c .before .before .before .before .args .k) (omega arith))
+    c .front .ensures ∙ ap front-of (rest p (66 * a .k)) ∙ sym (bucket-here p (a .k) (omega arith))
 
 pub load-spec : {M : Type 1} → statement M
 load-spec =

@@ -24,8 +24,11 @@ same-length c = search needs
 
 returns : tie.Need-returns
 returns c =
+    let at-remove = c .before .before .before .before .before in
+    let at-front = at-remove .before in
     let a = c .before .before .before .before .before .before .before .before .before .args in
-    let e : c .before .before .before .before .before .remove .result ≡ removed (front-of (now (a .part))) (a .tag) = c .before .before .before .before .before .remove .ensures ∙ ap (λ (b : Bucket). removed b (a .tag)) (c .before .before .before .before .before .before .front .ensures) in
+    let e : at-remove .remove .result ≡ removed (front-of (now (a .part))) (a .tag) =
+    at-remove .remove .ensures ∙ ap (λ (b : Bucket). removed b (a .tag)) (at-front .front .ensures) in
     (ap (λ (d : Changed). d .answer) e, c .before .before .store .ensures ∙ ap (λ (d : Changed). overwrite (now (a .part)) 0 (d .bucket .words)) e)
 
 pub remove-spec : {M : Type 1} → statement M

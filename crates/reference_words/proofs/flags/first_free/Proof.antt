@@ -1,38 +1,38 @@
 -- `reference_words::flags::first_free` is safe and ends: counters stay within their bounds, and lent slices keep their lengths. Assumes nothing.
 use Prim.Native.Nat.{_≤_, _-_}
-use borrow.Author.Needs.{needs}
 use Rattle.reference_words.proofs.flags.first_free.Statement.{statement}
 use Rattle.reference_words.proofs.flags.first_free.Tie as tie
+use borrow.Author.Needs.{needs}
 
 abbrev Inv-loop : tie.InvT-loop
-Inv-loop line state nodes count last held k₀ tried₀ k tried = (tried ≤ count)
+Inv-loop w flags count last from k₀ tried₀ k tried = (tried ≤ count)
 
 abbrev μ-loop : tie.MeasureT-loop
-μ-loop line state nodes count last held k₀ tried₀ k tried = count - tried
-
-first-flags-requires : tie.Need-first-flags-requires Inv-loop μ-loop
-first-flags-requires c κs = search needs
-
-get-requires : tie.Need-get-requires Inv-loop μ-loop
-get-requires c κs = search needs
-
-spread-requires : tie.Need-spread-requires Inv-loop μ-loop
-spread-requires c κs = search needs
+μ-loop w flags count last from k₀ tried₀ k tried = count - tried
 
 loop-holds : tie.Need-loop-holds Inv-loop μ-loop
 loop-holds c = search needs
 
-one-more-requires : tie.Need-one-more-requires Inv-loop μ-loop
-one-more-requires c κs = search needs
+plus-requires : tie.Need-plus-requires Inv-loop μ-loop
+plus-requires c κs = search needs
 
 rest-requires : tie.Need-rest-requires Inv-loop μ-loop
 rest-requires c κs = search needs
 
-one-more-requires-2 : tie.Need-one-more-requires-2 Inv-loop μ-loop
-one-more-requires-2 c κs = search needs
+add-get : tie.Need-add-get Inv-loop μ-loop
+add-get c = search needs
 
-is-held-requires : tie.Need-is-held-requires Inv-loop μ-loop
-is-held-requires c κs = search needs
+cast-get : tie.Need-cast-get Inv-loop μ-loop
+cast-get c = search needs
+
+add-get-2 : tie.Need-add-get-2 Inv-loop μ-loop
+add-get-2 c = search needs
+
+get-requires : tie.Need-get-requires Inv-loop μ-loop
+get-requires c κs = search needs
+
+plus-requires-2 : tie.Need-plus-requires-2 Inv-loop μ-loop
+plus-requires-2 c κs = search needs
 
 returns : tie.Need-returns Inv-loop μ-loop
 returns c = search needs
@@ -55,14 +55,14 @@ first-free-spec =
     (tie.spec
     Inv-loop
     μ-loop
-    first-flags-requires
-    get-requires
-    spread-requires
     loop-holds
-    one-more-requires
+    plus-requires
     rest-requires
-    one-more-requires-2
-    is-held-requires
+    add-get
+    cast-get
+    add-get-2
+    get-requires
+    plus-requires-2
     returns
     add-tried
     loop-less

@@ -1,38 +1,23 @@
 -- `reference_words::tags::listed` is safe and ends: counters stay within their bounds, and lent slices keep their lengths. Assumes nothing.
 use Prim.Native.Nat.{_≤_, _-_}
-use borrow.Author.Needs.{needs}
 use Rattle.reference_words.proofs.tags.listed.Statement.{statement}
 use Rattle.reference_words.proofs.tags.listed.Tie as tie
+use borrow.Author.Needs.{needs}
 
 abbrev Inv-loop : tie.InvT-loop
-Inv-loop state nodes buckets tags₀ from₀ n₀ tags from n = (n ≤ 65)
+Inv-loop w from₀ n₀ from n = (n ≤ 64)
 
 abbrev μ-loop : tie.MeasureT-loop
-μ-loop state nodes buckets tags₀ from₀ n₀ tags from n = 65 - n
+μ-loop w from₀ n₀ from n = 64 - n
 
 loop-holds : tie.Need-loop-holds Inv-loop μ-loop
 loop-holds c = search needs
 
-listed-from-requires : tie.Need-listed-from-requires Inv-loop μ-loop
-listed-from-requires c κs = search needs
-
-cast-tags : tie.Need-cast-tags Inv-loop μ-loop
-cast-tags c = search needs
-
-array-write-tags : tie.Need-array-write-tags Inv-loop μ-loop
-array-write-tags c = search needs
+smallest-requires : tie.Need-smallest-requires Inv-loop μ-loop
+smallest-requires c κs = search needs
 
 returns : tie.Need-returns Inv-loop μ-loop
 returns c = search needs
-
-cast-tags-2 : tie.Need-cast-tags-2 Inv-loop μ-loop
-cast-tags-2 c = search needs
-
-mul-tags : tie.Need-mul-tags Inv-loop μ-loop
-mul-tags c = search needs
-
-array-write-tags-2 : tie.Need-array-write-tags-2 Inv-loop μ-loop
-array-write-tags-2 c = search needs
 
 add-from : tie.Need-add-from Inv-loop μ-loop
 add-from c = search needs
@@ -46,9 +31,6 @@ loop-less c = search needs
 loop-again : tie.Need-loop-again Inv-loop μ-loop
 loop-again c = search needs
 
-array-write-tags-3 : tie.Need-array-write-tags-3 Inv-loop μ-loop
-array-write-tags-3 c = search needs
-
 returns-2 : tie.Need-returns-2 Inv-loop μ-loop
 returns-2 c = search needs
 
@@ -59,16 +41,10 @@ listed-spec =
     Inv-loop
     μ-loop
     loop-holds
-    listed-from-requires
-    cast-tags
-    array-write-tags
+    smallest-requires
     returns
-    cast-tags-2
-    mul-tags
-    array-write-tags-2
     add-from
     add-n
     loop-less
     loop-again
-    array-write-tags-3
     returns-2)

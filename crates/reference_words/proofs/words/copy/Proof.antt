@@ -1,28 +1,31 @@
 -- `reference_words::words::copy` is safe and ends: counters stay within their bounds, and lent slices keep their lengths. Assumes nothing.
 use Prim.Native.Nat.{_≤_, _-_}
-use borrow.Author.Needs.{needs}
-use mathlib.Core.Path.{_≡_}
-use lib.ListN.{length}
 use Rattle.reference_words.proofs.words.copy.Statement.{statement}
 use Rattle.reference_words.proofs.words.copy.Tie as tie
+use borrow.Author.Needs.{needs}
+use lib.ListN.{length}
+use mathlib.Core.Path.{_≡_}
 
 abbrev Inv-loop : tie.InvT-loop
-Inv-loop s₀ from words i₀ s i = (i ≤ length words) × (length s ≡ length s₀)
+Inv-loop w₀ from to count a b n i₀ w i = (i ≤ n) × (length w ≡ length w₀)
 
 abbrev μ-loop : tie.MeasureT-loop
-μ-loop s₀ from words i₀ s i = length words - i
+μ-loop w₀ from to count a b n i₀ w i = n - i
 
 loop-holds : tie.Need-loop-holds Inv-loop μ-loop
 loop-holds c = search needs
 
-mul-put-after : tie.Need-mul-put-after Inv-loop μ-loop
-mul-put-after c = search needs
+add-get : tie.Need-add-get Inv-loop μ-loop
+add-get c = search needs
 
-shared-slice-read-put-after : tie.Need-shared-slice-read-put-after Inv-loop μ-loop
-shared-slice-read-put-after c = search needs
+get-requires : tie.Need-get-requires Inv-loop μ-loop
+get-requires c κs = search needs
 
-put-after-requires : tie.Need-put-after-requires Inv-loop μ-loop
-put-after-requires c κs = search needs
+add-put : tie.Need-add-put Inv-loop μ-loop
+add-put c = search needs
+
+put-requires : tie.Need-put-requires Inv-loop μ-loop
+put-requires c κs = search needs
 
 add-i : tie.Need-add-i Inv-loop μ-loop
 add-i c = search needs
@@ -46,9 +49,10 @@ copy-spec =
     Inv-loop
     μ-loop
     loop-holds
-    mul-put-after
-    shared-slice-read-put-after
-    put-after-requires
+    add-get
+    get-requires
+    add-put
+    put-requires
     add-i
     loop-less
     loop-again

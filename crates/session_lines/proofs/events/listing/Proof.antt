@@ -1,131 +1,23 @@
--- `session_lines::events::listing` meets its contract. The contract of `queries::list`: a count is at most 64, and so many of
--- the words are the tags. Assumes nothing.
-use mathlib.Core.Path.{sym}
-use lib.ListN.{replicate}
-use denote.Ref.{now}
-use Rattle.session_lines.proofs.Laws.{few-listed, lists-count, lists-refused}
-use lib.Seq.{length-take-le}
-use native.Mathlib.Omega.{arith}
+-- `session_lines::events::listing` meets its contract. The listing is printed, and the session has stopped. Assumes nothing.
+use mathlib.Core.Path.{refl}
+use Rattle.session_state.proofs.Laws.{session-as}
 use borrow.Author.Needs.{needs}
 use Rattle.session_lines.proofs.events.listing.Statement.{statement}
 use Rattle.session_lines.proofs.events.listing.Tie as tie
 
-node-extent-requires : tie.Need-node-extent-requires
-node-extent-requires c κs = search needs
+list-tags-requires : tie.Need-list-tags-requires
+list-tags-requires c κs = search needs
 
-bucket-extent-requires : tie.Need-bucket-extent-requires
-bucket-extent-requires c κs = search needs
-
-slice-aggregate-node-size : tie.Need-slice-aggregate-node-size
-slice-aggregate-node-size c =
-    let at-node-extent = c .before .before .before in
-    let entry = at-node-extent .before .before .before .before in
-    sym (length-take-le (at-node-extent .node-extent .result) (now (entry .args .ns)) (at-node-extent .node-extent .ensures .1))
-
-node-size-requires : tie.Need-node-size-requires
-node-size-requires c κs = search needs
-
-slice-aggregate-list : tie.Need-slice-aggregate-list
-slice-aggregate-list c =
-    let at-node-extent = c .before .before .before .before .before in
-    let entry = at-node-extent .before .before .before .before in
-    sym (length-take-le (at-node-extent .node-extent .result) (now (entry .args .ns)) (at-node-extent .node-extent .ensures .1))
-
-slice-aggregate-list-2 : tie.Need-slice-aggregate-list-2
-slice-aggregate-list-2 c =
-    let at-bucket-extent = c .before .before .before .before .before in
-    let entry = at-bucket-extent .before .before .before .before .before in
-    sym
-    (length-take-le (at-bucket-extent .bucket-extent .result) (now (entry .args .bs)) (at-bucket-extent .bucket-extent .ensures .1))
-
-slice-aggregate-list-3 : tie.Need-slice-aggregate-list-3
-slice-aggregate-list-3 c = search needs
-
-list-requires : tie.Need-list-requires
-list-requires c κs = search needs
-
-enum-known-listed : tie.Need-enum-known-listed
-enum-known-listed c = search needs
-
-cast-e : tie.Need-cast-e
-cast-e c = search needs
-
-array-share-prefix-w : tie.Need-array-share-prefix-w
-array-share-prefix-w c =
-    let at-listed = c .before .before in
-    let at-list = at-listed .before .before .before in
-    omega
-    (arith, few-listed _ _ (at-listed .listed .given .0 .0) (at-list .list .result) (at-list .list .ensures .0) (at-listed .listed .given .1))
-
-slice-aggregate-listing : tie.Need-slice-aggregate-listing
-slice-aggregate-listing c =
-    let at-listed = c .before .before .before in
-    let at-list = at-listed .before .before .before in
-    sym
-    (length-take-le (at-listed .listed .given .0 .0) (at-list .list .last .1 .1 .1 .0) (omega (arith, few-listed _ _ (at-listed .listed .given .0 .0) (at-list .list .result) (at-list .list .ensures .0) (at-listed .listed .given .1), at-list .list .kept .1 .1 .1 .0)))
-
-listing-requires : tie.Need-listing-requires
-listing-requires c κs = search needs
-
-enum-known-listed-2 : tie.Need-enum-known-listed-2
-enum-known-listed-2 c = search needs
-
-refusal-requires : tie.Need-refusal-requires
-refusal-requires c κs = search needs
+after-line-requires : tie.Need-after-line-requires
+after-line-requires c κs = search needs
 
 same-length : tie.Need-same-length
 same-length c = search needs
 
 returns : tie.Need-returns
 returns c =
-    let at-listed = c .before .before .before .before .before .before in
-    let at-list = at-listed .before .before .before in
-    let at-node-size = at-list .before .before .before .before in
-    let at-bucket-extent = at-node-size .before .before .before in
-    let at-node-extent = at-bucket-extent .before in
-    let entry = at-node-extent .before .before .before .before in
-    lists-count (entry .args .s) (now (entry .args .ns)) (now (entry .args .bs)) (at-node-extent .node-extent .result)
-    (at-bucket-extent .bucket-extent .result) (at-node-extent .node-extent .ensures .0)
-    (at-bucket-extent .bucket-extent .ensures .0) (at-list .list .result) (replicate 64 0) (at-list .list .last .1 .1 .1 .0)
-    (at-list .list .ensures .0) (at-list .list .ensures .1) (at-listed .listed .given .0 .0) (at-node-size .node-size .result) _
-    _ (at-listed .listed .given .1) (at-node-size .node-size .ensures) (c .before .before .listing .ensures)
-
-same-length-2 : tie.Need-same-length-2
-same-length-2 c = search needs
-
-returns-2 : tie.Need-returns-2
-returns-2 c =
-    let at-listed2 = c .before .before .before .before .before in
-    let at-list = at-listed2 .before .before .before in
-    let at-bucket-extent = at-list .before .before .before .before .before .before .before in
-    let at-node-extent = at-bucket-extent .before in
-    let entry = at-node-extent .before .before .before .before in
-    lists-refused (entry .args .s) (now (entry .args .ns)) (now (entry .args .bs)) (at-node-extent .node-extent .result)
-    (at-bucket-extent .bucket-extent .result) (at-node-extent .node-extent .ensures .0)
-    (at-bucket-extent .bucket-extent .ensures .0) (at-list .list .result) (replicate 64 0) (at-list .list .last .1 .1 .1 .0)
-    (at-list .list .ensures .0) (at-list .list .ensures .1) (at-listed2 .listed2 .given .0 .0) _ _
-    (at-listed2 .listed2 .given .1) (c .before .before .refusal .ensures)
+    let at-list-tags = c .before .before .before .before .before in
+    session-as _ _ _ _ _ (c .after-line .ensures) (record { next = refl; wrote = at-list-tags .list-tags .ensures })
 
 pub listing-spec : {M : Type 1} → statement M
-listing-spec =
-    tie.close
-    (tie.spec
-    node-extent-requires
-    bucket-extent-requires
-    slice-aggregate-node-size
-    node-size-requires
-    slice-aggregate-list
-    slice-aggregate-list-2
-    slice-aggregate-list-3
-    list-requires
-    enum-known-listed
-    cast-e
-    array-share-prefix-w
-    slice-aggregate-listing
-    listing-requires
-    enum-known-listed-2
-    refusal-requires
-    same-length
-    returns
-    same-length-2
-    returns-2)
+listing-spec = tie.close (tie.spec list-tags-requires after-line-requires same-length returns)

@@ -3,6 +3,7 @@
 use mathlib.Core.Path.{sym}
 use denote.Ref.{now}
 use Rattle.spec.specs.Entries.{start}
+use Rattle.session_state.proofs.Laws.{line-as}
 use Rattle.session_lines.proofs.Laws.{replies-reading}
 use lib.Seq.{length-take-le}
 use borrow.Author.Needs.{needs}
@@ -18,13 +19,13 @@ bucket-extent-requires c κs = search needs
 slice-aggregate-begin : tie.Need-slice-aggregate-begin
 slice-aggregate-begin c =
     let at-node-extent = c .before .before .before in
-    let entry = at-node-extent .before .before .before .before in
+    let entry = at-node-extent .before .before .before .before .before in
     sym (length-take-le (at-node-extent .node-extent .result) (now (entry .args .ns)) (at-node-extent .node-extent .ensures .1))
 
 slice-aggregate-begin-2 : tie.Need-slice-aggregate-begin-2
 slice-aggregate-begin-2 c =
     let at-bucket-extent = c .before .before .before in
-    let entry = at-bucket-extent .before .before .before .before .before in
+    let entry = at-bucket-extent .before .before .before .before .before .before in
     sym
     (length-take-le (at-bucket-extent .bucket-extent .result) (now (entry .args .bs)) (at-bucket-extent .bucket-extent .ensures .1))
 
@@ -34,20 +35,25 @@ begin-requires c κs = search needs
 output-requires : tie.Need-output-requires
 output-requires c κs = search needs
 
+after-line-requires : tie.Need-after-line-requires
+after-line-requires c κs = search needs
+
 same-length : tie.Need-same-length
 same-length c = search needs
 
 returns : tie.Need-returns
 returns c =
-    let at-begin = c .before .before .before .before .before in
+    let at-output = c .before .before .before in
+    let at-begin = at-output .before .before .before in
     let at-bucket-extent = at-begin .before .before .before .before in
     let at-node-extent = at-bucket-extent .before in
-    let entry = at-node-extent .before .before .before .before in
-    replies-reading (entry .args .s) (now (entry .args .ns)) (now (entry .args .bs)) (at-node-extent .node-extent .result)
-    (at-bucket-extent .bucket-extent .result) (at-node-extent .node-extent .ensures .0)
-    (at-bucket-extent .bucket-extent .ensures .0) (entry .args .k)
-    (λ y. start y (entry .args .k) (entry .args .call) (entry .args .tag)) (at-begin .begin .result) _ _ _
-    (at-begin .begin .ensures) (c .before .before .output .ensures)
+    let entry = at-node-extent .before .before .before .before .before in
+    let call = entry .args in
+    let a = at-node-extent .node-extent in
+    let b = at-bucket-extent .bucket-extent in
+    line-as _ _ _ _ _ _ _ (c .after-line .ensures)
+    (replies-reading (call .s) (now (call .ns)) (now (call .bs)) (a .result) (b .result) (a .ensures .0) (b .ensures .0) (call .k)
+    (λ y. start y (call .k) (call .call) (call .tag)) (at-begin .begin .result) _ _ _ (at-begin .begin .ensures) (at-output .output .ensures))
 
 pub start-task-spec : {M : Type 1} → statement M
 start-task-spec =
@@ -59,5 +65,6 @@ start-task-spec =
     slice-aggregate-begin-2
     begin-requires
     output-requires
+    after-line-requires
     same-length
     returns)

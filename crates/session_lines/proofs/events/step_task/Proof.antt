@@ -3,6 +3,7 @@
 use mathlib.Core.Path.{sym}
 use denote.Ref.{now}
 use Rattle.spec.specs.Entries.{step}
+use Rattle.session_state.proofs.Laws.{line-as}
 use Rattle.session_lines.proofs.Laws.{replies}
 use lib.Seq.{length-take-le}
 use borrow.Author.Needs.{needs}
@@ -21,7 +22,7 @@ slice-relend-prefix-turn c = search needs
 slice-aggregate-turn : tie.Need-slice-aggregate-turn
 slice-aggregate-turn c =
     let at-node-extent = c .before .before .before in
-    let entry = at-node-extent .before .before .before .before in
+    let entry = at-node-extent .before .before .before .before .before in
     sym (length-take-le (at-node-extent .node-extent .result) (now (entry .args .ns)) (at-node-extent .node-extent .ensures .1))
 
 slice-relend-prefix-turn-2 : tie.Need-slice-relend-prefix-turn-2
@@ -30,7 +31,7 @@ slice-relend-prefix-turn-2 c = search needs
 slice-aggregate-turn-2 : tie.Need-slice-aggregate-turn-2
 slice-aggregate-turn-2 c =
     let at-bucket-extent = c .before .before .before in
-    let entry = at-bucket-extent .before .before .before .before .before in
+    let entry = at-bucket-extent .before .before .before .before .before .before in
     sym
     (length-take-le (at-bucket-extent .bucket-extent .result) (now (entry .args .bs)) (at-bucket-extent .bucket-extent .ensures .1))
 
@@ -39,6 +40,9 @@ turn-requires c κs = search needs
 
 output-requires : tie.Need-output-requires
 output-requires c κs = search needs
+
+after-line-requires : tie.Need-after-line-requires
+after-line-requires c κs = search needs
 
 same-length : tie.Need-same-length
 same-length c = search needs
@@ -51,14 +55,17 @@ same-length-3 c = search needs
 
 returns : tie.Need-returns
 returns c =
-    let at-turn = c .before .before .before .before .before .before .before .before .before in
+    let at-output = c .before .before .before in
+    let at-turn = at-output .before .before .before .before .before .before .before in
     let at-bucket-extent = at-turn .before .before .before .before in
     let at-node-extent = at-bucket-extent .before in
-    let entry = at-node-extent .before .before .before .before in
-    replies (entry .args .s) (now (entry .args .ns)) (now (entry .args .bs)) (at-node-extent .node-extent .result)
-    (at-bucket-extent .bucket-extent .result) (at-node-extent .node-extent .ensures .0)
-    (at-bucket-extent .bucket-extent .ensures .0) (entry .args .k) (λ y. step y (entry .args .k)) (at-turn .turn .result) _ _
-    _ _ _ (at-turn .turn .ensures) (c .before .before .output .ensures)
+    let entry = at-node-extent .before .before .before .before .before in
+    let call = entry .args in
+    let a = at-node-extent .node-extent in
+    let b = at-bucket-extent .bucket-extent in
+    line-as _ _ _ _ _ _ _ (c .after-line .ensures)
+    (replies (call .s) (now (call .ns)) (now (call .bs)) (a .result) (b .result) (a .ensures .0) (b .ensures .0) (call .k)
+    (λ y. step y (call .k)) (at-turn .turn .result) _ _ _ _ _ (at-turn .turn .ensures) (at-output .output .ensures))
 
 pub step-task-spec : {M : Type 1} → statement M
 step-task-spec =
@@ -72,6 +79,7 @@ step-task-spec =
     slice-aggregate-turn-2
     turn-requires
     output-requires
+    after-line-requires
     same-length
     same-length-2
     same-length-3

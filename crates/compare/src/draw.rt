@@ -1,0 +1,209 @@
+// Random schedules, with spoilt memory in between, drawn from the numbers of the script.
+use crate::script::fitting;
+use crate::script::move_memory;
+use crate::script::number;
+use crate::vars::EXCURSION;
+use crate::vars::SEED;
+use crate::vars::TURNS;
+use reference_words::words::BUCKET_WORDS;
+use reference_words::words::BUCKETS;
+use reference_words::words::NODE_WORDS;
+use reference_words::words::NODES;
+use reference_words::words::NOWHERE;
+use reference_words::words::WHAT;
+use reference_words::words::either;
+use reference_words::words::field_at;
+use reference_words::words::get;
+use reference_words::words::put;
+use reference_words::words::put_words;
+use reference_words::words::rest;
+
+// Pseudo-random numbers: the multiplicative generator of Lehmer with modulus 2^31 - 1. The low digits are good enough for choices.
+fn next(x: u32) -> u32 {
+    ((x as u64) * 48271 % 2147483647) as u32
+}
+
+// A number below n, 0 where n is 0.
+fn below(x: u32, n: u32) -> u32 {
+    rest(x / 8, n)
+}
+
+// A value that a spoilt word may get: anything, a small number, a bound, a line of the paper.
+fn odd_value(x: u32) -> u32 {
+    let y = next(x);
+    if below(x, 8) == 0 {
+        return 4294967295 - y;
+    }
+    if below(x, 8) < 4 {
+        return below(y, 5);
+    }
+    get(
+        &[
+            12,
+            13,
+            15,
+            16,
+            17,
+            18,
+            20,
+            24,
+            27,
+            28,
+            32,
+            33,
+            36,
+            39,
+            40,
+            43,
+            44,
+            46,
+            47,
+            48,
+            49,
+            50,
+            51,
+            52,
+            5,
+            8,
+            31,
+            33,
+            64,
+            65,
+            200,
+            1024,
+        ],
+        below(y, 32) as usize,
+    )
+}
+
+// A word to be spoilt: of the state half of the time, or of the nodes, or of the buckets.
+fn odd_word(m: &[u32], x: u32) -> usize {
+    let y = next(x);
+    match below(x, 4) {
+        0 => NODES + below(y, get(m, NODE_WORDS)) as usize,
+        1 => BUCKETS + below(y, get(m, BUCKET_WORDS)) as usize,
+        _ => below(y, 110) as usize,
+    }
+}
+
+// One turn in 40 begins an excursion: memory is kept, a word is spoilt, in one of three excursions another a turn later, and at the end of eleven
+// turns memory is put back. Turns left of it after this one:
+fn excursion(m: &[u32], x: u32, opens: bool) -> u32 {
+    let left = get(m, EXCURSION);
+    if opens {
+        return 0;
+    }
+    if left == 0 {
+        return either(below(x, 40) == 0, 11, 0);
+    }
+    left - 1
+}
+
+// The word that is spoilt at this turn.
+fn spoilt_at(m: &[u32], x: u32, left: u32) -> usize {
+    if left == 11 || (left == 10 && below(x, 3) == 0) {
+        return odd_word(m, next(x));
+    }
+    NOWHERE
+}
+
+fn spoil(m: &mut [u32], x: u32, opens: bool) {
+    let before = get(m, EXCURSION);
+    let left = excursion(m, x, opens);
+    let at = spoilt_at(m, x, left);
+    move_memory(m, left == 11, before == 1);
+    put(m, at, fitting(at, odd_value(next(x))));
+    put(m, EXCURSION, left);
+}
+
+// Word j of task k's record.
+fn task_word(m: &[u32], k: u32, j: u32) -> u32 {
+    if 8 <= k {
+        return 0;
+    }
+    get(m, field_at(k, j))
+}
+
+// The task of an event: one that exists, but for one event in 64.
+fn task_for(m: &[u32], x: u32) -> u32 {
+    let all = number(m, b'T');
+    let k = below(x / 64, all);
+    let y = next(x);
+    if below(y, 64) == 0 {
+        return all;
+    }
+    if task_word(m, k, 3) == 15 && below(next(y), 128) < number(m, b'Z') {
+        return below(y / 64, all);
+    }
+    k
+}
+
+fn call_for(m: &[u32], x: u32) -> u32 {
+    if below(x, 100) < number(m, b'R') {
+        return 4 + x / 1024 % 2;
+    }
+    let r = below(next(x), 100);
+    if r < number(m, b'D') {
+        return 2;
+    }
+    either(r < number(m, b'L'), 3, 1)
+}
+
+// The call of a turn: mostly a step of a running task or a start of an idle one, now and then a list (6) or a show (7).
+fn what_for(m: &[u32], k: u32, x: u32) -> u32 {
+    let d = below(x, 64);
+    let y = next(x);
+    if d < 2 {
+        return 6 + d;
+    }
+    if (task_word(m, k, 0) != 0) == (below(y, 16) != 0) {
+        return 0;
+    }
+    call_for(m, next(y))
+}
+
+// The list into 63, 64 or 65 words, the show of a bucket below 210, or the event's task.
+fn number_for(what: u32, k: u32, x: u32) -> u32 {
+    if what == 6 {
+        return 63 + x / 64 % 3;
+    }
+    if what == 7 { below(x / 64, 210) } else { k }
+}
+
+fn event(m: &mut [u32], x: u32) {
+    let k = task_for(m, x);
+    let y = next(next(x));
+    let what = what_for(m, k, y);
+    put_words(
+        m,
+        WHAT,
+        &[
+            what,
+            number_for(what, k, y),
+            below(next(y), number(m, b'G')),
+        ],
+    );
+}
+
+// A schedule begins with an opening.
+fn draw(m: &mut [u32], x: u32, opens: bool) {
+    if opens {
+        return put_words(m, WHAT, &[8, number(m, b'T'), 0]);
+    }
+    event(m, x)
+}
+
+fn less_1(x: u32) -> u32 {
+    if x == 0 { 0 } else { x - 1 }
+}
+
+// One turn, with so many left.
+pub fn turn(m: &mut [u32], left: u32) {
+    let x = next(get(m, SEED));
+    let y = next(next(next(x)));
+    let opens = rest(left, number(m, b'W')) == 0;
+    put(m, SEED, next(next(next(next(y)))));
+    put(m, TURNS, less_1(left));
+    spoil(m, x, opens);
+    draw(m, y, opens);
+}

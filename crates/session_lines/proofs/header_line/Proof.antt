@@ -1,0 +1,83 @@
+-- `session_lines::header_line` meets its contract. What the line says, as `header-effect` has it. Assumes nothing.
+use mathlib.Core.Path.{sym, _∙_}
+use Rattle.session_state.proofs.Laws.{keeps, line-as}
+use Rattle.session_state.specs.Handling.{header-effect}
+use Rattle.session_lines.proofs.Laws.{goes-on}
+use borrow.Author.Needs.{needs}
+use Rattle.session_lines.proofs.header_line.Statement.{statement}
+use Rattle.session_lines.proofs.header_line.Tie as tie
+
+header-line-requires : tie.Need-header-line-requires
+header-line-requires c κs = search needs
+
+enum-known-next : tie.Need-enum-known-next
+enum-known-next c = search needs
+
+after-line-requires : tie.Need-after-line-requires
+after-line-requires c κs = search needs
+
+enum-known-h : tie.Need-enum-known-h
+enum-known-h c = search needs
+
+open-machine-requires : tie.Need-open-machine-requires
+open-machine-requires c κs = search needs
+
+enum-told : tie.Need-enum-told
+enum-told c = search needs
+
+stop-requires : tie.Need-stop-requires
+stop-requires c κs = search needs
+
+returns : tie.Need-returns
+returns c =
+    let at-next = c .before .before .before in
+    let at-header-line = at-next .before .before in
+    rw (sym (at-header-line .header-line .ensures) ∙ at-next .next .given .1)
+    (line-as _ _ _ _ _ _ _ (c .after-line .ensures) (goes-on _ _ _ _ _ _))
+
+same-length : tie.Need-same-length
+same-length c = search needs
+
+same-length-2 : tie.Need-same-length-2
+same-length-2 c = search needs
+
+same-length-3 : tie.Need-same-length-3
+same-length-3 c = search needs
+
+returns-2 : tie.Need-returns-2
+unfolding header-effect
+returns-2 c =
+    let at-open-machine = c .before .before .before .before .before .before in
+    let at-h = at-open-machine .before .before .before .before .before in
+    let at-header-line = at-h .before .before in
+    rw (sym (at-header-line .header-line .ensures) ∙ at-h .h .given .1) (at-open-machine .open-machine .ensures)
+
+same-length-4 : tie.Need-same-length-4
+same-length-4 c = search needs
+
+returns-3 : tie.Need-returns-3
+unfolding header-effect
+returns-3 c =
+    let at-stop = c .before .before in
+    let at-enum-told = at-stop .before .before in
+    let at-header-line = at-enum-told .before .before in
+    rw (sym (at-header-line .header-line .ensures) ∙ at-enum-told .enum-told .given .1) (keeps _ _ _ _ _ _ (at-stop .stop .ensures))
+
+pub header-line-spec : {M : Type 1} → statement M
+header-line-spec =
+    tie.close
+    (tie.spec
+    header-line-requires
+    enum-known-next
+    after-line-requires
+    enum-known-h
+    open-machine-requires
+    enum-told
+    stop-requires
+    returns
+    same-length
+    same-length-2
+    same-length-3
+    returns-2
+    same-length-4
+    returns-3)

@@ -1,0 +1,39 @@
+-- `session_parse::with_number` meets its contract. Each line that may be due, as in the definition. Assumes nothing.
+use mathlib.Core.Path.{ap}
+use Rattle.spec.specs.declared.Config.{Config}
+use Rattle.session.specs.declared.HeaderLine.the-variants.{Nodes}
+use Rattle.session.specs.declared.HeaderStep.the-variants.{Next}
+use Rattle.session.specs.Header.{header, with-number}
+use borrow.Author.Needs.{needs}
+use Rattle.session_parse.proofs.with_number.Statement.{statement}
+use Rattle.session_parse.proofs.with_number.Tie as tie
+
+enum-told : tie.Need-enum-told
+enum-told c = search needs
+
+config-requires : tie.Need-config-requires
+config-requires c κs = search needs
+
+enum-told-2 : tie.Need-enum-told-2
+enum-told-2 c = search needs
+
+enum-told-3 : tie.Need-enum-told-3
+enum-told-3 c = search needs
+
+returns : tie.Need-returns
+unfolding with-number
+returns c =
+    let h = c .before .before .before .args .h in
+    rw (c .before .enum-told .given .1) (ap (λ (g : Config). Next Nodes (header g (h .nodes) (h .buckets))) (c .config .ensures))
+
+returns-2 : tie.Need-returns-2
+unfolding with-number
+returns-2 c = rw (c .before .enum-told2 .given .1)
+
+returns-3 : tie.Need-returns-3
+unfolding with-number
+returns-3 c = rw (c .before .enum-told3 .given .1)
+
+pub with-number-spec : {M : Type 1} → statement M
+with-number-spec =
+    tie.close (tie.spec enum-told config-requires enum-told-2 enum-told-3 returns returns-2 returns-3)

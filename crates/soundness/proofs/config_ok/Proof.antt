@@ -1,0 +1,24 @@
+-- `soundness::config_ok` meets its contract: each condition is what its test ensures. Assumes nothing.
+use mathlib.Core.Path.{ap, _∙_}
+use Rattle.spec.specs.Lists.{all-true}
+use Rattle.spec.specs.Sound.{config-sound}
+use Rattle.soundness.proofs.Laws.{no-more, _also_, same-list}
+use borrow.Author.Needs.{needs}
+use Rattle.soundness.proofs.config_ok.Statement.{statement}
+use Rattle.soundness.proofs.config_ok.Tie as tie
+
+within-requires : tie.Need-within-requires
+within-requires c κs = search needs
+
+slice-aggregate-all-true : tie.Need-slice-aggregate-all-true
+slice-aggregate-all-true c = search needs
+
+all-true-requires : tie.Need-all-true-requires
+all-true-requires c κs = search needs
+
+returns : tie.Need-returns
+unfolding config-sound
+returns c = c .all-true .ensures ∙ ap all-true (same-list (c .before .before .within .ensures also no-more))
+
+pub config-ok-spec : {M : Type 1} → statement M
+config-ok-spec = tie.close (tie.spec within-requires slice-aggregate-all-true all-true-requires returns)

@@ -1,0 +1,15 @@
+-- `state::fresh_state` meets its contract: both are the same record, with eight idle tasks. Assumes nothing.
+use Rattle.spec.specs.Machine.{state-of}
+use borrow.Author.Needs.{needs}
+use Rattle.state.proofs.fresh_state.Statement.{statement}
+use Rattle.state.proofs.fresh_state.Tie as tie
+
+idle-requires : tie.Need-idle-requires
+idle-requires c κs = search needs
+
+returns : tie.Need-returns
+unfolding state-of
+returns c = rw (c .idle .ensures)
+
+pub fresh-state-spec : {M : Type 1} → statement M
+fresh-state-spec = tie.close (tie.spec idle-requires returns)
