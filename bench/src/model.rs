@@ -158,13 +158,14 @@ impl Model<'_> {
     }
 
     fn insert(&mut self, tag: u32) -> Answer {
-        if self.set.len() == MAX_TAGS {
+        if self.set.contains(&tag) {
+            Answer::No
+        } else if self.set.len() == MAX_TAGS {
             Answer::Full
-        } else if self.set.insert(tag) {
+        } else {
+            self.set.insert(tag);
             self.changed(tag, true);
             Answer::Yes
-        } else {
-            Answer::No
         }
     }
 

@@ -119,7 +119,7 @@ fn full_at_64_tags() {
         assert_eq!(s.call(0, Call::Insert, tag), "end=0,yes,3");
     }
     assert_eq!(s.call(0, Call::Insert, 64), "end=0,full,3");
-    assert_eq!(s.call(0, Call::Insert, 63), "end=0,full,3");
+    assert_eq!(s.call(0, Call::Insert, 63), "end=0,no,3");
     assert_eq!(s.call(0, Call::Remove, 5), "end=0,yes,3");
     assert_eq!(s.call(0, Call::Remove, 5), "end=0,no,3");
     assert_eq!(s.call(0, Call::Insert, 63), "end=0,no,3");

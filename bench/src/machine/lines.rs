@@ -155,19 +155,20 @@ impl Step<'_> {
         }
     }
 
+    /// A tag that is there goes before the count of listed tags.
     fn insert(&mut self, number: usize) -> Moved {
+        let Err(index) = bucket::search(&self.buckets[number], self.task.tag) else {
+            return end(Answer::No);
+        };
         if listed::count(self.state.head, self.nodes, self.buckets) >= MAX_TAGS {
             return end(Answer::Full);
         }
         let b = &mut self.buckets[number];
-        match bucket::search(b, self.task.tag) {
-            Ok(_) => end(Answer::No),
-            Err(_) if bucket::count(b) == MAX_TAGS => Err(Refusal::Corrupt),
-            Err(index) => {
-                bucket::insert_at(b, index, self.task.tag);
-                end(Answer::Yes)
-            }
+        if bucket::count(b) == MAX_TAGS {
+            return Err(Refusal::Corrupt);
         }
+        bucket::insert_at(b, index, self.task.tag);
+        end(Answer::Yes)
     }
 
     fn remove(&mut self, number: usize) -> Moved {

@@ -262,10 +262,13 @@ fn more_than_64_listed_tags() {
     m.bucket(0)[3] = 7;
     *m.task(Call::Insert, 36) = Task {
         b: 2,
-        tag: 0,
+        tag: 1,
         ..*m.task(Call::Insert, 36)
     };
+    let mut present = m.clone();
+    present.state.task[0].tag = 2;
     assert_eq!(m.step(0), Ok(Output::End(Answer::Full, 1)));
+    assert_eq!(present.step(0), Ok(Output::End(Answer::No, 1)));
 }
 
 #[test]

@@ -56,13 +56,13 @@ table =
       tags = [];
     }
     ∷
-    -- "with 64 tags insert ends full; after a remove it ends yes"; of a tag that is there it ends full too
+    -- "with 64 tags insert ends full; after a remove it ends yes", as paper 02, U1, changes it: of a tag that is inside it ends no
     record {
       config = config-of 1;
       nodes = 1;
       buckets = 1;
       events = inserting 1 64 ++ calling 0 Insert 65 3 ++ calling 0 Insert 1 3 ++ calling 0 Remove 1 3 ++ calling 0 Insert 65 3;
-      outs = times 64 (in-three (End Yes 3)) ++ times 2 (in-three (End Full 3)) ++ times 2 (in-three (End Yes 3));
+      outs = times 64 (in-three (End Yes 3)) ++ in-three (End Full 3) ++ in-three (End No 3) ++ times 2 (in-three (End Yes 3));
       head = 0;
       size = 1;
       tags = range 2 64;

@@ -48,7 +48,7 @@ fn run(text: &[u8], m: &mut [u32], ns: &mut [u32], bs: &mut [u32]) {
     }
 }
 
-// The script is what standard input has, up to 4,096 bytes.
+// The script is what standard input has, below 65,536 bytes.
 fn script_in(space: &[u8], n: usize) -> &[u8] {
     if n <= space.len() {
         return &space[0..n];
@@ -56,9 +56,16 @@ fn script_in(space: &[u8], n: usize) -> &[u8] {
     &space[..0]
 }
 
+fn say_if_cut(n: usize) {
+    if 65536 <= n {
+        io::write_all(1, b"the script is cut: it has 65536 bytes or more\n");
+    }
+}
+
 fn main() {
-    let mut space = io::buffer();
+    let mut space = io::large_buffer();
     let n = io::read_full(0, &mut space);
+    say_if_cut(n);
     let mut ns = node_words();
     let mut bs = bucket_words();
     let mut m = memory();

@@ -19,29 +19,29 @@ use Rattle.spec.specs.StepRefusals.{gains}
 use Rattle.laws.specs.Tests.{bool?, tf}
 
 pub data InsertAnswer (n : ℕ) (present : Bool) : Answer → Type 0 where
-  no-room : 64 ≤ n → InsertAnswer n present Full
-  there-already : n < 64 → present ≡ true → InsertAnswer n present No
+  there-already : present ≡ true → InsertAnswer n present No
+  no-room : present ≡ false → 64 ≤ n → InsertAnswer n present Full
   goes-in : n < 64 → present ≡ false → InsertAnswer n present Yes
 
 module _ (n : ℕ) (present : Bool) where
-  pub insert-full : 64 ≤ n → insert-answer n present ≡ Full
+  pub insert-no : present ≡ true → insert-answer n present ≡ No
   unfolding insert-answer
-  insert-full h = rw (le-leb 64 n h)
+  insert-no e = rw e
 
-  pub insert-no : n < 64 → present ≡ true → insert-answer n present ≡ No
+  pub insert-full : present ≡ false → 64 ≤ n → insert-answer n present ≡ Full
   unfolding insert-answer
-  insert-no h e = rw (lt-leb 64 n h, e)
+  insert-full e h = rw (e, le-leb 64 n h)
 
   pub insert-yes : n < 64 → present ≡ false → insert-answer n present ≡ Yes
   unfolding insert-answer
-  insert-yes h e = rw (lt-leb 64 n h, e)
+  insert-yes h e = rw (e, lt-leb 64 n h)
 
   pub insert-answers : InsertAnswer n present (insert-answer n present)
   insert-answers = go (bool? (leb 64 n)) (bool? present)
     where
       go : (leb 64 n ≡ true) ⊎ (leb 64 n ≡ false) → (present ≡ true) ⊎ (present ≡ false) → InsertAnswer n present (insert-answer n present)
-      go (inl g) e = let h = leb-true 64 n g in rw (insert-full h) (no-room h)
-      go (inr g) (inl e) = let h = leb-false 64 n g in rw (insert-no h e) (there-already h e)
+      go g (inl e) = rw (insert-no e) (there-already e)
+      go (inl g) (inr e) = let h = leb-true 64 n g in rw (insert-full e h) (no-room e h)
       go (inr g) (inr e) = let h = leb-false 64 n g in rw (insert-yes h e) (goes-in h e)
 
 -- ---- what those who use an answer need of it
@@ -60,8 +60,8 @@ pub gains-room : (n : ℕ) (present : Bool) → gains (insert-answer n present) 
 gains-room n present e = go (insert-answers n present) e
   where
     go : {a : Answer} → InsertAnswer n present a → gains a ≡ true → n < 64
-    go (no-room h) e = absurd (tf e refl)
-    go (there-already h p) e = h
+    go (there-already p) e = absurd (tf e refl)
+    go (no-room p h) e = absurd (tf e refl)
     go (goes-in h p) e = h
 
 -- ---- what an insert that line 36 answers so writes

@@ -1,7 +1,8 @@
 -- Laws of line 36 and of what a bucket answers.
 -- Assumes nothing.
-use mathlib.Core.Path.{_≡_, refl, _∙_}
-use mathlib.Core.List.{List}
+use mathlib.Core.Path.{_≡_, refl, _∙_, subst}
+use mathlib.Core.Logic.{⊎-elim}
+use mathlib.Core.List.{List, [], _∷_}
 use mathlib.Core.Bool.{Bool, true, false, not, _&&_, and-false}
 use Prim.Native.Nat.{ℕ, _*_}
 use native.Mathlib.Omega.{arith}
@@ -19,6 +20,10 @@ use Rattle.laws.specs.StepAt.{step-table, here, next, accepted, refused-8}
 use Rattle.spec.specs.Lines.{answer-36, insert-write, moves, answers, answers-writing, insert-36, remove-36, line-36, frozen}
 use Rattle.spec.specs.StepRefusals.{overfull-36}
 use Rattle.spec.specs.Entries.{refuse, accept, step-running}
+use denote.Enum.Declared.{tagOf}
+use types.Run.{OneOf}
+use Rattle.bucket.proofs.Response.{the-type}
+use Rattle.bucket.specs.declared.Response.{Response}
 use Rattle.bucket.specs.declared.Response.the-variants.{Yes, No, Frozen, Full}
 use Rattle.pool.specs.Pool.{add-answer, add-words, remove-answer, remove-words}
 
@@ -35,35 +40,15 @@ module _ (w : List ℕ) (k x : ℕ) where
       go false false true p q r e = let z : _≡_ {A = ℕ} 0 1 = cc in absurd (omega arith)
       go false false false p q r e = (q, r, refl)
 
-  pub added-no : add-answer w k x ≡ No → (member x (tags w k) ≡ true) × (add-words w k x ≡ w)
+  -- a changeable bucket without the tag that does not answer yes has no room
+  pub added-other : (changeable w k ≡ 0 → ⊥) → member x (tags w k) ≡ false → (add-answer w k x ≡ Yes → ⊥) → (leb 64 (length (tags w k)) ≡ true) × (add-words w k x ≡ w)
   unfolding add-answer add-words
-  added-no = go (eqb (changeable w k) 0) (member x (tags w k)) (leb 64 (length (tags w k))) refl refl refl
+  added-other nf absent = rw (ne-eqb _ _ nf, absent) (go (leb 64 (length (tags w k))))
     where
-      go : (a b d : Bool) → eqb (changeable w k) 0 ≡ a → member x (tags w k) ≡ b → leb 64 (length (tags w k)) ≡ d → (if a then Frozen else if b then No else if d then Full else Yes) ≡ No → (member x (tags w k) ≡ true) × ((if a then w else if b then w else if d then w else overwrite w (66 * k) (bucket-of 1 (add-tag x (tags w k)))) ≡ w)
-      go true b d p q r e = let z : _≡_ {A = ℕ} 0 1 = cc in absurd (omega arith)
-      go false true d p q r e = (q, refl)
-      go false false true p q r e = let z : _≡_ {A = ℕ} 0 1 = cc in absurd (omega arith)
-      go false false false p q r e = let z : _≡_ {A = ℕ} 0 1 = cc in absurd (omega arith)
-
-  pub added-full : add-answer w k x ≡ Full → (member x (tags w k) ≡ false) × (leb 64 (length (tags w k)) ≡ true) × (add-words w k x ≡ w)
-  unfolding add-answer add-words
-  added-full = go (eqb (changeable w k) 0) (member x (tags w k)) (leb 64 (length (tags w k))) refl refl refl
-    where
-      go : (a b d : Bool) → eqb (changeable w k) 0 ≡ a → member x (tags w k) ≡ b → leb 64 (length (tags w k)) ≡ d → (if a then Frozen else if b then No else if d then Full else Yes) ≡ Full → (member x (tags w k) ≡ false) × (leb 64 (length (tags w k)) ≡ true) × ((if a then w else if b then w else if d then w else overwrite w (66 * k) (bucket-of 1 (add-tag x (tags w k)))) ≡ w)
-      go true b d p q r e = let z : _≡_ {A = ℕ} 0 1 = cc in absurd (omega arith)
-      go false true d p q r e = let z : _≡_ {A = ℕ} 0 1 = cc in absurd (omega arith)
-      go false false true p q r e = (q, r, refl)
-      go false false false p q r e = let z : _≡_ {A = ℕ} 0 1 = cc in absurd (omega arith)
-
-  pub added-frozen : add-answer w k x ≡ Frozen → changeable w k ≡ 0
-  unfolding add-answer add-words
-  added-frozen = go (eqb (changeable w k) 0) (member x (tags w k)) (leb 64 (length (tags w k))) refl refl refl
-    where
-      go : (a b d : Bool) → eqb (changeable w k) 0 ≡ a → member x (tags w k) ≡ b → leb 64 (length (tags w k)) ≡ d → (if a then Frozen else if b then No else if d then Full else Yes) ≡ Frozen → changeable w k ≡ 0
-      go true b d p q r e = eqb-true _ _ p
-      go false true d p q r e = let z : _≡_ {A = ℕ} 0 1 = cc in absurd (omega arith)
-      go false false true p q r e = let z : _≡_ {A = ℕ} 0 1 = cc in absurd (omega arith)
-      go false false false p q r e = let z : _≡_ {A = ℕ} 0 1 = cc in absurd (omega arith)
+      go : (d : Bool) → ((if d then Full else Yes) ≡ Yes → ⊥)
+          → (d ≡ true) × ((if d then w else overwrite w (66 * k) (bucket-of 1 (add-tag x (tags w k)))) ≡ w)
+      go true n = (refl, refl)
+      go false n = absurd (n refl)
 
   pub removed-yes : remove-answer w k x ≡ Yes → (member x (tags w k) ≡ true) × (remove-words w k x ≡ overwrite w (66 * k) (bucket-of 1 (remove-tag x (tags w k))))
   unfolding remove-answer remove-words
@@ -101,6 +86,12 @@ module _ (w : List ℕ) (k x : ℕ) where
       go false true p q e = let z : _≡_ {A = ℕ} 0 1 = cc in absurd (omega arith)
       go false false p q e = let z : _≡_ {A = ℕ} 0 1 = cc in absurd (omega arith)
 
+-- the answer is not yes
+pub not-yes : (d : Response) → OneOf (1 ∷ 2 ∷ 3 ∷ []) (tagOf the-type d) → d ≡ Yes → ⊥
+not-yes d k e =
+    let k′ : OneOf (1 ∷ 2 ∷ 3 ∷ []) 0 = subst (λ (y : Response). OneOf (1 ∷ 2 ∷ 3 ∷ []) (tagOf the-type y)) e k in
+    ⊎-elim (λ z. omega arith) (⊎-elim (λ z. omega arith) (λ z. omega arith)) k′
+
 -- ---- line 36
 
 module _ (y : Machine) (k : ℕ) (c : Task) (h : c .line ≡ 36) (nb : c .b ≡ 0 → ⊥) where
@@ -116,10 +107,18 @@ module _ (y : Machine) (k : ℕ) (c : Task) (h : c .line ≡ 36) (nb : c .b ≡ 
 
   module _ (nf : changeable (y .buckets) (number (c .b)) ≡ 0 → ⊥) where
     module _ (call : c .call ≡ 1) where
-      pub full-36 : leb 64 (length (listed y)) ≡ true → step-running y k c ≡ accept y k (c .own) (answers ans.Full)
-      unfolding overfull-36 line-36 insert-36 answer-36 insert-write
-      full-36 e =
-          let a : answer-36 y c ≡ ans.Full = insert-full _ _ (leb-true _ _ e) in
+      pub no-36 : member (c .tag) (tags (y .buckets) (number (c .b))) ≡ true → step-running y k c ≡ accept y k (c .own) (answers ans.No)
+      unfolding overfull-36 line-36 insert-36 answer-36 insert-write tags-of
+      no-36 m =
+          let a : answer-36 y c ≡ ans.No = insert-no _ _ m in
+          let o : overfull-36 y c ≡ false = rw a (and-false (not (frozen y (c .b)) && eqb (c .call) 1 && leb 64 (length (tags-of y (c .b))))) in
+          passes o ∙ rw (ne-eqb _ _ nf, eq-eqb _ _ call, a)
+
+      pub full-36 : member (c .tag) (tags (y .buckets) (number (c .b))) ≡ false → leb 64 (length (listed y)) ≡ true
+          → step-running y k c ≡ accept y k (c .own) (answers ans.Full)
+      unfolding overfull-36 line-36 insert-36 answer-36 insert-write tags-of
+      full-36 m e =
+          let a : answer-36 y c ≡ ans.Full = insert-full _ _ m (leb-true _ _ e) in
           let o : overfull-36 y c ≡ false = rw a (and-false (not (frozen y (c .b)) && eqb (c .call) 1 && leb 64 (length (tags-of y (c .b))))) in
           passes o ∙ rw (ne-eqb _ _ nf, eq-eqb _ _ call, a)
 
@@ -130,13 +129,6 @@ module _ (y : Machine) (k : ℕ) (c : Task) (h : c .line ≡ 36) (nb : c .b ≡ 
         yes-36 m l =
             let a : answer-36 y c ≡ ans.Yes = insert-yes _ _ (leb-false _ _ room) m in
             let o : overfull-36 y c ≡ false = rw (ne-eqb _ _ nf, eq-eqb _ _ call, l) in
-            passes o ∙ rw (ne-eqb _ _ nf, eq-eqb _ _ call, a)
-
-        pub no-36 : member (c .tag) (tags (y .buckets) (number (c .b))) ≡ true → step-running y k c ≡ accept y k (c .own) (answers ans.No)
-        unfolding overfull-36 line-36 insert-36 answer-36 insert-write tags-of
-        no-36 m =
-            let a : answer-36 y c ≡ ans.No = insert-no _ _ (leb-false _ _ room) m in
-            let o : overfull-36 y c ≡ false = rw a (and-false (not (frozen y (c .b)) && eqb (c .call) 1 && leb 64 (length (tags-of y (c .b))))) in
             passes o ∙ rw (ne-eqb _ _ nf, eq-eqb _ _ call, a)
 
         pub over-36 : member (c .tag) (tags (y .buckets) (number (c .b))) ≡ false → leb 64 (length (tags (y .buckets) (number (c .b)))) ≡ true

@@ -10,6 +10,7 @@ ghost use mathlib.Core.Bool.{true};
 ghost use Prim.Native.Nat.{ℕ, _≤_, _<_};
 ghost use Rattle.spec.specs.Sound.{sound};
 ghost use Rattle.spec.specs.Machine.{machine-of};
+ghost use Rattle.spec.specs.Words.{number, changeable};
 ghost use Rattle.spec.specs.Entries.{step-running};
 ghost use Rattle.lines.specs.Reply.{Gives};
 ghost use Rattle.lines.specs.Running.{Runs, apply-lines};
@@ -24,6 +25,26 @@ pub fn line33(s: State, k: usize, c: Task, ns: &[u32]) -> Moved
     let z = pool::size_of(ns, t);
     let i = bucket::slot(g, c.tag, z);
     lines_contains::read_bucket(s, k, c, t, 36, i, 39, ns)
+}
+
+// INVOKE(b, op) of an insert, with b not frozen: the bucket is searched first, and the listed tags are counted for an absent tag alone
+fn insert36(s: State, k: usize, c: Task, ns: &[u32], bs: &mut [u32]) -> Moved
+    requires { ⌜ (k < 8) × (c .line ≡ 36) × (sound (machine-of s (now ns) (now bs)) ≡ true) × (c .b ≤ s .buckets) × (0 < c .b) × (0 < changeable (now bs) (number (c .b))) × (c .call ≡ 1) ⌝ }
+    ensures { λ r. ⌜ Gives s k r (now (ns .entry)) (now (bs .exit)) (step-running (machine-of s (now (ns .entry)) (now (bs .entry))) k c) ⌝ }
+{
+    let j = c.b as usize - 1;
+    if pool::buckets::has_at(bs, j, c.tag) {
+        return lines::end(s, k, c, Answer::No);
+    }
+    let n = listing::count(s, ns, bs);
+    if 64 <= n {
+        return lines::end(s, k, c, Answer::Full);
+    }
+    let d = pool::buckets::add_at(bs, j, c.tag);
+    if let Response::Yes = d {
+        return lines::end(s, k, c, Answer::Yes);
+    }
+    lines::refused(s, 8)
 }
 
 // INVOKE(b, op): a frozen bucket sends the task back to line 32
@@ -51,17 +72,7 @@ pub fn line36(s: State, k: usize, c: Task, ns: &[u32], bs: &mut [u32]) -> Moved
     }
     let call = c.call;
     if call == 1 {
-        let n = listing::count(s, ns, bs);
-        if 64 <= n {
-            return lines::end(s, k, c, Answer::Full);
-        }
-        let d = pool::buckets::add_at(bs, j, c.tag);
-        return match d {
-            Response::Yes => lines::end(s, k, c, Answer::Yes),
-            Response::No => lines::end(s, k, c, Answer::No),
-            Response::Frozen => lines::refused(s, 8),
-            Response::Full => lines::refused(s, 8),
-        };
+        return insert36(s, k, c, ns, bs);
     }
     let d = pool::buckets::remove_at(bs, j, c.tag);
     match d {

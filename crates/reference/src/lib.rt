@@ -1,4 +1,4 @@
-// A second implementation of the yard set of paper 01, to be compared word by word with the first.
+// A second implementation of the yard set of paper 01, with request U1 of paper 02, to be compared word by word with the first.
 // Its shape: state, pools, what is asked and the reply are words of one memory (reference_words::words has their addresses). The paper's lines are
 // the rows of a table of letters (reference_words::table); a letter stands for something that a line can see, a number (sight.rt). A call first
 // works out what it gives and what every word becomes, from unchanged memory, then stores (stores.rt). Spoilt memory is found word by word, held

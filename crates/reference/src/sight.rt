@@ -223,14 +223,20 @@ pub fn answer(w: &[u32]) -> u32 {
     }
 }
 
-// "for insert, the call ends full if the listed tags number 64 or more, no if b has the tag, else b gains it and the call ends yes; remove takes
-// it out and ends yes, or ends no"
-fn set_answer(w: &[u32]) -> u32 {
-    let inserts = get(w, CALL) == 1;
-    if inserts && 64 <= listed(w) {
-        return 3;
+// "At line 36 an insert of a tag that its unfrozen bucket has now ends no, whatever the count; full is left for absent tags."
+fn insert_answer(w: &[u32]) -> u32 {
+    if has_tag(w) {
+        return 2;
     }
-    either(has_tag(w) == inserts, 2, 1)
+    either(64 <= listed(w), 3, 1)
+}
+
+// "remove takes it out and ends yes, or ends no"; a contains "ends with yes or no".
+fn set_answer(w: &[u32]) -> u32 {
+    if get(w, CALL) == 1 {
+        return insert_answer(w);
+    }
+    either(has_tag(w), 1, 2)
 }
 
 // Whether line 36 changes b: it may change, and the answer is yes.

@@ -51,9 +51,10 @@ full-rows =
     -- the listed tags are counted, not those of b: 63, then 64 with the tag absent and present, a remove that counts none, and 65
     ends-writing (listing 32 31) (holding (by-two 0 32 ++ 90 ∷ []) (by-two 1 31)) (End Yes 3) (at-36 1 90 1)
     ∷ ends (listing 32 32) (End Full 3) (at-36 1 90 1)
-    ∷ ends (listing 32 32) (End Full 3) (at-36 1 4 1)
+    ∷ ends (listing 32 32) (End No 3) (at-36 1 4 1)
     ∷ ends-writing (listing 32 32) (listing 31 32) (End Yes 3) (at-36 2 62 1)
     ∷ ends (listing 33 32) (End Full 3) (at-36 1 90 1)
+    ∷ ends (listing 33 32) (End No 3) (at-36 1 4 1)
     -- a 65th tag in bucket 2: only an insert that would be answered yes needs it
     ∷ refused 8 (listing 1 1) (at-36 1 90 3)
     ∷ ends (listing 1 1) (End No 3) (at-36 1 163 3)

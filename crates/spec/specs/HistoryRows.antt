@@ -25,7 +25,7 @@ pub plain-rows :
     plain (5 ∷ 7 ∷ []) Insert 6 ∷ plain (5 ∷ 7 ∷ []) Insert 5 ∷ plain (range 0 63) Insert 90 ∷ plain (range 0 64) Insert 90 ∷ plain (range 0 64) Insert 5
     ∷ plain (5 ∷ 7 ∷ []) Remove 5 ∷ plain (5 ∷ 7 ∷ []) Remove 6 ∷ plain (5 ∷ 7 ∷ []) Contains 7 ∷ plain (5 ∷ 7 ∷ []) Contains 6 ∷ []
     ≡ answer-and-set Yes (5 ∷ 6 ∷ 7 ∷ []) ∷ answer-and-set No (5 ∷ 7 ∷ []) ∷ answer-and-set Yes (range 0 63 ++ 90 ∷ [])
-    ∷ answer-and-set Full (range 0 64) ∷ answer-and-set Full (range 0 64)
+    ∷ answer-and-set Full (range 0 64) ∷ answer-and-set No (range 0 64)
     ∷ answer-and-set Yes (7 ∷ []) ∷ answer-and-set No (5 ∷ 7 ∷ []) ∷ answer-and-set Yes (5 ∷ 7 ∷ []) ∷ answer-and-set No (5 ∷ 7 ∷ []) ∷ []
 unfolding everything
 plain-rows = refl

@@ -118,8 +118,8 @@ insert-write y c Done = nothing
 insert-write y c Lost = nothing
 insert-write y c Limit = nothing
 
--- "for insert, the call ends full if the listed tags number 64 or more, no if b has the tag, else b gains it and the call ends
--- yes"
+-- paper 02, U1: "At line 36 an insert of a tag that its unfrozen bucket has now ends no, whatever the count; full is left for
+-- absent tags", if the listed tags number 64 or more; else b gains it and the call ends yes
 unfoldable pub answer-36 : Machine → Task → Answer
 answer-36 y c = insert-answer (length (listed y)) (member (c .tag) (tags-of y (c .b)))
 
