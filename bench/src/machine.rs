@@ -66,11 +66,12 @@ pub enum Refusal {
     ShortList = 9,
 }
 
-/// What an accepted start or step gives: the next line, or an answer with the own steps.
+/// What an accepted start or step gives: the next line, or an answer with the own steps and,
+/// of an insert or remove, the number of tags that its bucket holds afterwards (otherwise 0).
 #[derive(Clone, Copy, Debug, PartialEq, Eq)]
 pub enum Output {
     At(u32),
-    End(Answer, u16),
+    End(Answer, u16, u32),
 }
 
 #[derive(Clone, Copy, Debug, Default, PartialEq, Eq)]
@@ -197,7 +198,7 @@ pub fn step(
     let moved = step.task;
     let (record, output) = match next {
         Next::Line(line) => (Task { line, own, ..moved }, Output::At(line)),
-        Next::End(answer) => (Task::default(), Output::End(answer, own)),
+        Next::End(answer, tags) => (Task::default(), Output::End(answer, own, tags)),
     };
     state.task[number] = record;
     Ok(output)

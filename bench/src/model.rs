@@ -34,6 +34,8 @@ struct Model<'a> {
     tasks: u32,
     set: BTreeSet<u32>,
     size: usize,
+    /// The size before the last resize.
+    old_size: usize,
     resizes: u64,
     task: [Option<Running>; MAX_TASKS],
     coverage: &'a mut Coverage,
@@ -53,6 +55,7 @@ pub fn check(
         tasks,
         set,
         size: 1,
+        old_size: 1,
         resizes: 0,
         task,
         coverage,
@@ -126,8 +129,10 @@ impl Model<'_> {
         }
         let good = match output {
             Err(refusal) => refusal == Refusal::NoFreeRecord && matches!(running.line, 27 | 49),
-            Ok(Output::End(answer, own)) => {
-                return own == running.own && self.end(&running, answer);
+            Ok(Output::End(answer, own, tags)) => {
+                return own == running.own
+                    && self.end(&running, answer)
+                    && self.tags_agree(&running, tags);
             }
             Ok(Output::At(line)) => self.at(&mut running, line),
         };
@@ -155,6 +160,22 @@ impl Model<'_> {
             Call::Remove => running.line == 36 && answer == self.remove(running.tag),
             Call::Grow | Call::Shrink => self.resize(running, answer),
         }
+    }
+
+    /// A bucket that may change is one of the head or of its predecessor: after an insert or
+    /// remove it holds the tags of the set that share its place there.
+    fn tags_agree(&self, running: &Running, tags: u32) -> bool {
+        if !matches!(running.call, Call::Insert | Call::Remove) {
+            return tags == 0;
+        }
+        let sharing = |size: usize| {
+            let place = |tag: u32| tag as usize % size;
+            let shares = |&&tag: &&u32| place(tag) == place(running.tag);
+            self.set.iter().filter(shares).count()
+        };
+        [self.size, self.old_size]
+            .map(sharing)
+            .contains(&(tags as usize))
     }
 
     fn insert(&mut self, tag: u32) -> Answer {
@@ -205,6 +226,7 @@ impl Model<'_> {
         if running.resizes != self.resizes {
             return answer == Answer::Lost;
         }
+        self.old_size = self.size;
         self.size = if running.call == Call::Grow {
             2 * self.size
         } else {

@@ -3,14 +3,14 @@
 //!
 //! Event, 4 words: kind (0 step, else a start: 1 insert, 2 remove, 3 contains, 4 grow,
 //! 5 shrink), task, tag, 0.
-//! Output, 3 words: kind (0 at, 1 end, 2 refused), value (line, answer or refusal number),
-//! own steps (0 unless end).
+//! Output, 4 words: kind (0 at, 1 end, 2 refused), value (line, answer or refusal number),
+//! own steps (0 unless end), tags in the bucket afterwards (0 unless end of insert or remove).
 //! Outcome, 1 word: the number of listed tags, or 256 + the number of a refusal.
 
 use crate::machine::{self, Answer, Call, Output, Refusal, State};
 
 pub const EVENT_WORDS: usize = 4;
-pub const OUTPUT_WORDS: usize = 3;
+pub const OUTPUT_WORDS: usize = 4;
 pub const REFUSED: u32 = 256;
 
 const AT: u32 = 0;
@@ -51,17 +51,21 @@ pub fn decode_event(&[kind, task, tag, _]: &EventWords) -> Event {
 
 pub fn encode_output(output: Result<Output, Refusal>) -> OutputWords {
     match output {
-        Ok(Output::At(line)) => [AT, line, 0],
-        Ok(Output::End(answer, own)) => [END, answer as u32, own.into()],
-        Err(refusal) => [REFUSE, refusal as u32, 0],
+        Ok(Output::At(line)) => [AT, line, 0, 0],
+        Ok(Output::End(answer, own, tags)) => [END, answer as u32, own.into(), tags],
+        Err(refusal) => [REFUSE, refusal as u32, 0, 0],
     }
 }
 
-pub fn decode_output(&[kind, value, own]: &OutputWords) -> Option<Result<Output, Refusal>> {
+pub fn decode_output(&[kind, value, own, tags]: &OutputWords) -> Option<Result<Output, Refusal>> {
+    let alone = own == 0 && tags == 0;
     match kind {
-        AT if own == 0 => Some(Ok(Output::At(value))),
-        END => Some(Ok(Output::End(decode_answer(value)?, own.try_into().ok()?))),
-        REFUSE if own == 0 => Some(Err(decode_refusal(value)?)),
+        AT if alone => Some(Ok(Output::At(value))),
+        END => {
+            let own = own.try_into().ok()?;
+            Some(Ok(Output::End(decode_answer(value)?, own, tags)))
+        }
+        REFUSE if alone => Some(Err(decode_refusal(value)?)),
         _ => None,
     }
 }
@@ -155,7 +159,7 @@ mod tests {
             .flat_map(encode_event)
             .collect();
         let (mut nodes, mut buckets) = ([9; 34], [9; 66]);
-        let (mut outputs, mut tags) = ([9; 15], [9; 64]);
+        let (mut outputs, mut tags) = ([9; 20], [9; 64]);
         let outcome = run(
             1,
             &mut nodes,
@@ -165,7 +169,14 @@ mod tests {
             &mut tags,
         );
         assert_eq!(outcome, 1);
-        assert_eq!(outputs, [0, 32, 0, 0, 33, 0, 0, 36, 0, 1, 1, 3, 2, 6, 0]);
+        let expected = [
+            [0, 32, 0, 0],
+            [0, 33, 0, 0],
+            [0, 36, 0, 0],
+            [1, 1, 3, 1],
+            [2, 6, 0, 0],
+        ];
+        assert_eq!(outputs, *expected.as_flattened());
         assert_eq!((tags[0], tags[1]), (17, 9));
     }
 

@@ -2,7 +2,8 @@
 
 use super::*;
 
-/// A machine with its pools, printing outputs as a session does.
+/// A machine with its pools, printing outputs as a session does, but for the tags that an
+/// insert or remove leaves in its bucket.
 struct Session {
     state: State,
     nodes: Vec<u32>,
@@ -23,7 +24,7 @@ fn session(tasks: u32, nodes: usize, buckets: usize) -> Session {
 fn print(task: u32, output: Result<Output, Refusal>) -> String {
     match output {
         Ok(Output::At(line)) => format!("at={task},{line}"),
-        Ok(Output::End(answer, own)) => {
+        Ok(Output::End(answer, own, _)) => {
             format!("end={task},{},{own}", format!("{answer:?}").to_lowercase())
         }
         Err(refusal) => format!("refuse={}", refusal as u32),
@@ -125,6 +126,34 @@ fn full_at_64_tags() {
     assert_eq!(s.call(0, Call::Insert, 63), "end=0,no,3");
     assert_eq!(s.call(0, Call::Insert, 64), "end=0,yes,3");
     assert_eq!(s.tags().len(), 64);
+}
+
+#[test]
+fn an_insert_or_remove_gives_its_buckets_tags() {
+    let mut s = session(1, 3, 4);
+    let mut given = |call, tag| {
+        s.start(0, call, tag);
+        loop {
+            let output = step(&mut s.state, &mut s.nodes, &mut s.buckets, 0);
+            if let Ok(Output::End(answer, _, tags)) = output {
+                return (answer, tags);
+            }
+        }
+    };
+    assert_eq!(given(Call::Remove, 4), (Answer::No, 0));
+    assert_eq!(given(Call::Insert, 4), (Answer::Yes, 1));
+    assert_eq!(given(Call::Insert, 5), (Answer::Yes, 2));
+    assert_eq!(given(Call::Insert, 5), (Answer::No, 2));
+    assert_eq!(given(Call::Contains, 5), (Answer::Yes, 0));
+    assert_eq!(given(Call::Grow, 0), (Answer::Done, 0));
+    assert_eq!(given(Call::Insert, 7), (Answer::Yes, 2));
+    assert_eq!(given(Call::Remove, 5), (Answer::Yes, 1));
+    assert_eq!(given(Call::Remove, 5), (Answer::No, 1));
+    for tag in (9..).step_by(2).take(62) {
+        given(Call::Insert, tag);
+    }
+    assert_eq!(given(Call::Insert, 5), (Answer::Full, 63));
+    assert_eq!(given(Call::Insert, 2), (Answer::Full, 1));
 }
 
 #[test]

@@ -6,9 +6,10 @@ use super::{bucket, held, listed};
 use super::{Answer, Bucket, Call, Node, Refusal, State, Task};
 use super::{MAX_SIZE, MAX_TAGS, NODE_WORDS};
 
+/// The next line, or an answer with the number of tags in the bucket of an insert or remove.
 pub enum Next {
     Line(u32),
-    End(Answer),
+    End(Answer, u32),
 }
 
 type Moved = Result<Next, Refusal>;
@@ -25,7 +26,12 @@ fn to(line: u32) -> Moved {
 }
 
 fn end(answer: Answer) -> Moved {
-    Ok(Next::End(answer))
+    Ok(Next::End(answer, 0))
+}
+
+/// The end of an insert or remove, with its bucket as it is afterwards.
+fn end_with(answer: Answer, bucket: &Bucket) -> Moved {
+    Ok(Next::End(answer, bucket::count(bucket) as u32))
 }
 
 /// The record number in a place that has to be filled.
@@ -158,17 +164,17 @@ impl Step<'_> {
     /// A tag that is there goes before the count of listed tags.
     fn insert(&mut self, number: usize) -> Moved {
         let Err(index) = bucket::search(&self.buckets[number], self.task.tag) else {
-            return end(Answer::No);
+            return end_with(Answer::No, &self.buckets[number]);
         };
         if listed::count(self.state.head, self.nodes, self.buckets) >= MAX_TAGS {
-            return end(Answer::Full);
+            return end_with(Answer::Full, &self.buckets[number]);
         }
         let b = &mut self.buckets[number];
         if bucket::count(b) == MAX_TAGS {
             return Err(Refusal::Corrupt);
         }
         bucket::insert_at(b, index, self.task.tag);
-        end(Answer::Yes)
+        end_with(Answer::Yes, b)
     }
 
     fn remove(&mut self, number: usize) -> Moved {
@@ -176,9 +182,9 @@ impl Step<'_> {
         match bucket::search(b, self.task.tag) {
             Ok(index) => {
                 bucket::remove_at(b, index);
-                end(Answer::Yes)
+                end_with(Answer::Yes, b)
             }
-            Err(_) => end(Answer::No),
+            Err(_) => end_with(Answer::No, b),
         }
     }
 

@@ -223,7 +223,7 @@ fn a_65th_tag_in_a_bucket() {
     };
     assert_eq!(m.step(0), Err(Refusal::Corrupt));
     m.state.task[0].tag = 5;
-    assert_eq!(m.step(0), Ok(Output::End(Answer::No, 1)));
+    assert_eq!(m.step(0), Ok(Output::End(Answer::No, 1, 64)));
     *m.task(Call::Shrink, 49) = Task {
         t: 1,
         m: 3,
@@ -267,8 +267,8 @@ fn more_than_64_listed_tags() {
     };
     let mut present = m.clone();
     present.state.task[0].tag = 2;
-    assert_eq!(m.step(0), Ok(Output::End(Answer::Full, 1)));
-    assert_eq!(present.step(0), Ok(Output::End(Answer::No, 1)));
+    assert_eq!(m.step(0), Ok(Output::End(Answer::Full, 1, 64)));
+    assert_eq!(present.step(0), Ok(Output::End(Answer::No, 1, 64)));
 }
 
 #[test]
@@ -296,5 +296,5 @@ fn own_steps_stay_at_their_limit() {
     assert_eq!(m.step(0), Ok(Output::At(13)));
     assert_eq!(m.state.task[0].own, u16::MAX);
     assert_eq!(m.step(0), Ok(Output::At(18)));
-    assert_eq!(m.step(0), Ok(Output::End(Answer::No, u16::MAX)));
+    assert_eq!(m.step(0), Ok(Output::End(Answer::No, u16::MAX, 0)));
 }

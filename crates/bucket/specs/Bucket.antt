@@ -29,8 +29,9 @@ stands-at p x ts = ltb p (length ts) && eqb (getD ts p 0) x
 unfoldable pub found : ℕ → List ℕ → Bool
 found x ts = stands-at (rank x ts) x ts
 
+-- the next words and the answer, with the number of tags that these words have
 abbrev pub changed : List ℕ → Response → Changed
-changed w d = record { bucket = record { words = w }; answer = d }
+changed w d = record { bucket = record { words = w }; answer = d; count = length (tags-in w) }
 
 unfoldable pub added : Bucket → ℕ → Changed
 added b x =

@@ -9,7 +9,7 @@ ghost use lib.Seq.{paste};
 ghost use Rattle.spec.specs.Lists.{add-tag, remove-tag};
 ghost use Rattle.spec.specs.Words.{bucket-of};
 ghost use Rattle.spec.specs.Listed.{key, slot};
-ghost use Rattle.bucket.specs.Bucket.{rank, stands-at, found, tags-in, added, removed, frozen-of};
+ghost use Rattle.bucket.specs.Bucket.{rank, stands-at, found, tags-in, added, removed, frozen-of, changed};
 
 // A bucket's words, and the most tags that it may have.
 pub const WORDS: usize = 66;
@@ -30,9 +30,11 @@ pub enum Response {
     Full,
 }
 
+// The next bucket, the answer, and how many tags the next bucket holds.
 pub struct Changed {
     pub bucket: Bucket,
     pub answer: Response,
+    pub count: u32,
 }
 
 // n mod size, n itself for size 0. A place's number, which is no tag, goes through this alone.
@@ -152,30 +154,18 @@ impl Bucket {
     {
         let flag = self.words[0];
         if flag == 0 {
-            return Changed {
-                bucket: self,
-                answer: Response::Frozen,
-            };
+            return answered(self, Response::Frozen);
         }
         let p = self.position(tag);
         if self.stands_at(p, tag) {
-            return Changed {
-                bucket: self,
-                answer: Response::No,
-            };
+            return answered(self, Response::No);
         }
         let n = self.count();
         if MOST_TAGS <= n {
-            return Changed {
-                bucket: self,
-                answer: Response::Full,
-            };
+            return answered(self, Response::Full);
         }
         let b = self.put(n, p, tag);
-        Changed {
-            bucket: b,
-            answer: Response::Yes,
-        }
+        answered(b, Response::Yes)
     }
 
     pub fn remove(self, tag: u32) -> Changed
@@ -183,24 +173,15 @@ impl Bucket {
     {
         let flag = self.words[0];
         if flag == 0 {
-            return Changed {
-                bucket: self,
-                answer: Response::Frozen,
-            };
+            return answered(self, Response::Frozen);
         }
         let p = self.position(tag);
         if self.stands_at(p, tag) {
             let n = self.count();
             let b = self.cut(n, p, tag);
-            return Changed {
-                bucket: b,
-                answer: Response::Yes,
-            };
+            return answered(b, Response::Yes);
         }
-        Changed {
-            bucket: self,
-            answer: Response::No,
-        }
+        answered(self, Response::No)
     }
 
     pub fn freeze(self) -> Bucket
@@ -209,6 +190,18 @@ impl Bucket {
         let mut b = self;
         b.words[0] = 0;
         b
+    }
+}
+
+// A bucket with an answer: how many tags it holds is counted here alone.
+pub fn answered(b: Bucket, answer: Response) -> Changed
+    ensures { λ r. ⌜ r ≡ changed (b .words) answer ⌝ }
+{
+    let n = b.count();
+    Changed {
+        bucket: b,
+        answer: answer,
+        count: n as u32,
     }
 }
 

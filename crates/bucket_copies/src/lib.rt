@@ -40,16 +40,10 @@ pub fn union(a: Bucket, b: Bucket) -> Changed
         let d = out.add(w[1 + i]);
         let k = d.answer;
         if let Response::Full = k {
-            return Changed {
-                bucket: b,
-                answer: Response::Full,
-            };
+            return bucket::answered(b, Response::Full);
         }
         out = d.bucket;
         i -= 1;
     }
-    Changed {
-        bucket: out,
-        answer: Response::Yes,
-    }
+    bucket::answered(out, Response::Yes)
 }

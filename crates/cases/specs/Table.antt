@@ -4,12 +4,12 @@ use mathlib.Core.Path.{_≡_, refl}
 use mathlib.Core.List.{List, [], _∷_, _++_, map}
 use Rattle.spec.specs.declared.Answer.the-variants.{Yes, No, Full, Done, Limit}
 use Rattle.spec.specs.declared.Call.the-variants.{Insert, Remove, Contains, Grow, Shrink}
-use Rattle.spec.specs.declared.Output.the-variants.{At, End, Refuse}
+use Rattle.spec.specs.declared.Output.the-variants.{At, Refuse}
 use Rattle.spec.specs.Lists.{range}
 use Rattle.spec.specs.Machine.{config-of}
 use Rattle.spec.specs.Schedule.{starts, steps}
 use Rattle.spec.specs.Everything.{everything}
-use Rattle.spec.specs.Rows.{Case, expected, observed, stepping, calling, inserting, times, in-three, filling, first-grow, grow-to-24, grow-filling, waiting, waiting-outs}
+use Rattle.spec.specs.Rows.{Case, expected, observed, stepping, calling, inserting, times, in-three, gaining, ended, counted, filling, first-grow, grow-to-24, grow-filling, waiting, waiting-outs}
 
 unfoldable pub table : List Case
 table =
@@ -20,9 +20,9 @@ table =
       buckets = 4;
       events = calling 0 Insert 17 3 ++ calling 0 Grow 0 7 ++ calling 0 Contains 17 5;
       outs =
-          At 32 ∷ At 33 ∷ At 36 ∷ End Yes 3
-          ∷ At 20 ∷ At 39 ∷ At 40 ∷ At 51 ∷ At 24 ∷ At 27 ∷ At 28 ∷ End Done 7
-          ∷ At 12 ∷ At 13 ∷ At 15 ∷ At 16 ∷ At 18 ∷ End Yes 5 ∷ [];
+          At 32 ∷ At 33 ∷ At 36 ∷ counted Yes 3 1
+          ∷ At 20 ∷ At 39 ∷ At 40 ∷ At 51 ∷ At 24 ∷ At 27 ∷ At 28 ∷ ended Done 7
+          ∷ At 12 ∷ At 13 ∷ At 15 ∷ At 16 ∷ At 18 ∷ ended Yes 5 ∷ [];
       head = 1;
       size = 2;
       tags = 17 ∷ [];
@@ -38,7 +38,7 @@ table =
           ++ calling 0 Grow 0 116 ++ calling 0 Grow 0 1;
       outs =
           first-grow ++ grow-filling 1 18 ++ grow-filling 3 32 ++ grow-filling 7 60
-          ++ grow-filling 15 116 ++ At 20 ∷ End Limit 1 ∷ [];
+          ++ grow-filling 15 116 ++ At 20 ∷ ended Limit 1 ∷ [];
       head = 1;
       size = 32;
       tags = [];
@@ -50,7 +50,7 @@ table =
       nodes = 2;
       buckets = 1;
       events = calling 0 Shrink 0 1 ++ calling 0 Grow 0 7 ++ calling 0 Shrink 0 1;
-      outs = At 20 ∷ End Limit 1 ∷ first-grow ++ At 20 ∷ At 39 ∷ [];
+      outs = At 20 ∷ ended Limit 1 ∷ first-grow ++ At 20 ∷ At 39 ∷ [];
       head = 1;
       size = 2;
       tags = [];
@@ -62,7 +62,7 @@ table =
       nodes = 1;
       buckets = 1;
       events = inserting 1 64 ++ calling 0 Insert 65 3 ++ calling 0 Insert 1 3 ++ calling 0 Remove 1 3 ++ calling 0 Insert 65 3;
-      outs = times 64 (in-three (End Yes 3)) ++ in-three (End Full 3) ++ in-three (End No 3) ++ times 2 (in-three (End Yes 3));
+      outs = gaining 0 64 ++ in-three (counted Full 3 64) ++ in-three (counted No 3 64) ++ in-three (counted Yes 3 63) ++ in-three (counted Yes 3 64);
       head = 0;
       size = 1;
       tags = range 2 64;
@@ -91,7 +91,7 @@ table =
           ++ At 20 ∷ At 39
           ∷ At 40 ∷ At 43 ∷ At 44 ∷ At 49 ∷ At 50 ∷ At 51 ∷ At 39
           ∷ At 40 ∷ At 43 ∷ At 44 ∷ At 49 ∷ At 50 ∷ At 51 ∷ At 24
-          ∷ At 27 ∷ At 28 ∷ End Done 18 ∷ [];
+          ∷ At 27 ∷ At 28 ∷ ended Done 18 ∷ [];
       head = 0;
       size = 4;
       tags = [];
@@ -106,8 +106,8 @@ table =
       events = waiting ++ calling 1 Insert 5 10 ++ stepping 0 4;
       outs =
           waiting-outs
-          ++ At 32 ∷ At 33 ∷ At 39 ∷ At 40 ∷ At 43 ∷ At 44 ∷ At 49 ∷ At 50 ∷ At 51 ∷ At 36 ∷ End Yes 10
-          ∷ At 32 ∷ At 33 ∷ At 36 ∷ End No 6 ∷ [];
+          ++ At 32 ∷ At 33 ∷ At 39 ∷ At 40 ∷ At 43 ∷ At 44 ∷ At 49 ∷ At 50 ∷ At 51 ∷ At 36 ∷ counted Yes 10 1
+          ∷ At 32 ∷ At 33 ∷ At 36 ∷ counted No 6 1 ∷ [];
       head = 1;
       size = 2;
       tags = 5 ∷ [];
@@ -122,8 +122,8 @@ table =
       outs =
           waiting-outs
           ++ At 32 ∷ At 33 ∷ At 39 ∷ At 40 ∷ At 43 ∷ At 44
-          ∷ End Yes 3
-          ∷ At 49 ∷ At 50 ∷ At 51 ∷ At 36 ∷ End No 10 ∷ [];
+          ∷ counted Yes 3 1
+          ∷ At 49 ∷ At 50 ∷ At 51 ∷ At 36 ∷ counted No 10 1 ∷ [];
       head = 1;
       size = 2;
       tags = 5 ∷ [];
@@ -139,7 +139,7 @@ table =
           ++ stepping 0 3 ++ calling 7 Insert 4294967295 3;
       outs =
           At 32 ∷ Refuse 5 ∷ Refuse 6 ∷ Refuse 4 ∷ Refuse 4
-          ∷ At 33 ∷ At 36 ∷ End Yes 3 ∷ At 32 ∷ At 33 ∷ At 36 ∷ End Yes 3 ∷ [];
+          ∷ At 33 ∷ At 36 ∷ counted Yes 3 1 ∷ At 32 ∷ At 33 ∷ At 36 ∷ counted Yes 3 2 ∷ [];
       head = 0;
       size = 1;
       tags = 0 ∷ 4294967295 ∷ [];
@@ -147,5 +147,5 @@ table =
     ∷ []
 
 pub table-holds : map observed table ≡ map expected table
-unfolding everything expected observed stepping calling inserting times in-three filling first-grow grow-to-24 grow-filling waiting waiting-outs table
+unfolding everything expected observed stepping calling inserting in-three gaining times filling first-grow grow-to-24 grow-filling waiting waiting-outs table
 table-holds = refl

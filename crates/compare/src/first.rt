@@ -47,7 +47,7 @@ fn open(m: &mut [u32], ns: &mut [u32], bs: &mut [u32]) {
     let o = opening::open(g, ns, bs);
     let s = o.state;
     flat::put_state(m, s);
-    flat::reply(m, either(o.refusal == 0, 0, 2), o.refusal, 0);
+    flat::reply(m, either(o.refusal == 0, 0, 2), o.refusal);
 }
 
 // A list into so many of the words from `lent` on.
@@ -66,7 +66,7 @@ fn show(m: &mut [u32], ns: &[u32], bs: &[u32]) {
     let part = queries::show(flat::state_of(m), ns, bs, get(m, ASKED_K));
     let n = part.len() % 1000;
     put_words(m, FIRST + LENT, part);
-    flat::reply(m, 0, n as u32, 0);
+    flat::reply(m, 0, n as u32);
 }
 
 pub fn act(m: &mut [u32], ns: &mut [u32], bs: &mut [u32]) {

@@ -12,10 +12,12 @@ use reference_words::words::T;
 use reference_words::words::either;
 use reference_words::words::field_at;
 use reference_words::words::get;
+use reference_words::words::plus;
 use reference_words::words::put_words;
 use spec::Answer;
 use spec::Config;
 use spec::Listing;
+use spec::Occupancy;
 use spec::Output;
 use spec::State;
 use spec::Task;
@@ -109,9 +111,9 @@ pub fn put_state(m: &mut [u32], s: State) {
     put_tasks(m, s);
 }
 
-// A reply as reference::reply has it.
-pub fn reply(m: &mut [u32], kind: u32, value: u32, own: u32) {
-    put_words(m, FIRST + REPLY, &[kind, value, own]);
+// A reply as the second implementation has it, of no ended call.
+pub fn reply(m: &mut [u32], kind: u32, value: u32) {
+    put_words(m, FIRST + REPLY, &[kind, value, 0, 0]);
 }
 
 fn answer(a: Answer) -> u32 {
@@ -125,18 +127,28 @@ fn answer(a: Answer) -> u32 {
     }
 }
 
+// The number of tags plus 1, 0 where it is not given.
+fn occupancy(o: Occupancy) -> u32 {
+    match o {
+        Occupancy::NotGiven => 0,
+        Occupancy::Tags(n) => plus(n, 1),
+    }
+}
+
 fn put_output(m: &mut [u32], o: Output) {
     match o {
-        Output::At(l) => reply(m, 0, l, 0),
-        Output::End(a, n) => reply(m, 1, answer(a), n as u32),
-        Output::Refuse(r) => reply(m, 2, r, 0),
+        Output::At(l) => reply(m, 0, l),
+        Output::End(a, n, f) => {
+            put_words(m, FIRST + REPLY, &[1, answer(a), n as u32, occupancy(f)])
+        }
+        Output::Refuse(r) => reply(m, 2, r),
     }
 }
 
 pub fn put_listed(m: &mut [u32], l: Listing) {
     match l {
-        Listing::Count(c) => reply(m, 0, c, 0),
-        Listing::Refused(r) => reply(m, 2, r, 0),
+        Listing::Count(c) => reply(m, 0, c),
+        Listing::Refused(r) => reply(m, 2, r),
     }
 }
 

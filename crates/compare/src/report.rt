@@ -53,9 +53,18 @@ fn label(kind: u32) {
     }
 }
 
+// How many tags an ended insert or remove left in its bucket.
+fn tags_left(plus_1: u32) {
+    if 0 < plus_1 {
+        text(b":");
+        decimal(plus_1 - 1);
+    }
+}
+
 fn outcome(m: &[u32]) {
     label(get(m, REPLY));
     decimal(get(m, REPLY + 1));
+    tags_left(get(m, REPLY + 3));
     if get(m, DIFFERS) != 0 {
         text(b" DIFFERS");
     }

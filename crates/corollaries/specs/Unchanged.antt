@@ -28,7 +28,7 @@ at-refused e = let z : _≡_ {A = ℕ} 0 1 = cc in omega arith
 finish-refused : (y : Machine) (k own : ℕ) (n : Next) {r : ℕ} → finish y k own n .out ≡ Refuse r → ⊥
 unfolding finish
 finish-refused y k own (on c) e = at-refused e
-finish-refused y k own (ends a) e = let z : _≡_ {A = ℕ} 0 1 = cc in omega arith
+finish-refused y k own (ends a l) e = let z : _≡_ {A = ℕ} 0 1 = cc in omega arith
 
 pub accept-refused : (y : Machine) (k own : ℕ) (e : Effect) {r : ℕ} → accept y k own e .out ≡ Refuse r → ⊥
 unfolding accept

@@ -9,10 +9,10 @@ use Rattle.spec.specs.declared.Task.{Task}
 use Rattle.spec.specs.declared.Answer.{Answer}
 use Rattle.spec.specs.Lists.{if_then_else_, member}
 use Rattle.spec.specs.Machine.{Machine}
-use Rattle.spec.specs.Words.{number, apply}
+use Rattle.spec.specs.Words.{nothing, number, apply}
 use Rattle.spec.specs.Sound.{bucket-count}
 use Rattle.spec.specs.Listed.{size-of, pred-of, place-of, slot, place-for, tags-of}
-use Rattle.spec.specs.Lines.{Next, on, ends, Effect, moves, answers}
+use Rattle.spec.specs.Lines.{Next, on, ends, Effect, moves, answers-of}
 use Rattle.laws.specs.SoundFacts.{NodeLink, RunFacts, SoundFacts}
 use Rattle.laws.specs.Soundness.{named}
 use Rattle.laws.specs.Ascending.{Rising, ascending-rising}
@@ -23,7 +23,7 @@ use Rattle.laws.specs.WritesKeep.{WriteSound, sound-nothing}
 
 abbrev pub NextSound : Machine → ℕ → Next → Type 0
 NextSound y k (on c) = (c .running ≡ true) × RunFacts y k c
-NextSound y k (ends a) = Unit {0}
+NextSound y k (ends a l) = Unit {0}
 
 pub goes : {y : Machine} {k : ℕ} {c : Task} → c .running ≡ true → RunFacts y k c → (c .running ≡ true) × RunFacts y k c
 goes q r = (q, r)
@@ -41,9 +41,9 @@ module _ (y : Machine) (k : ℕ) where
   sound-if true e g p q = p refl
   sound-if false e g p q = q refl
 
-  pub sound-ends : (a : Answer) → EffectSound y k (answers a)
+  pub sound-ends : (a : Answer) (l : ℕ) → EffectSound y k (answers-of l nothing a)
   unfolding apply
-  sound-ends a = record { write-sound = sound-nothing; next = tt }
+  sound-ends a l = record { write-sound = sound-nothing; next = tt }
 
 pub either : (b : Bool) (u v : ℕ) (l : List ℕ) → member u l ≡ true → member v l ≡ true → member (if b then u else v) l ≡ true
 either true u v l p q = p

@@ -31,7 +31,7 @@ use Rattle.laws.specs.WritesKeep.{write-keeps}
 pub finish-keeps : (y : Machine) → SoundFacts y → (k own : ℕ) (n : Next) → NextSound y k n → SoundFacts (finish y k own n .machine)
 unfolding finish with-own
 finish-keeps y f k own (on c) g = task-keeps y k (with-own own c) f (runs (g .0) (run-own y k c (g .1) own))
-finish-keeps y f k own (ends a) g = task-keeps y k idle f (is-idle refl)
+finish-keeps y f k own (ends a l) g = task-keeps y k idle f (is-idle refl)
 
 pub accept-keeps : (y : Machine) → SoundFacts y → (k own : ℕ) (e : Effect) → EffectSound y k e → SoundFacts (accept y k own e .machine)
 unfolding accept

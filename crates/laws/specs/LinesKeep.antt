@@ -16,7 +16,7 @@ use Rattle.spec.specs.Words.{number, filled, size, Write, put-tags, new-node, n
 use Rattle.spec.specs.Sound.{node-count, bucket-count, lines-of, resizes, within}
 use Rattle.spec.specs.Held.{free-node, free-bucket}
 use Rattle.spec.specs.Listed.{size-of, pred-of, place-of, slot, place-for, tags-of, head-of, listed}
-use Rattle.spec.specs.Lines.{answer-36, insert-write, on, writes, answers-writing, frozen, at-limit, resized, gathered, line-12, line-13, line-15, line-16, line-17, line-18, line-32, line-33, insert-36, remove-36, line-36, line-20, line-24, line-27, line-28, line-39, after-40, line-40, line-43, line-44, line-46, line-47, line-48, line-52, line-49, line-50, line-51, all-lines, find-line, effect}
+use Rattle.spec.specs.Lines.{answer-36, insert-write, on, writes, answers-of, frozen, at-limit, resized, gathered, line-12, line-13, line-15, line-16, line-17, line-18, line-32, line-33, insert-36, remove-36, line-36, line-20, line-24, line-27, line-28, line-39, after-40, line-40, line-43, line-44, line-46, line-47, line-48, line-52, line-49, line-50, line-51, all-lines, find-line, effect}
 use Rattle.spec.specs.StepRefusals.{all-held, gains}
 use Rattle.laws.specs.Tests.{At as Seen, hit, miss, bool?}
 use Rattle.laws.specs.SoundFacts.{NodeLink, RunFacts, SoundFacts}
@@ -95,7 +95,7 @@ module _ (y : Machine) (f : SoundFacts y) (k : ℕ) (c : Task) (going : c .runni
 
   sound-line-18 : c .line ≡ 18 → EffectSound y k (line-18 y c)
   unfolding line-18
-  sound-line-18 e = sound-ends y k _
+  sound-line-18 e = sound-ends y k _ _
 
   sound-line-32 : c .line ≡ 32 → EffectSound y k (line-32 y c)
   unfolding line-32 line-definitions
@@ -130,15 +130,15 @@ module _ (y : Machine) (f : SoundFacts y) (k : ℕ) (c : Task) (going : c .runni
   unfolding member
   b-below e = let d = u .b (at (18 ∷ 36 ∷ []) 36 refl e) in let h = r .b in omega arith
 
-  sound-put-36 : (ks : List ℕ) (a : Answer) → c .line ≡ 36 → length ks ≤ 64 → Rising ks → EffectSound y k (answers-writing (put-tags (number (c .b)) ks) a)
+  sound-put-36 : (ks : List ℕ) (a : Answer) → c .line ≡ 36 → length ks ≤ 64 → Rising ks → EffectSound y k (answers-of (c .b) (put-tags (number (c .b)) ks) a)
   sound-put-36 ks a e few up = record { write-sound = sound-put (b-below e) few up; next = tt }
 
   sound-insert : c .line ≡ 36 → frozen y (c .b) ≡ false → c .call ≡ 1 → EffectSound y k (insert-36 y c)
   unfolding insert-36
   sound-insert e z q = go (answer-36 y c) (u .room e z q) (bool? _)
     where
-      go : (a : Answer) → (a ≡ Yes → length (tags-of y (c .b)) < 64) → (gains a ≡ true) ⊎ (gains a ≡ false) → EffectSound y k (answers-writing (insert-write y c a) a)
-      go a room (inr g) = rw (insert-writes-nothing y c a g) (sound-ends y k a)
+      go : (a : Answer) → (a ≡ Yes → length (tags-of y (c .b)) < 64) → (gains a ≡ true) ⊎ (gains a ≡ false) → EffectSound y k (answers-of (c .b) (insert-write y c a) a)
+      go a room (inr g) = rw (insert-writes-nothing y c a g) (sound-ends y k a _)
       go a room (inl g) =
           let h = room (gains-yes a g) in
           let long = length-add (c .tag) (tags-of y (c .b)) in
@@ -152,7 +152,7 @@ module _ (y : Machine) (f : SoundFacts y) (k : ℕ) (c : Task) (going : c .runni
       let long = length-remove (c .tag) (tags-of y (c .b)) in
       let was = b-long e in
       sound-put-36 (remove-tag (c .tag) (tags-of y (c .b))) _ e (omega arith) (rising-remove (c .tag) (tags-of y (c .b)) (b-rising e)))
-      (λ t. sound-ends y k _)
+      (λ t. sound-ends y k _ _)
 
   sound-line-36 : c .line ≡ 36 → EffectSound y k (line-36 y c)
   unfolding line-36 line-definitions
@@ -163,7 +163,7 @@ module _ (y : Machine) (f : SoundFacts y) (k : ℕ) (c : Task) (going : c .runni
 
   sound-line-20 : c .line ≡ 20 → EffectSound y k (line-20 y c)
   unfolding line-20 line-definitions
-  sound-line-20 e = sound-if y k (at-limit (c .call) (size-of y (head-of y))) _ _ (λ q. sound-ends y k _)
+  sound-line-20 e = sound-if y k (at-limit (c .call) (size-of y (head-of y))) _ _ (λ q. sound-ends y k _ _)
       (λ q. sound-moves y k _
       (goes going (run-to y k (with-i 0 (with-t (head-of y) c)) (run-i y k (with-t (head-of y) c) (run-t y k c r (head-of y) (head-link y f)) 0 (omega arith)) 39
       (next-line 20 39 refl e))))
@@ -202,7 +202,7 @@ module _ (y : Machine) (f : SoundFacts y) (k : ℕ) (c : Task) (going : c .runni
       let d = u .new-node (at (28 ∷ []) 28 refl e) in
       sound-if y k (eqb (head-of y) (c .t)) _ _
       (λ q. record { write-sound = sound-head (named y f (c .«new_node») (r .new-node) d .below) (r .new-node .sized d); next = tt })
-      (λ q. sound-ends y k _)
+      (λ q. sound-ends y k _ _)
 
   i-place : (n : ℕ) → member n (39 ∷ 50 ∷ 51 ∷ []) ≡ true → member n through-t ≡ true → c .line ≡ n → place-of y (c .t) (c .i) ≤ bucket-count y
   i-place n h g e =

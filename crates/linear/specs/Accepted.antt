@@ -36,7 +36,7 @@ use Rattle.linear.specs.Taken.{Taken}
 -- the stepping task's, by its own steps before and the output: at the line that is said, with one own step more, or idle
 abbrev pub OwnAfter : ℕ → Task → Output → Type 0
 OwnAfter own d (Outs.At l) = (d .line ≡ l) × (d .own ≡ min (own + 1) 65535)
-OwnAfter own d (Outs.End a n) = (d .running ≡ false) × (n ≡ min (own + 1) 65535)
+OwnAfter own d (Outs.End a n full) = (d .running ≡ false) × (n ≡ min (own + 1) 65535)
 OwnAfter own d (Outs.Refuse n) = ⊥
 
 module _ (y : Machine) (p own : ℕ) (e : Effect) where
@@ -49,7 +49,7 @@ module _ (y : Machine) (p own : ℕ) (e : Effect) where
 
       go : (n : Next) → getD (finish (apply (e .write) y) p (min (own + 1) 65535) n .machine .state .task) q idle ≡ getD (y .state .task) q idle
       go (Next.on c) = other (with-own (min (own + 1) 65535) c)
-      go (Next.ends a) = other idle
+      go (Next.ends a l) = other idle
 
   pub accept-own : p < length (y .state .task) → OwnAfter own (task-of (accept y p own e .machine) p) (accept y p own e .out)
   unfolding accept finish with-own idle
@@ -60,7 +60,7 @@ module _ (y : Machine) (p own : ℕ) (e : Effect) where
 
       go : (n : Next) → let m = finish (apply (e .write) y) p (min (own + 1) 65535) n in OwnAfter own (task-of (m .machine) p) (m .out)
       go (Next.on c) = (ap (λ (d : Task). d .line) (is _), ap (λ (d : Task). d .own) (is _))
-      go (Next.ends a) = (ap (λ (d : Task). d .running) (is _), refl)
+      go (Next.ends a l) = (ap (λ (d : Task). d .running) (is _), refl)
 
 -- ---- what a running task does
 module _ {y : Machine} {w : Configuration} {L : List Ended} (sim : Simulates y

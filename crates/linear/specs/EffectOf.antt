@@ -13,7 +13,7 @@ use Rattle.spec.specs.Machine.{Machine}
 use Rattle.spec.specs.Words.{link, set-head, set-place, clear-pred, put-tags, new-node, new-bucket}
 use Rattle.spec.specs.Words as Words
 use Rattle.spec.specs.Sound.{node-count, bucket-count}
-use Rattle.spec.specs.Lines.{Effect, moves, writes, answers, answers-writing, effect}
+use Rattle.spec.specs.Lines.{Effect, moves, writes, answers, answers-writing, answers-of, effect}
 use Rattle.spec.specs.StepRefusals.{unsound-step, all-held}
 use Rattle.laws.specs.Held.{HeldNode, HeldBucket}
 use Rattle.model.specs.PlaceState.{empty, changeable, Filled}
@@ -29,10 +29,10 @@ module _ {y : Machine} {h : Heap} {K : ℕ → Type 0} {R : Records} (rep : Repr
   pub data EffectOf (c : Task) (l : Position) : Effect → Type 0 where
     moves-to : {c′ : Task} (l′ : Position) → Step h l h l′ → ((x : ℕ) → Names l′ x → K x) → Matches h R l′ c′ → takes-at l′ ≡ nothing → EffectOf c l (moves c′)
     -- a set call ends
-    ends-call : {call : Call} {k : ℕ} {a : Answer} → EndStep h l call k h a → EffectOf c l (answers a)
+    ends-call : {call : Call} {k : ℕ} {a : Answer} → EndStep h l call k h a → {b : ℕ} → EffectOf c l (answers-of b Words.nothing a)
     ends-writing : {call : Call} {k : ℕ} {a : Answer} (x : ℕ) (v : Bool) (ks : List ℕ) → K x → state-for h x k ≡ changeable → length ks ≤ 64
         → ((j : ℕ) → ¬ (j ≡ k) → member j ks ≡ record-has y (R .bucket x (slot-in h x k)) j) → member k ks ≡ v
-        → EndStep h l call k (put x k v h) a → EffectOf c l (answers-writing (put-tags (R .bucket x (slot-in h x k)) ks) a)
+        → EndStep h l call k (put x k v h) a → {b : ℕ} → EffectOf c l (answers-of b (put-tags (R .bucket x (slot-in h x k)) ks) a)
     -- a resize ends
     ends-resize : (a : Answer) → Step h l h no-call → EffectOf c l (answers a)
     sets-head : (b : Bool) (n r : ℕ) → l ≡ resize b (at-28 (h .head) n) → c .«new_node» ≡ link r → NewNode y K R (h .head) n r → EffectOf c l (answers-writing (set-head r) Done)

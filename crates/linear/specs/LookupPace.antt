@@ -12,6 +12,7 @@ use Rattle.spec.specs.declared.Task.{Task}
 use Rattle.spec.specs.declared.Answer.{Answer}
 use Rattle.spec.specs.declared.Call.{Call}
 use Rattle.spec.specs.declared.Call.the-variants.{Contains}
+use Rattle.spec.specs.declared.Occupancy.{Occupancy}
 use Rattle.spec.specs.declared.Output.{Output}
 use Rattle.spec.specs.declared.Output.the-variants as Outs
 use Rattle.spec.specs.Lists.{if_then_else_}
@@ -54,7 +55,7 @@ at-most-four (empty-before-18 e m) = omega arith
 -- an accepted step of a contains, by its output
 abbrev PacedOn : ℕ → Output → Type 0
 PacedOn made (Outs.At l) = Paced l (suc made)
-PacedOn made (Outs.End a n) = Unit {0}
+PacedOn made (Outs.End a n full) = Unit {0}
 PacedOn made (Outs.Refuse n) = Unit {0}
 
 module _ (y : Machine) (p : ℕ) (c : Task) (made : ℕ) where
@@ -140,7 +141,7 @@ module _ (r : ℕ → Progress) (y : Machine) (eight : length (y .state .task) �
       where
         go : (o : Output) → progress r (steps p) o q ≡ r q
         go (Outs.At l) = rw (ne-eqb q p d)
-        go (Outs.End a n) = rw (ne-eqb q p d)
+        go (Outs.End a n full) = rw (ne-eqb q p d)
         go (Outs.Refuse n) = refl
 
     -- what is known of the stepping task if it is a contains, with the output of its step
@@ -160,10 +161,10 @@ module _ (r : ℕ → Progress) (y : Machine) (eight : length (y .state .task) �
     went-on l a v q (yes e) = rw (e, eq-eqb p p refl) (λ run contains. rw (a .0, a .1) (v contains .0, v contains .1))
     went-on l a v q (no d) = other-after (Outs.At l) q d
 
-    has-ended : (a : Answer) (n : ℕ) → task-of (after .machine) p .running ≡ false
-        → (q : ℕ) → Dec (q ≡ p) → ContainsPaced (progress r (steps p) (Outs.End a n)) (after .machine) q
-    has-ended a n idle q (yes e) = rw e (λ run. absurd (tf run idle))
-    has-ended a n idle q (no d) = other-after (Outs.End a n) q d
+    has-ended : (a : Answer) (n : ℕ) (full : Occupancy) → task-of (after .machine) p .running ≡ false
+        → (q : ℕ) → Dec (q ≡ p) → ContainsPaced (progress r (steps p) (Outs.End a n full)) (after .machine) q
+    has-ended a n full idle q (yes e) = rw e (λ run. absurd (tf run idle))
+    has-ended a n full idle q (no d) = other-after (Outs.End a n full) q d
 
     accepted-step : task-of y p .running ≡ true → PacedAfter r (steps p) after
     unfolding progress stepped
@@ -173,8 +174,8 @@ module _ (r : ℕ → Progress) (y : Machine) (eight : length (y .state .task) �
         go : (o : Output) → OwnAfter (task-of y p .own) (task-of (after .machine) p) o → Going o
             → ((q : ℕ) → ContainsPaced (progress r (steps p) o) (after .machine) q) × WithinFive (progress r (steps p) o) (steps p) o
         go (Outs.At l) a v = (λ q. went-on l a v q (ℕ-discrete q p), rw (eq-eqb p p refl) (λ contains. at-most-four (v contains .0)))
-        go (Outs.End b n) a v = (
-          λ q. has-ended b n (a .0) q (ℕ-discrete q p),
+        go (Outs.End b n full) a v = (
+          λ q. has-ended b n full (a .0) q (ℕ-discrete q p),
           rw (eq-eqb p p refl) (λ contains. (a .1 ∙ v contains .1, (let i = a .1 in let j = v contains .1 in let k = v contains .2 in omega arith))),
         )
         go (Outs.Refuse n) a v = absurd a

@@ -6,6 +6,7 @@ use mathlib.Core.List.{List}
 use Prim.Native.Nat.{ℕ, suc, _+_, _≤_, _<_, min}
 use native.Mathlib.Omega.{arith}
 use Rattle.spec.specs.declared.Task.{Task}
+use Rattle.spec.specs.declared.Occupancy.{Occupancy}
 use Rattle.spec.specs.declared.Output.{Output}
 use Rattle.spec.specs.declared.Output.the-variants as Outs
 use Rattle.spec.specs.Machine.{Machine, idle, with-own, set-task, task-of}
@@ -50,8 +51,10 @@ use Rattle.linear.specs.OthersSee.{OthersSee}
 -- what a step says, and the configuration after it
 pub data Outcome (w : Configuration) (p own : ℕ) : Output → Configuration → Type 0 where
   went-on : {n : ℕ} (g : Heap) (l : Position) → Step (w .heap) (w .position p) g l → Outcome w p own (Outs.At n) (after-step w p g l)
-  call-ended : {c : Call} {k : ℕ} {a : Answer} (g : Heap) → EndStep (w .heap) (w .position p) c k g a → Outcome w p own (Outs.End a (min (own + 1) 65535)) (after-end w p c k g a)
-  resize-ended : (a : Answer) (g : Heap) → Step (w .heap) (w .position p) g no-call → Outcome w p own (Outs.End a (min (own + 1) 65535)) (after-step w p g no-call)
+  call-ended : {c : Call} {k : ℕ} {a : Answer} (g : Heap) → EndStep (w .heap) (w .position p) c k g a → {full : Occupancy}
+      → Outcome w p own (Outs.End a (min (own + 1) 65535) full) (after-end w p c k g a)
+  resize-ended : (a : Answer) (g : Heap) → Step (w .heap) (w .position p) g no-call → {full : Occupancy}
+      → Outcome w p own (Outs.End a (min (own + 1) 65535) full) (after-step w p g no-call)
 
 pub record StepSimulated (w : Configuration) (p own : ℕ) (m : Reply) : Type 0 where
   pub configuration : Configuration

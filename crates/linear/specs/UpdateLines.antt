@@ -15,7 +15,7 @@ use Rattle.spec.specs.Machine.{Machine, with-line, with-i, with-t, with-s, with
 use Rattle.spec.specs.Words.{Write, link, number, put-tags}
 use Rattle.spec.specs.Words as Words
 use Rattle.spec.specs.Listed.{slot, size-of, place-of, tags-of, listed}
-use Rattle.spec.specs.Lines.{Effect, answers-writing, frozen, line-32, line-33, answer-36, insert-36, remove-36, line-36, line-51}
+use Rattle.spec.specs.Lines.{Effect, answers-of, frozen, line-32, line-33, answer-36, insert-36, remove-36, line-36, line-51}
 use Rattle.spec.specs.Plain.{insert-answer}
 use Rattle.spec.specs.StepRefusals.{gains, overfull-36}
 use Rattle.laws.specs.StepAt.{step-table, sound-at, does-at}
@@ -187,7 +187,7 @@ module _ {y : Machine} {h : Heap} {K : ℕ → Type 0} {R : Records} (f : SoundF
           let lt = few x kx (o .1) (m .2) is in
           let r = room x kx (o .1) (m .2) e in
           let s = length-add k T in
-          rw (insert-writes-tag y c (answer-36 y c) is, is) (subst (λ (u : Write). EffectOf rep c (update true k (at-36 x)) (answers-writing u Yes)) (sym place-word)
+          rw (insert-writes-tag y c (answer-36 y c) is, is) (subst (λ (u : Write). EffectOf rep c (update true k (at-36 x)) (answers-of (c .b) u Yes)) (sym place-word)
           (ends-writing {k = k} x true (add-tag k T) kx e (omega arith) (λ j n. member-add j k T ∙ rw (ne-eqb j k n)) (member-add k k T ∙ rw (eq-eqb k k refl))
           (end-36-added (listed y) e l (sym answer ∙ is))))
 
@@ -200,7 +200,7 @@ module _ {y : Machine} {h : Heap} {K : ℕ → Type 0} {R : Records} (f : SoundF
           let w = facts x kx (o .1) (m .2) .few in
           let w′ = facts x kx (o .1) (m .2) .long in
           let r = rises x kx (o .1) (m .2) in
-          rw (hasit, u) (subst (λ (u : Write). EffectOf rep c (update false k (at-36 x)) (answers-writing u Yes)) (sym place-word)
+          rw (hasit, u) (subst (λ (u : Write). EffectOf rep c (update false k (at-36 x)) (answers-of (c .b) u Yes)) (sym place-word)
           (ends-writing {k = k} x false (remove-tag k T) kx e (omega arith) (λ j n. member-remove j k T r ∙ rw (ne-eqb j k n))
           (member-remove k k T r ∙ rw (eq-eqb k k refl)) (end-36-removed e u)))
 

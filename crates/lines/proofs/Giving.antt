@@ -29,7 +29,7 @@ module _ {s : State} {k : ℕ} {m : Moved} {ns bs : List ℕ} {r : Reply} where
     where
       number-of : Output → ℕ
       number-of (At l) = 0
-      number-of (End a n) = 0
+      number-of (End a n full) = 0
       number-of (Refuse w) = w
 
   pub going : changes (m .out) k ≡ true → moved-reply s k m ns bs ≡ r → Gives s k m ns bs r

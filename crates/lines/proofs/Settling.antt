@@ -9,12 +9,13 @@ use borrow.Author.Tests.{le-ltb, lt-ltb, ltb-true}
 use lib.ListN.{set}
 use Rattle.spec.specs.Machine.{machine-of, idle, with-line, with-own, with-state, with-task, set-task}
 use Rattle.spec.specs.Machine.{state-head, state-last-node, state-last-bucket, state-task}
-use Rattle.spec.specs.Words.{apply}
-use Rattle.spec.specs.Lines.{moves, answers}
-use Rattle.spec.specs.Entries.{Reply, finish, accept}
+use Rattle.spec.specs.Words.{nothing, apply}
+use Rattle.spec.specs.Lines.{moves, answers-of}
+use Rattle.spec.specs.Entries.{Reply, occupancy, finish, accept}
 use Rattle.spec.specs.declared.Task.{Task}
 use Rattle.spec.specs.declared.Answer.{Answer}
 use Rattle.spec.specs.declared.State.{State}
+use Rattle.spec.specs.declared.Occupancy.{Occupancy}
 use Rattle.spec.specs.declared.Output.{Output}
 use Rattle.spec.specs.declared.Output.the-variants.{At, End, Refuse}
 use Rattle.lines.specs.declared.Moved.{Moved}
@@ -25,13 +26,13 @@ use Rattle.lines.specs.Reply.{changes, settled, moved-reply}
 pub changes-past : (o : Output) (k : ℕ) → 8 ≤ k → changes o k ≡ false
 unfolding changes
 changes-past (At l) k h = le-ltb _ _ h
-changes-past (End a n) k h = le-ltb _ _ h
+changes-past (End a n full) k h = le-ltb _ _ h
 changes-past (Refuse w) k h = refl
 
 pub changes-below : (o : Output) (k : ℕ) → changes o k ≡ true → k < 8
 unfolding changes
 changes-below (At l) k h = ltb-true _ _ h
-changes-below (End a n) k h = ltb-true _ _ h
+changes-below (End a n full) k h = ltb-true _ _ h
 changes-below (Refuse w) k h = absurd (let z : _≡_ {A = ℕ} 0 1 = cc in omega arith)
 
 -- ---- the state afterwards
@@ -59,9 +60,11 @@ module _ (s : State) (k : ℕ) (c : Task) (low : k < 8) (ns bs : List ℕ) where
   unfolding accept finish set-task with-task with-state state-head state-last-node state-last-bucket state-task with-line apply settled changes
   goes-on l = let e = lt-ltb _ _ low in rw e
 
-  pub ends-so : (a : Answer) → moved-reply s k (gives (End a (min (c .own + 1) 65535)) idle) ns bs ≡ accept (machine-of s ns bs) k (c .own) (answers a)
+  -- so full is the bucket that the link names
+  pub ends-so : (a : Answer) (full : Occupancy) (l : ℕ) → full ≡ occupancy (machine-of s ns bs) l
+      → moved-reply s k (gives (End a (min (c .own + 1) 65535) full) idle) ns bs ≡ accept (machine-of s ns bs) k (c .own) (answers-of l nothing a)
   unfolding accept finish set-task with-task with-state state-head state-last-node state-last-bucket state-task apply settled changes
-  ends-so a = let e = lt-ltb _ _ low in rw e
+  ends-so a full l q = let e = lt-ltb _ _ low in rw (e, q)
 
 -- A line that takes a record or moves the head makes its answer over the state with that change. The answer over the state before is
 -- the same, since what it gives stands in the place of the change.

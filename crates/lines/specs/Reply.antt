@@ -22,7 +22,7 @@ reply-of r ns bs = record { out = r .out; machine = machine-of (r .state) ns bs 
 -- a line gives what it may change of the state, which stays as it was after a refusal
 unfoldable pub changes : Output → ℕ → Bool
 changes (At l) k = ltb k 8
-changes (End a n) k = ltb k 8
+changes (End a n full) k = ltb k 8
 changes (Refuse w) k = false
 
 unfoldable pub settled : State → ℕ → Moved → State

@@ -3,6 +3,7 @@
 // reads or writes. What it gives, stored in the state, is what `step-running` of the definitions gives for a task that stands there.
 use spec::Answer;
 use spec::Call;
+use spec::Occupancy;
 use spec::Output;
 use spec::State;
 use spec::Task;
@@ -11,8 +12,9 @@ ghost use mathlib.Core.List.{List};
 ghost use mathlib.Core.Bool.{true};
 ghost use Prim.Native.Nat.{ℕ, _+_, _<_, min};
 ghost use Rattle.spec.specs.Machine.{with-line, machine-of};
-ghost use Rattle.spec.specs.Lines.{moves, answers};
-ghost use Rattle.spec.specs.Entries.{accept, started};
+ghost use Rattle.spec.specs.Words.{number, count, nothing};
+ghost use Rattle.spec.specs.Lines.{moves, answers, answers-of};
+ghost use Rattle.spec.specs.Entries.{accept, occupancy, started};
 ghost use Rattle.lines.specs.Reply.{reply-of, changes, moved-reply, refusal};
 
 // What an entry answers, and the state after it.
@@ -43,7 +45,7 @@ pub fn changes(out: Output, k: u32) -> bool
     }
     match out {
         Output::At(_) => true,
-        Output::End(_, _) => true,
+        Output::End(_, _, _) => true,
         Output::Refuse(_) => false,
     }
 }
@@ -120,18 +122,34 @@ pub fn go(s: State, k: usize, c: Task, l: u32) -> Moved
     }
 }
 
-// The call ends.
-pub fn end(s: State, k: usize, c: Task, a: Answer) -> Moved
+// What is left of a call that ends: its answer, own steps and how full its bucket is, and an idle record.
+fn ended(s: State, k: usize, c: Task, a: Answer, full: Occupancy) -> Moved
     requires { ⌜ k < 8 ⌝ }
-    ensures { λ r. ⌜ ((ns bs : List ℕ) → moved-reply s k r ns bs ≡ accept (machine-of s ns bs) k (c .own) (answers a)) × (changes (r .out) k ≡ true) ⌝ }
+    ensures { λ r. ⌜ ((ns bs : List ℕ) (l : ℕ) → full ≡ occupancy (machine-of s ns bs) l → moved-reply s k r ns bs ≡ accept (machine-of s ns bs) k (c .own) (answers-of l nothing a)) × (changes (r .out) k ≡ true) ⌝ }
 {
     let n = one_more_own_step(c.own);
     let x = state::idle();
     Moved {
-        out: Output::End(a, n),
+        out: Output::End(a, n, full),
         head: s.head,
         last_node: s.last_node,
         last_bucket: s.last_bucket,
         task: x,
     }
+}
+
+// A contains or a resize ends.
+pub fn end(s: State, k: usize, c: Task, a: Answer) -> Moved
+    requires { ⌜ k < 8 ⌝ }
+    ensures { λ r. ⌜ ((ns bs : List ℕ) → moved-reply s k r ns bs ≡ accept (machine-of s ns bs) k (c .own) (answers a)) × (changes (r .out) k ≡ true) ⌝ }
+{
+    ended(s, k, c, a, Occupancy::NotGiven)
+}
+
+// An insert or a remove ends, with n tags in its bucket.
+pub fn end_counted(s: State, k: usize, c: Task, a: Answer, n: u32) -> Moved
+    requires { ⌜ (k < 8) × (0 < c .b) ⌝ }
+    ensures { λ r. ⌜ ((ns bs : List ℕ) → n ≡ count bs (number (c .b)) → moved-reply s k r ns bs ≡ accept (machine-of s ns bs) k (c .own) (answers-of (c .b) nothing a)) × (changes (r .out) k ≡ true) ⌝ }
+{
+    ended(s, k, c, a, Occupancy::Tags(n))
 }

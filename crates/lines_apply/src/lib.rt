@@ -10,10 +10,10 @@ ghost use mathlib.Core.Bool.{true};
 ghost use Prim.Native.Nat.{ℕ, _≤_, _<_};
 ghost use Rattle.spec.specs.Sound.{sound};
 ghost use Rattle.spec.specs.Machine.{machine-of};
-ghost use Rattle.spec.specs.Words.{number, changeable};
 ghost use Rattle.spec.specs.Entries.{step-running};
 ghost use Rattle.lines.specs.Reply.{Gives};
 ghost use Rattle.lines.specs.Running.{Runs, apply-lines};
+ghost use Rattle.lines_apply.specs.Invokes.{Invokes};
 
 // b <- t.buckets[k mod t.size]; if b = nil (line 34) INITBUCKET
 pub fn line33(s: State, k: usize, c: Task, ns: &[u32]) -> Moved
@@ -27,24 +27,41 @@ pub fn line33(s: State, k: usize, c: Task, ns: &[u32]) -> Moved
     lines_contains::read_bucket(s, k, c, t, 36, i, 39, ns)
 }
 
-// INVOKE(b, op) of an insert, with b not frozen: the bucket is searched first, and the listed tags are counted for an absent tag alone
+// INVOKE(b, op) of an insert, with b not frozen: the bucket is searched first, and the listed tags are counted for an absent tag alone.
+// Each answer goes with how many tags b then holds.
 fn insert36(s: State, k: usize, c: Task, ns: &[u32], bs: &mut [u32]) -> Moved
-    requires { ⌜ (k < 8) × (c .line ≡ 36) × (sound (machine-of s (now ns) (now bs)) ≡ true) × (c .b ≤ s .buckets) × (0 < c .b) × (0 < changeable (now bs) (number (c .b))) × (c .call ≡ 1) ⌝ }
+    requires { ⌜ Invokes k c (now bs) × (c .call ≡ 1) × (sound (machine-of s (now ns) (now bs)) ≡ true) ⌝ }
     ensures { λ r. ⌜ Gives s k r (now (ns .entry)) (now (bs .exit)) (step-running (machine-of s (now (ns .entry)) (now (bs .entry))) k c) ⌝ }
 {
     let j = c.b as usize - 1;
+    let n = pool::word(bs, 66 * j + 1);
     if pool::buckets::has_at(bs, j, c.tag) {
-        return lines::end(s, k, c, Answer::No);
+        return lines::end_counted(s, k, c, Answer::No, n);
     }
-    let n = listing::count(s, ns, bs);
-    if 64 <= n {
-        return lines::end(s, k, c, Answer::Full);
+    let listed = listing::count(s, ns, bs);
+    if 64 <= listed {
+        return lines::end_counted(s, k, c, Answer::Full, n);
     }
     let d = pool::buckets::add_at(bs, j, c.tag);
-    if let Response::Yes = d {
-        return lines::end(s, k, c, Answer::Yes);
+    let r = d.response;
+    if let Response::Yes = r {
+        return lines::end_counted(s, k, c, Answer::Yes, d.count);
     }
     lines::refused(s, 8)
+}
+
+// INVOKE(b, op) of a remove, with b not frozen
+fn remove36(s: State, k: usize, c: Task, bs: &mut [u32]) -> Moved
+    requires { ⌜ Invokes k c (now bs) × (c .call ≡ 1 → ⊥) ⌝ }
+    ensures { λ r. ⌜ ((ns : List ℕ) → Gives s k r ns (now (bs .exit)) (step-running (machine-of s ns (now (bs .entry))) k c)) ⌝ }
+{
+    let j = c.b as usize - 1;
+    let d = pool::buckets::remove_at(bs, j, c.tag);
+    let r = d.response;
+    if let Response::Yes = r {
+        return lines::end_counted(s, k, c, Answer::Yes, d.count);
+    }
+    lines::end_counted(s, k, c, Answer::No, d.count)
 }
 
 // INVOKE(b, op): a frozen bucket sends the task back to line 32
@@ -56,8 +73,7 @@ pub fn line36(s: State, k: usize, c: Task, ns: &[u32], bs: &mut [u32]) -> Moved
     if b == 0 {
         return lines::refused(s, 8);
     }
-    let j = b as usize - 1;
-    let f = pool::word(bs, 66 * j);
+    let f = pool::word(bs, 66 * (b as usize - 1));
     if f == 0 {
         let mut x = c;
         x.i = 0;
@@ -74,13 +90,7 @@ pub fn line36(s: State, k: usize, c: Task, ns: &[u32], bs: &mut [u32]) -> Moved
     if call == 1 {
         return insert36(s, k, c, ns, bs);
     }
-    let d = pool::buckets::remove_at(bs, j, c.tag);
-    match d {
-        Response::Yes => lines::end(s, k, c, Answer::Yes),
-        Response::No => lines::end(s, k, c, Answer::No),
-        Response::Frozen => lines::refused(s, 8),
-        Response::Full => lines::refused(s, 8),
-    }
+    remove36(s, k, c, bs)
 }
 
 // The line at which task k stands.

@@ -133,10 +133,7 @@ fn new_bucket_of(g: Config, c: Task, ns: &[u32], bs: &[u32]) -> Changed
     if n == 0 {
         let z = pool::size_of(ns, c.t);
         let b = bucket_copies::split(a, g, z, c.i);
-        return Changed {
-            bucket: b,
-            answer: Response::Yes,
-        };
+        return bucket::answered(b, Response::Yes);
     }
     let b = pool::buckets::load(bs, n as usize - 1);
     bucket_copies::union(a, b)

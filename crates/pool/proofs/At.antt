@@ -8,18 +8,27 @@ use native.Mathlib.Omega.{arith}
 use borrow.Author.Tests.{leb-true, lt-ltb, le-ltb}
 use lib.Dec.{leb, ltb, eqb}
 use lib.ListN.{length, getD, take, drop, set, replicate, length-drop, take-append-drop}
-use lib.Seq.{take-take, drop-drop, getD-take, getD-drop, length-take-le}
+use lib.Seq.{take-take, drop-drop, getD-take, getD-drop, getD-append-add, length-take-le}
 use Rattle.laws.specs.Tests.{and-left, and-right}
-use Rattle.spec.specs.Lists.{member, ascending}
-use Rattle.spec.specs.Words.{changeable, count, tags, overwrite, node-of}
+use Rattle.spec.specs.Lists.{member, ascending, add-tag, remove-tag}
+use Rattle.spec.specs.Words.{changeable, count, tags, overwrite, node-of, bucket-of}
 use Rattle.spec.specs.Sound.{sound-bucket, zeros}
 use Rattle.bucket.specs.declared.Bucket.{Bucket}
-use Rattle.bucket.specs.declared.Response.the-variants.{Frozen}
+use Rattle.bucket.specs.declared.Response.{Response}
+use Rattle.bucket.specs.declared.Response.the-variants.{Yes, No, Frozen, Full}
 use Rattle.bucket.specs.Bucket.{tags-in, found, added, removed, frozen-of}
 use Rattle.bucket.proofs.Laws.{found-member}
-use Rattle.bucket.proofs.Pad.{drop-take}
-use Rattle.pool.specs.Pool.{store-node, front-of, bucket-at, store-bucket, add-answer, add-words, remove-answer, remove-words}
-use Rattle.pool.proofs.Part.{back, back-set}
+use Rattle.bucket.proofs.Pad.{drop-take, tags-of-bucket}
+use Rattle.pool.specs.declared.buckets.Answered.{Answered}
+use Rattle.pool.specs.Pool.{store-node, front-of, bucket-at, store-bucket, answer-of, add-answer, add-words, remove-answer, remove-words}
+use Rattle.pool.proofs.Part.{rest, back, back-set}
+
+abbrev says : Response → ℕ → Answered
+says r n = record { response = r; count = n }
+
+-- the part from word i on, as a loan of it has it
+abbrev pub lent : List ℕ → ℕ → List ℕ
+lent p i = take (length p - i) (drop i p)
 
 -- words written over themselves
 pub over-same : (w : List ℕ) (i n : ℕ) → i + n ≤ length w → overwrite w i (take n (drop i w)) ≡ w
@@ -61,6 +70,11 @@ pub node-here : (w : List ℕ) (k sz l : ℕ) → 34 * k + 34 ≤ length w → s
 unfolding store-node
 node-here w k sz l h = let i : k < length w / 34 = omega arith in rw (lt-ltb _ _ i)
 
+-- the second word of a bucket is how many tags it has
+second : (f : ℕ) (ts rest : List ℕ) → getD (bucket-of f ts ++ rest) 1 0 ≡ length ts
+unfolding bucket-of
+second f ts rest = refl
+
 -- a bucket number in the pool
 module _ (w : List ℕ) (k : ℕ) (h : 66 * k + 66 ≤ length w) where
   here : ltb k (length w / 66) ≡ true
@@ -82,6 +96,32 @@ module _ (w : List ℕ) (k : ℕ) (h : 66 * k + 66 ≤ length w) where
       store-here (frozen-of (bucket-at w k)) ∙ ap (λ (b : Bucket). overwrite w (66 * k) (frozen-of b .words)) bucket-here
       ∙ sym (back w (66 * k) v (overwrite d 0 v) refl) ∙ back-set w (66 * k) 0 (overwrite d 0 v) (omega arith) (over-first d 0 l)
 
+  -- ---- the part that begins at the bucket's first word, lent: what is asked of the bucket there, and what comes back
+
+  pub lent-room : 66 ≤ length (lent w (66 * k))
+  lent-room = rw (rest w (66 * k), length-drop (66 * k) w) (omega arith)
+
+  pub lent-front : {A : Type 0} (f : Bucket → A) → f (front-of (lent w (66 * k))) ≡ f (bucket-at w k)
+  lent-front f = ap (λ (l : List ℕ). f (front-of l)) (rest w (66 * k)) ∙ ap f (sym bucket-here)
+
+  pub put-back : (f : Bucket → Bucket) (q : List ℕ) → q ≡ overwrite (lent w (66 * k)) 0 (f (front-of (lent w (66 * k))) .words)
+      → take (66 * k) w ++ (q ++ drop (length w - 66 * k) (drop (66 * k) w)) ≡ store-bucket w k (f (bucket-at w k))
+  put-back f q e =
+      let whole = ap (λ (l : List ℕ). overwrite l 0 (f (front-of l) .words)) (rest w (66 * k)) in
+      let named = ap (λ (b : Bucket). overwrite (drop (66 * k) w) 0 (f b .words)) (sym bucket-here) in
+      back w (66 * k) (f (bucket-at w k) .words) q (e ∙ whole ∙ named) ∙ sym (store-here (f (bucket-at w k)))
+
+  -- a bucket of these tags written there has as many as its second word says
+  pub count-over : (ts : List ℕ) → length (tags-in (bucket-of 1 ts)) ≡ count (overwrite w (66 * k) (bucket-of 1 ts)) k
+  unfolding count overwrite
+  count-over ts =
+      let before = take (66 * k) w in
+      let l : length before ≡ 66 * k = length-take-le (66 * k) w (omega arith) in
+      let after = drop (66 * k + length (bucket-of 1 ts)) w in
+      let at : 66 * k + 1 ≡ length before + 1 = omega arith in
+      let there : getD (before ++ (bucket-of 1 ts ++ after)) (66 * k + 1) 0 ≡ length ts = rw at (getD-append-add before _ 1 0 ∙ second 1 ts after) in
+      ap (λ (v : List ℕ). length v) (tags-of-bucket 1 ts) ∙ sym (rw (append-assoc before (bucket-of 1 ts) after) there)
+
 -- a bucket number past the pool
 module _ (w : List ℕ) (k : ℕ) (h : length w / 66 ≤ k) where
   pub bucket-past : bucket-at w k ≡ record { words = replicate 66 0 }
@@ -92,11 +132,11 @@ module _ (w : List ℕ) (k : ℕ) (h : length w / 66 ≤ k) where
   unfolding store-bucket
   store-past b = rw (le-ltb _ _ h)
 
-  pub add-past : (x : ℕ) → added (bucket-at w k) x .answer ≡ Frozen
+  pub add-past : (x : ℕ) → answer-of (added (bucket-at w k) x) ≡ record { response = Frozen; count = 0 }
   unfolding added
   add-past x = rw bucket-past
 
-  pub remove-past : (x : ℕ) → removed (bucket-at w k) x .answer ≡ Frozen
+  pub remove-past : (x : ℕ) → answer-of (removed (bucket-at w k) x) ≡ record { response = Frozen; count = 0 }
   unfolding removed
   remove-past x = rw bucket-past
 
@@ -137,6 +177,17 @@ module _ (w : List ℕ) (k : ℕ) (s : sound-bucket (drop (66 * k) w) ≡ true) 
     pub tags-here : tags-in (bucket-at w k .words) ≡ tags w k
     tags-here = ap (λ (b : Bucket). tags-in (b .words)) (bucket-here w k h) ∙ tags-front
 
+    -- the number of its tags is its second word
+    pub tags-count : length (tags w k) ≡ count w k
+    unfolding tags
+    tags-count =
+        let f = few in
+        let l : count w k ≤ length (drop (66 * k + 2) w) = rw (length-drop (66 * k + 2) w) (omega arith) in
+        length-take-le (count w k) (drop (66 * k + 2) w) l
+
+    count-here : length (tags-in (bucket-at w k .words)) ≡ count w k
+    count-here = ap (λ (ts : List ℕ). length ts) tags-here ∙ tags-count
+
     flag-here : getD (bucket-at w k .words) 0 0 ≡ changeable w k
     flag-here = ap (λ (b : Bucket). getD (b .words) 0 0) (bucket-here w k h) ∙ flag-front
 
@@ -147,27 +198,34 @@ module _ (w : List ℕ) (k : ℕ) (s : sound-bucket (drop (66 * k) w) ≡ true) 
       same : store-bucket w k (bucket-at w k) ≡ w
       same = store-here w k h (bucket-at w k) ∙ ap (λ (b : Bucket). overwrite w (66 * k) (b .words)) (bucket-here w k h) ∙ over-same w (66 * k) 66 h
 
+      -- adding, and removing: the answer, how many tags the record then has, and the words
       abbrev Added : Type 0
-      Added = (added (bucket-at w k) x .answer ≡ add-answer w k x) × (store-bucket w k (added (bucket-at w k) x .bucket) ≡ add-words w k x)
+      Added =
+          (answer-of (added (bucket-at w k) x) ≡ record { response = add-answer w k x; count = count (add-words w k x) k })
+          × (store-bucket w k (added (bucket-at w k) x .bucket) ≡ add-words w k x)
 
       pub add-here : Added
       unfolding added add-answer add-words
       add-here = go (eqb (changeable w k) 0) (member x (tags w k)) (leb 64 (length (tags w k))) refl refl refl
         where
           go : (a b d : Bool) → eqb (changeable w k) 0 ≡ a → member x (tags w k) ≡ b → leb 64 (length (tags w k)) ≡ d → Added
-          go true b d p q r = rw (flag-here, p) (refl, same)
-          go false true d p q r = rw (flag-here, p, found-here, q) (refl, same)
-          go false false true p q r = rw (flag-here, p, found-here, q, tags-here, r) (refl, same)
-          go false false false p q r = rw (flag-here, p, found-here, q, tags-here, r) (refl, store-here w k h _)
+          go true b d p q r = rw (flag-here, p) (ap (says Frozen) count-here, same)
+          go false true d p q r = rw (flag-here, p, found-here, q) (ap (says No) count-here, same)
+          go false false true p q r = rw (flag-here, p, found-here, q, tags-here, r) (ap (says Full) tags-count, same)
+          go false false false p q r =
+              rw (flag-here, p, found-here, q, tags-here, r) (ap (says Yes) (count-over w k h (add-tag x (tags w k))), store-here w k h _)
 
       abbrev Removed : Type 0
-      Removed = (removed (bucket-at w k) x .answer ≡ remove-answer w k x) × (store-bucket w k (removed (bucket-at w k) x .bucket) ≡ remove-words w k x)
+      Removed =
+          (answer-of (removed (bucket-at w k) x) ≡ record { response = remove-answer w k x; count = count (remove-words w k x) k })
+          × (store-bucket w k (removed (bucket-at w k) x .bucket) ≡ remove-words w k x)
 
       pub remove-here : Removed
       unfolding removed remove-answer remove-words
       remove-here = go (eqb (changeable w k) 0) (member x (tags w k)) refl refl
         where
           go : (a b : Bool) → eqb (changeable w k) 0 ≡ a → member x (tags w k) ≡ b → Removed
-          go true b p q = rw (flag-here, p) (refl, same)
-          go false true p q = rw (flag-here, p, found-here, q, tags-here) (refl, store-here w k h _)
-          go false false p q = rw (flag-here, p, found-here, q) (refl, same)
+          go true b p q = rw (flag-here, p) (ap (says Frozen) count-here, same)
+          go false true p q =
+              rw (flag-here, p, found-here, q, tags-here) (ap (says Yes) (count-over w k h (remove-tag x (tags w k))), store-here w k h _)
+          go false false p q = rw (flag-here, p, found-here, q) (ap (says No) count-here, same)

@@ -7,8 +7,10 @@ use lib.Dec.{leb, ltb, eqb}
 use Rattle.spec.specs.Lists.{if_then_else_, member, add-tag, remove-tag}
 use Rattle.spec.specs.Words.{changeable, tags, overwrite, node-of, bucket-of}
 use Rattle.bucket.specs.declared.Bucket.{Bucket}
+use Rattle.bucket.specs.declared.Changed.{Changed}
 use Rattle.bucket.specs.declared.Response.{Response}
 use Rattle.bucket.specs.declared.Response.the-variants.{Yes, No, Frozen, Full}
+use Rattle.pool.specs.declared.buckets.Answered.{Answered}
 
 -- the words v over the first words of p, where they fit
 unfoldable pub write-front : List ℕ → List ℕ → List ℕ
@@ -28,6 +30,10 @@ bucket-at p k = if ltb k (length p / 66) then front-of (drop (66 * k) p) else re
 
 unfoldable pub store-bucket : List ℕ → ℕ → Bucket → List ℕ
 store-bucket p k b = if ltb k (length p / 66) then overwrite p (66 * k) (b .words) else p
+
+-- a bucket's answer and count, without its words
+abbrev pub answer-of : Changed → Answered
+answer-of d = record { response = d .answer; count = d .count }
 
 -- ---- what adding and removing answer and leave where bucket number k is sound
 

@@ -8,7 +8,13 @@ ghost use Prim.Native.Nat.{_≤_};
 ghost use lib.ListN.{length, take, set};
 ghost use Rattle.spec.specs.Words.{overwrite};
 ghost use Rattle.bucket.specs.Bucket.{found, tags-in, added, removed, frozen-of};
-ghost use Rattle.pool.specs.Pool.{bucket-at, front-of, store-bucket};
+ghost use Rattle.pool.specs.Pool.{bucket-at, front-of, store-bucket, answer-of};
+
+// What a bucket of the pool answers, and how many tags it holds afterwards.
+pub struct Answered {
+    pub response: Response,
+    pub count: u32,
+}
 
 // The bucket whose words are the part's first.
 fn front(part: &[u32]) -> Bucket
@@ -36,26 +42,34 @@ fn store(part: &mut [u32], b: Bucket)
     }
 }
 
-fn add(part: &mut [u32], tag: u32) -> Response
+fn add(part: &mut [u32], tag: u32) -> Answered
     requires { ⌜ 66 ≤ length (now part) ⌝ }
-    ensures { λ r. ⌜ (r ≡ added (front-of (now (part .entry))) tag .answer) × (now (part .exit) ≡ overwrite (now (part .entry)) 0 (added (front-of (now (part .entry))) tag .bucket .words)) ⌝ }
+    ensures { λ r. ⌜ (r ≡ answer-of (added (front-of (now (part .entry))) tag)) × (now (part .exit) ≡ overwrite (now (part .entry)) 0 (added (front-of (now (part .entry))) tag .bucket .words)) ⌝ }
 {
     let b = front(part);
     let d = b.add(tag);
     let c = d.bucket;
     store(part, c);
-    d.answer
+    let r = d.answer;
+    Answered {
+        response: r,
+        count: d.count,
+    }
 }
 
-fn remove(part: &mut [u32], tag: u32) -> Response
+fn remove(part: &mut [u32], tag: u32) -> Answered
     requires { ⌜ 66 ≤ length (now part) ⌝ }
-    ensures { λ r. ⌜ (r ≡ removed (front-of (now (part .entry))) tag .answer) × (now (part .exit) ≡ overwrite (now (part .entry)) 0 (removed (front-of (now (part .entry))) tag .bucket .words)) ⌝ }
+    ensures { λ r. ⌜ (r ≡ answer-of (removed (front-of (now (part .entry))) tag)) × (now (part .exit) ≡ overwrite (now (part .entry)) 0 (removed (front-of (now (part .entry))) tag .bucket .words)) ⌝ }
 {
     let b = front(part);
     let d = b.remove(tag);
     let c = d.bucket;
     store(part, c);
-    d.answer
+    let r = d.answer;
+    Answered {
+        response: r,
+        count: d.count,
+    }
 }
 
 fn freeze(part: &mut [u32])
@@ -97,21 +111,27 @@ pub fn store_at(pool: &mut [u32], k: usize, b: Bucket)
     store(&mut pool[at..], b)
 }
 
-pub fn add_at(pool: &mut [u32], k: usize, tag: u32) -> Response
-    ensures { λ r. ⌜ (r ≡ added (bucket-at (now (pool .entry)) k) tag .answer) × (now (pool .exit) ≡ store-bucket (now (pool .entry)) k (added (bucket-at (now (pool .entry)) k) tag .bucket)) ⌝ }
+pub fn add_at(pool: &mut [u32], k: usize, tag: u32) -> Answered
+    ensures { λ r. ⌜ (r ≡ answer-of (added (bucket-at (now (pool .entry)) k) tag)) × (now (pool .exit) ≡ store-bucket (now (pool .entry)) k (added (bucket-at (now (pool .entry)) k) tag .bucket)) ⌝ }
 {
     if pool.len() / WORDS <= k {
-        return Response::Frozen;
+        return Answered {
+            response: Response::Frozen,
+            count: 0,
+        };
     }
     let at = WORDS * k;
     add(&mut pool[at..], tag)
 }
 
-pub fn remove_at(pool: &mut [u32], k: usize, tag: u32) -> Response
-    ensures { λ r. ⌜ (r ≡ removed (bucket-at (now (pool .entry)) k) tag .answer) × (now (pool .exit) ≡ store-bucket (now (pool .entry)) k (removed (bucket-at (now (pool .entry)) k) tag .bucket)) ⌝ }
+pub fn remove_at(pool: &mut [u32], k: usize, tag: u32) -> Answered
+    ensures { λ r. ⌜ (r ≡ answer-of (removed (bucket-at (now (pool .entry)) k) tag)) × (now (pool .exit) ≡ store-bucket (now (pool .entry)) k (removed (bucket-at (now (pool .entry)) k) tag .bucket)) ⌝ }
 {
     if pool.len() / WORDS <= k {
-        return Response::Frozen;
+        return Answered {
+            response: Response::Frozen,
+            count: 0,
+        };
     }
     let at = WORDS * k;
     remove(&mut pool[at..], tag)

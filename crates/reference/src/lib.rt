@@ -1,4 +1,4 @@
-// A second implementation of the yard set of paper 01, with request U1 of paper 02, to be compared word by word with the first.
+// A second implementation of the yard set of paper 01, with requests U1 and U2 of paper 02, to be compared word by word with the first.
 // Its shape: state, pools, what is asked and the reply are words of one memory (reference_words::words has their addresses). The paper's lines are
 // the rows of a table of letters (reference_words::table); a letter stands for something that a line can see, a number (sight.rt). A call first
 // works out what it gives and what every word becomes, from unchanged memory, then stores (stores.rt). Spoilt memory is found word by word, held
@@ -16,6 +16,7 @@ use reference_words::tags::MADE_BY_49;
 use reference_words::tags::NO_TAGS;
 use reference_words::tags::gather;
 use reference_words::words::ASKED_K;
+use reference_words::words::AT_B;
 use reference_words::words::AT_T;
 use reference_words::words::B;
 use reference_words::words::BEFORE;
@@ -85,7 +86,7 @@ fn write_opening(w: &mut [u32]) {
 fn open(w: &mut [u32]) {
     let why = opening_refusal(w);
     clear(w, T, STATE_END);
-    put_words(w, REPLY, &[either(why == 0, 0, 2), why, 0]);
+    put_words(w, REPLY, &[either(why == 0, 0, 2), why, 0, 0]);
     if why == 0 {
         write_opening(w);
     }
@@ -198,8 +199,18 @@ fn value(w: &[u32]) -> u32 {
     }
 }
 
+// "A bucket's add and remove now also give the number of tags it holds afterwards, and an ended insert or remove hands that number on, full and no
+// included": that number plus 1, or 0 where the line is not 36.
+fn tags_afterwards(w: &[u32]) -> u32 {
+    if get(w, LINE) != 36 {
+        return 0;
+    }
+    let kept = bucket(w, get(w, AT_B), 1);
+    plus(either(get(w, MADE) == 0, kept, get(w, MADE + 1)), 1)
+}
+
 // The reply. Kind 0: the task is at line `value` (an opening: 0; a list or a show: the count). 1: the call ended with answer `value` (1 yes, 2 no,
-// 3 full, 4 done, 5 lost, 6 limit) and own steps `own`. 2: refused with number `value`.
+// 3 full, 4 done, 5 lost, 6 limit), own steps and tags afterwards. 2: refused with number `value`.
 fn accept(w: &mut [u32]) {
     let end = ends(w);
     put_words(
@@ -209,6 +220,7 @@ fn accept(w: &mut [u32]) {
             either(end, 1, 0),
             value(w),
             either(end, sight::own_after(w), 0),
+            either(end, tags_afterwards(w), 0),
         ],
     );
     stores::store(w);
@@ -220,7 +232,7 @@ fn enter(w: &mut [u32]) {
     if why == 0 {
         return accept(w);
     }
-    put_words(w, REPLY, &[2, why, 0]);
+    put_words(w, REPLY, &[2, why, 0, 0]);
 }
 
 // What WHAT asks: a step of task ASKED_K (0), the start of a call of it with ASKED_TAG (1 insert, 2 remove, 3 contains, 4 grow, 5 shrink), a list

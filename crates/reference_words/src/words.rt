@@ -17,7 +17,7 @@ pub const LAST_BUCKET: usize = 5;
 pub const RECORDS: usize = 6;
 
 pub const STATE_END: usize = 110;
-// The reply: kind, value, own steps. Then words that are lent to a list, and the lengths of the two slices that are lent.
+// The reply: kind, value, own steps, a bucket's tags plus 1. Then words that are lent to a list, and the lengths of the two slices that are lent.
 pub const REPLY: usize = 120;
 
 pub const LENT: usize = 124;

@@ -1,7 +1,7 @@
--- What is left to run of a schedule, and a turn of the loop that runs it: an event, and its output's three words written.
+-- What is left to run of a schedule, and a turn of the loop that runs it: an event, and its output's words written.
 -- Assumes nothing.
 use Prim.Native.Nat.{ℕ, zero, suc, _+_, _*_, _-_, _≤_, _<_}
-use mathlib.Core.Path.{_≡_, refl, sym, ap, _∙_}
+use mathlib.Core.Path.{_≡_, refl, sym, ap, _∙_, subst}
 use mathlib.Core.List.{List, [], _∷_, _++_, append-nil, append-assoc}
 use mathlib.Core.Bool.{not, _||_}
 use native.Mathlib.Omega.{arith}
@@ -22,7 +22,7 @@ use Rattle.spec.specs.Entries.{opening, Reply, Written, list}
 use Rattle.laws.specs.Tests.{choose, or-none}
 use Rattle.spec.specs.Schedule.{Event, event, run, run-opened, schedule}
 use Rattle.schedule_words.specs.Events.{event-of, events-of, listing-number}
-use Rattle.schedule_words.proofs.Laws.{three}
+use Rattle.schedule_words.proofs.Laws.{output-length}
 use Rattle.opening.proofs.Laws.{refusal-small}
 use Rattle.schedule.specs.Encoding.{room-for, decoded, list-opened, run-words}
 
@@ -58,13 +58,13 @@ module _ {y₀ : Machine} {w₀ : List ℕ} {es₀ : List Event} {y : Machine} {
   unfolding run concat-map
   rest-none l = (sym (l .machine), sym (l .words ∙ over-none w i))
 
-  pub rest-on : (e : Event) (es : List Event) → Rest y₀ w₀ es₀ y w i (e ∷ es) → i + 3 ≤ length w
-      → Rest y₀ w₀ es₀ (event y e .machine) (overwrite w i (output-words (event y e .out))) (i + 3) es
+  pub rest-on : (e : Event) (es : List Event) → Rest y₀ w₀ es₀ y w i (e ∷ es) → i + 4 ≤ length w
+      → Rest y₀ w₀ es₀ (event y e .machine) (overwrite w i (output-words (event y e .out))) (i + 4) es
   unfolding run concat-map
   rest-on e es l h =
       let o = event y e .out in
-      let t = three o in
-      let q : i + length (output-words o) ≡ i + 3 = omega arith in
+      let t = output-length o in
+      let q : i + length (output-words o) ≡ i + 4 = omega arith in
       record {
         machine = l .machine;
         words = l .words ∙ over-then w i (output-words o) (concat-map output-words (run (event y e .machine) es .outs)) (omega arith)
@@ -85,7 +85,7 @@ module _ (ws : List ℕ) (n i : ℕ) where
       let q : 4 * i + 4 ≡ 4 * (i + 1) = omega arith in
       rw (less, getD-drop (4 * i) ws 0 0, z, getD-drop (4 * i) ws 1 0, getD-drop (4 * i) ws 2 0, drop-drop 4 (4 * i) ws, q)
 
-  pub rest-start : (y : Machine) (w : List ℕ) → Rest y w (events-of n ws) y w (3 * 0) (events-of (n - 0) (drop (4 * 0) ws))
+  pub rest-start : (y : Machine) (w : List ℕ) → Rest y w (events-of n ws) y w (4 * 0) (events-of (n - 0) (drop (4 * 0) ws))
   rest-start y w = let z : n - 0 ≡ n = omega arith in rw z (rest-all y w (events-of n ws))
 
   events-end : n ≤ i → (v : List ℕ) → events-of (n - i) v ≡ []
@@ -93,17 +93,19 @@ module _ (ws : List ℕ) (n i : ℕ) where
   events-end h v = let z : n - i ≡ 0 = omega arith in rw z
 
   -- a turn of the loop
-  pub turn : {y₀ : Machine} {w₀ : List ℕ} {es₀ : List Event} {y : Machine} {w : List ℕ} → i < n → 3 * i + 3 ≤ length w
-      → Rest y₀ w₀ es₀ y w (3 * i) (events-of (n - i) (drop (4 * i) ws))
-      → (r : Reply) → r ≡ event y event-at → (v : List ℕ) → v ≡ overwrite w (3 * i) (output-words (r .out))
-      → Rest y₀ w₀ es₀ (r .machine) v (3 * (i + 1)) (events-of (n - (i + 1)) (drop (4 * (i + 1)) ws))
-  turn {y} {w} h f l r e v g =
-      let q : 3 * (i + 1) ≡ 3 * i + 3 = omega arith in
-      rw (g, e, q) (rest-on event-at (events-of (n - (i + 1)) (drop (4 * (i + 1)) ws)) (rw (events-on h) at l) f)
+  pub turn : {y₀ : Machine} {w₀ : List ℕ} {es₀ : List Event} {y : Machine} {w : List ℕ} → i < n → 4 * i + 4 ≤ length w
+      → Rest y₀ w₀ es₀ y w (4 * i) (events-of (n - i) (drop (4 * i) ws))
+      → (r : Reply) → r ≡ event y event-at → (v : List ℕ) → v ≡ overwrite w (4 * i) (output-words (r .out))
+      → Rest y₀ w₀ es₀ (r .machine) v (4 * (i + 1)) (events-of (n - (i + 1)) (drop (4 * (i + 1)) ws))
+  turn {y₀} {w₀} {es₀} {y} {w} h f l r e v g =
+      let later = events-of (n - (i + 1)) (drop (4 * (i + 1)) ws) in
+      let q : 4 * i + 4 ≡ 4 * (i + 1) = omega arith in
+      let written = overwrite w (4 * i) (output-words (event y event-at .out)) in
+      rw (g, e) (subst (λ (j : ℕ). Rest y₀ w₀ es₀ (event y event-at .machine) written j later) q (rest-on event-at later (rw (events-on h) at l) f))
 
   -- after the last
   pub finished : {y₀ : Machine} {w₀ : List ℕ} {es₀ : List Event} {y : Machine} {w : List ℕ} → n ≤ i
-      → Rest y₀ w₀ es₀ y w (3 * i) (events-of (n - i) (drop (4 * i) ws))
+      → Rest y₀ w₀ es₀ y w (4 * i) (events-of (n - i) (drop (4 * i) ws))
       → (y ≡ run y₀ es₀ .machine) × (w ≡ overwrite w₀ 0 (concat-map output-words (run y₀ es₀ .outs)))
   finished h l = rest-none (rw (events-end h (drop (4 * i) ws)) at l)
 

@@ -45,9 +45,9 @@ words-length (e ∷ es) =
     let b = words-length es in
     omega arith
 
-pub decoded-words : (es : List Event) (outs : List ℕ) → 3 * length es ≤ length outs → decoded (concat-map event-words es) outs ≡ es
+pub decoded-words : (es : List Event) (outs : List ℕ) → 4 * length es ≤ length outs → decoded (concat-map event-words es) outs ≡ es
 unfolding decoded room-for
 decoded-words es outs h =
     let n = words-length es in
-    let e : min (length (concat-map event-words es) / 4) (length outs / 3) ≡ length es = omega arith in
+    let e : min (length (concat-map event-words es) / 4) (length outs / 4) ≡ length es = omega arith in
     rw e (all es)

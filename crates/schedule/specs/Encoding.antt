@@ -18,9 +18,9 @@ use Rattle.schedule.specs.declared.Outcome.{Outcome}
 
 -- ---- the events that are run
 
--- as many as there are whole events, and as have room for their outputs, three words each
+-- as many as there are whole events, and as have room for their outputs, four words each
 unfoldable pub room-for : List ℕ → List ℕ → ℕ
-room-for events outs = min (length events / 4) (length outs / 3)
+room-for events outs = min (length events / 4) (length outs / 4)
 
 -- the events that are run
 unfoldable pub decoded : List ℕ → List ℕ → List Event

@@ -45,7 +45,7 @@ fn run_events(
     bs: &mut [u32],
     outs: &mut [u32],
 ) -> State
-    requires { ⌜ (4 * n ≤ length (now events)) × (3 * n ≤ length (now outs)) ⌝ }
+    requires { ⌜ (4 * n ≤ length (now events)) × (4 * n ≤ length (now outs)) ⌝ }
     ensures { λ r. ⌜ (machine-of r (now (ns .exit)) (now (bs .exit)) ≡ run (machine-of s (now (ns .entry)) (now (bs .entry))) (events-of n (now (events .entry))) .machine)
         × (now (outs .exit) ≡ overwrite (now (outs .entry)) 0 (concat-map output-words (run (machine-of s (now (ns .entry)) (now (bs .entry))) (events-of n (now (events .entry))) .outs))) ⌝ }
 {

@@ -1,12 +1,13 @@
-// A schedule given as words: what a word asks for, an output's three words, how many events have room, a list's answer as a number.
+// A schedule given as words: what a word asks for, an output's four words, how many events have room, a list's answer as a number.
 use spec::Answer;
 use spec::Call;
 use spec::Listing;
+use spec::Occupancy;
 use spec::Output;
 ghost use mathlib.Core.Path.{_≡_};
 ghost use Prim.Native.Nat.{ℕ, _*_, _+_, _≤_, _/_, min};
 ghost use lib.ListN.{length};
-ghost use Rattle.spec.specs.Numbers.{answer-number, output-words};
+ghost use Rattle.spec.specs.Numbers.{answer-number, occupancy-number, output-words};
 ghost use Rattle.spec.specs.Words.{overwrite};
 ghost use Rattle.schedule_words.specs.Events.{event-of, event-asked, listing-number};
 
@@ -43,32 +44,41 @@ fn answer_number(a: Answer) -> u32
     }
 }
 
-fn output_words(out: Output) -> [u32; 3]
-    ensures { λ r. ⌜ r ≡ output-words out ⌝ }
+fn occupancy_number(o: Occupancy) -> u32
+    ensures { λ r. ⌜ r ≡ occupancy-number o ⌝ }
 {
-    match out {
-        Output::At(line) => [0, line, 0],
-        Output::End(a, own) => [1, answer_number(a), own as u32],
-        Output::Refuse(why) => [2, why, 0],
+    match o {
+        Occupancy::NotGiven => 0,
+        Occupancy::Tags(n) => n,
     }
 }
 
-// Writes the three words of output number i.
+fn output_words(out: Output) -> [u32; 4]
+    ensures { λ r. ⌜ r ≡ output-words out ⌝ }
+{
+    match out {
+        Output::At(line) => [0, line, 0, 0],
+        Output::End(a, own, full) => [1, answer_number(a), own as u32, occupancy_number(full)],
+        Output::Refuse(why) => [2, why, 0, 0],
+    }
+}
+
+// Writes the four words of output number i.
 pub fn write_output(outs: &mut [u32], i: usize, out: Output)
-    requires { ⌜ 3 * i + 3 ≤ length (now outs) ⌝ }
-    ensures { λ _. ⌜ now (outs .exit) ≡ overwrite (now (outs .entry)) (3 * i) (output-words out) ⌝ }
+    requires { ⌜ 4 * i + 4 ≤ length (now outs) ⌝ }
+    ensures { λ _. ⌜ now (outs .exit) ≡ overwrite (now (outs .entry)) (4 * i) (output-words out) ⌝ }
 {
     let w = output_words(out);
-    let at = 3 * i;
+    let at = 4 * i;
     pool::write_over(&mut outs[at..], &w)
 }
 
 // The number of events that are run: so many words of events, so many for outputs.
 pub fn number_of_events(events: usize, outs: usize) -> usize
-    ensures { λ r. ⌜ r ≡ min (events / 4) (outs / 3) ⌝ }
+    ensures { λ r. ⌜ r ≡ min (events / 4) (outs / 4) ⌝ }
 {
     let a = events / 4;
-    let b = outs / 3;
+    let b = outs / 4;
     if a < b { a } else { b }
 }
 

@@ -27,7 +27,7 @@ table =
     gives ("tasks=1\nnodes=3\nbuckets=4\nstart=0,insert,17\nstep=0\nstep=0\nstep=0\nstart=0,grow\nstep=0\n"
     ∷ "step=0\nstep=0\nstep=0\nstep=0\nstep=0\nstep=0\nstart=0,contains,17\nstep=0\nstep=0\nstep=0\n"
     ∷ "step=0\nstep=0\n" ∷ [])
-    ("at=0,32\nat=0,33\nat=0,36\nend=0,yes,3\nat=0,20\nat=0,39\nat=0,40\nat=0,51\nat=0,24\nat=0,27\n"
+    ("at=0,32\nat=0,33\nat=0,36\nend=0,yes,3,1\nat=0,20\nat=0,39\nat=0,40\nat=0,51\nat=0,24\nat=0,27\n"
     ∷ "at=0,28\nend=0,done,7\nat=0,12\nat=0,13\nat=0,15\nat=0,16\nat=0,18\nend=0,yes,5\nsize=2\ntags=1\n"
     ∷ "tag=17\n" ∷ [])
     ∷
@@ -159,8 +159,8 @@ table =
     -- the largest tag goes in, and tag 0
     gives ("tasks=1\nnodes=1\nbuckets=1\nstart=0,insert,4294967295\nstep=0\nstep=0\nstep=0\nstart=0,insert,0\n"
     ∷ "step=0\nstep=0\nstep=0\nstart=0,remove,5\nstep=0\nstep=0\nstep=0\n" ∷ [])
-    ("at=0,32\nat=0,33\nat=0,36\nend=0,yes,3\nat=0,32\nat=0,33\nat=0,36\nend=0,yes,3\nat=0,32\nat=0,33\n"
-    ∷ "at=0,36\nend=0,no,3\nsize=1\ntags=2\ntag=0\ntag=4294967295\n" ∷ [])
+    ("at=0,32\nat=0,33\nat=0,36\nend=0,yes,3,1\nat=0,32\nat=0,33\nat=0,36\nend=0,yes,3,2\nat=0,32\nat=0,33\n"
+    ∷ "at=0,36\nend=0,no,3,2\nsize=1\ntags=2\ntag=0\ntag=4294967295\n" ∷ [])
     ∷
     -- one node: refusal 7 at line 27, and the session goes on
     gives ("tasks=1\nnodes=1\nbuckets=1\nstart=0,grow\nstep=0\nstep=0\nstep=0\nstep=0\nstep=0\nstep=0\nstep=0\n" ∷ [])

@@ -8,15 +8,17 @@ use lib.Dec.{ltb}
 use lib.ListN.{length, length-append}
 use Rattle.spec.specs.declared.Answer.{Answer}
 use Rattle.spec.specs.declared.Answer.the-variants.{Yes, No, Full, Done, Lost, Limit}
+use Rattle.spec.specs.declared.Occupancy.{Occupancy}
+use Rattle.spec.specs.declared.Occupancy.the-variants.{NotGiven, Tags}
 use Rattle.spec.specs.declared.Output.{Output}
 use Rattle.spec.specs.declared.Output.the-variants.{At, End, Refuse}
 use Rattle.spec.specs.Lists.{if_then_else_}
 use Rattle.session.specs.Keys.{tag-key, size-key, tags-key}
-use Rattle.session.specs.Print.{decimal-digits, decimal, key-line, answer-word, refusal-line, output-line, tag-lines, listing-lines}
+use Rattle.session.specs.Print.{decimal-digits, decimal, key-line, answer-word, occupancy-field, refusal-line, output-line, tag-lines, listing-lines}
 
--- how many bytes an input's line prints at most: `end=`, two numbers, a word, two commas and byte 10
+-- how many bytes an input's line prints at most: `end=`, three numbers of at most 20 digits, a word, three commas and byte 10
 abbrev pub longest-line : ℕ
-longest-line = 52
+longest-line = 73
 
 -- how many bytes the end of an input prints at most: the listing of 64 tags
 abbrev pub longest-end : ℕ
@@ -55,10 +57,16 @@ word-length Done = omega arith
 word-length Lost = omega arith
 word-length Limit = omega arith
 
+field-length : (full : Occupancy) → length (occupancy-field full) ≤ 21
+unfolding occupancy-field
+field-length NotGiven = omega arith
+field-length (Tags n) = simp length-append (omega (arith, decimal-length n))
+
 pub output-length : (k : ℕ) (o : Output) → length (output-line k o) ≤ longest-line
 unfolding output-line
 output-length k (At l) = simp length-append (omega (arith, decimal-length k, decimal-length l))
-output-length k (End a own) = simp length-append (omega (arith, decimal-length k, word-length a, decimal-length own))
+output-length k (End a own full) =
+    simp length-append (omega (arith, decimal-length k, word-length a, decimal-length own, field-length full))
 output-length k (Refuse r) = omega (arith, refusal-length r)
 
 tags-length : (ts : List ℕ) → length (tag-lines ts) ≤ 25 * length ts

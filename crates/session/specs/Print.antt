@@ -1,11 +1,14 @@
 -- The lines that a session prints, as bytes: "`at=task,next line`, or `end=task,answer,own steps`, or `refuse=number`; at the end
--- of input `size=` the head's size, `tags=` their count, and a `tag=` each". Assumes nothing.
+-- of input `size=` the head's size, `tags=` their count, and a `tag=` each"; how full an ended insert's or remove's bucket is, "as a
+-- fourth field on those end lines only". Assumes nothing.
 use Prim.Native.Nat.{ℕ, zero, suc, _+_, _/_, _%_}
 use mathlib.Core.List.{List, [], _∷_, _++_}
 use lib.Dec.{ltb}
 use lib.ListN.{length}
 use Rattle.spec.specs.declared.Answer.{Answer}
 use Rattle.spec.specs.declared.Answer.the-variants.{Yes, No, Full, Done, Lost, Limit}
+use Rattle.spec.specs.declared.Occupancy.{Occupancy}
+use Rattle.spec.specs.declared.Occupancy.the-variants.{NotGiven, Tags}
 use Rattle.spec.specs.declared.Output.{Output}
 use Rattle.spec.specs.declared.Output.the-variants.{At, End, Refuse}
 use Rattle.spec.specs.Lists.{if_then_else_}
@@ -35,13 +38,19 @@ answer-word Done = done-word
 answer-word Lost = lost-word
 answer-word Limit = limit-word
 
+-- the fourth field of an end line, where the number of tags is given
+unfoldable pub occupancy-field : Occupancy → List ℕ
+occupancy-field NotGiven = []
+occupancy-field (Tags n) = (comma ∷ []) ++ decimal n
+
 unfoldable pub refusal-line : ℕ → List ℕ
 refusal-line r = key-line refuse-key r
 
 -- the line for what task k's start or step answers
 unfoldable pub output-line : ℕ → Output → List ℕ
 output-line k (At l) = at-key ++ decimal k ++ (comma ∷ []) ++ decimal l ++ (newline ∷ [])
-output-line k (End a own) = end-key ++ decimal k ++ (comma ∷ []) ++ answer-word a ++ (comma ∷ []) ++ decimal own ++ (newline ∷ [])
+output-line k (End a own full) =
+    end-key ++ decimal k ++ (comma ∷ []) ++ answer-word a ++ (comma ∷ []) ++ decimal own ++ occupancy-field full ++ (newline ∷ [])
 output-line k (Refuse r) = refusal-line r
 
 unfoldable pub tag-lines : List ℕ → List ℕ

@@ -43,7 +43,7 @@ unfolding finish
 finish-lengths y z k own (on c) p q =
     let h = task-lengths y z k (with-own own c) p q in
     record { nodes = h .0; buckets = h .1 }
-finish-lengths y z k own (ends a) p q =
+finish-lengths y z k own (ends a l) p q =
     let h = task-lengths y z k idle p q in
     record { nodes = h .0; buckets = h .1 }
 

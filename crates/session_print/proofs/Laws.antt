@@ -10,7 +10,7 @@ use Rattle.session.specs.Print.{key-line, tag-lines}
 use Rattle.session.specs.Keys.{tag-key}
 use Rattle.session.specs.BufferLaws.{append-both}
 use Rattle.session.specs.Buffer.{Buffer, append}
-use Rattle.session_bytes.proofs.Laws.{append-3}
+use Rattle.session_bytes.proofs.Laws.{append-2, append-3}
 
 pub tags-on : (ts : List ℕ) (i : ℕ) (t : Buffer) → i < length ts
     → append (tag-lines (drop i ts)) t ≡ append (tag-lines (drop (i + 1) ts)) (append (key-line tag-key (getD ts i 0)) t)
@@ -22,6 +22,7 @@ unfolding tag-lines append
 tags-end ts i t h = rw (drop-of-length-le ts h)
 
 -- several printed one after the other
-pub append-5 : (x y z a c : List ℕ) (t u v w b d : Buffer) → u ≡ append x t → v ≡ append y u → w ≡ append z v → b ≡ append a w → d ≡ append c b
-    → d ≡ append (x ++ y ++ z ++ a ++ c) t
-append-5 x y z a c t u v w b d p q r s e = append-3 (x ++ y ++ z) a c t w b d (append-3 x y z t u v w p q r) s e
+pub append-6 : (x y z a f c : List ℕ) (t u v w b g d : Buffer)
+    → u ≡ append x t → v ≡ append y u → w ≡ append z v → b ≡ append a w → g ≡ append f b → d ≡ append c g → d ≡ append (x ++ y ++ z ++ a ++ f ++ c) t
+append-6 x y z a f c t u v w b g d p q r s o e =
+    append-3 (x ++ y ++ z ++ a) f c t b g d (append-2 (x ++ y ++ z) a t w b (append-3 x y z t u v w p q r) s) o e

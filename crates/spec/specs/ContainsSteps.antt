@@ -12,7 +12,7 @@ use Rattle.spec.specs.declared.Output.{Output}
 use Rattle.spec.specs.declared.Output.the-variants.{At, End, Refuse}
 use Rattle.spec.specs.Lists.{if_then_else_}
 use Rattle.spec.specs.Schedule.{Event, starts, steps}
-use Rattle.spec.specs.Rows.{stepping, calling}
+use Rattle.spec.specs.Rows.{stepping, calling, ended}
 
 -- ---- a task's last started call, and how far it got
 
@@ -31,10 +31,10 @@ stepped r = record { call = r .call; accepted = suc (r .accepted) }
 -- each task's, after one event
 unfoldable pub progress : (ℕ → Progress) → Event → Output → ℕ → Progress
 progress r (starts p call tag) (At l) q = if eqb q p then begun call else r q
-progress r (starts p call tag) (End a own) q = r q
+progress r (starts p call tag) (End a own full) q = r q
 progress r (starts p call tag) (Refuse n) q = r q
 progress r (steps p) (At l) q = if eqb q p then stepped (r q) else r q
-progress r (steps p) (End a own) q = if eqb q p then stepped (r q) else r q
+progress r (steps p) (End a own full) q = if eqb q p then stepped (r q) else r q
 progress r (steps p) (Refuse n) q = r q
 
 -- before the first event no task has started a contains
@@ -53,7 +53,7 @@ Throughout P r (e ∷ es) (o ∷ os) = P (progress r e o) e o × Throughout P (p
 abbrev pub WithinFive : (ℕ → Progress) → Event → Output → Type 0
 WithinFive r (starts p call tag) o = Unit {0}
 WithinFive r (steps p) (At l) = r p .call ≡ Contains → r p .accepted ≤ 4
-WithinFive r (steps p) (End a own) = r p .call ≡ Contains → (own ≡ r p .accepted) × (own ≤ 5)
+WithinFive r (steps p) (End a own full) = r p .call ≡ Contains → (own ≡ r p .accepted) × (own ≤ 5)
 WithinFive r (steps p) (Refuse n) = Unit {0}
 
 abbrev pub ContainsWithinFive : List Event → List Output → Type 0
@@ -62,11 +62,11 @@ ContainsWithinFive es os = Throughout WithinFive no-progress es os
 -- ---- what it allows and what it refuses, of one contains of task 0
 
 -- three steps, and five
-pub three-steps : ContainsWithinFive (calling 0 Contains 17 3) (At 12 ∷ At 13 ∷ At 18 ∷ End Yes 3 ∷ [])
+pub three-steps : ContainsWithinFive (calling 0 Contains 17 3) (At 12 ∷ At 13 ∷ At 18 ∷ ended Yes 3 ∷ [])
 unfolding begun stepped progress stepping calling
 three-steps = (tt, (λ e. omega arith, (λ e. omega arith, (λ e. (refl, omega arith), tt))))
 
-pub five-steps : ContainsWithinFive (calling 0 Contains 17 5) (At 12 ∷ At 13 ∷ At 15 ∷ At 16 ∷ At 18 ∷ End Yes 5 ∷ [])
+pub five-steps : ContainsWithinFive (calling 0 Contains 17 5) (At 12 ∷ At 13 ∷ At 15 ∷ At 16 ∷ At 18 ∷ ended Yes 5 ∷ [])
 unfolding begun stepped progress stepping calling
 five-steps =
     (tt, (λ e. omega arith, (λ e. omega arith, (λ e. omega arith, (λ e. omega arith, (λ e. (refl, omega arith), tt))))))
@@ -83,6 +83,6 @@ unfolding begun stepped progress stepping calling
 goes-on-between f = let other-on = f .1 .1 .1 in let fourth-on = other-on .1 .1 .1 .1 in let e = fourth-on .1 .0 refl in omega arith
 
 -- own steps that are not those made
-pub own-steps-invented : ¬ ContainsWithinFive (calling 0 Contains 17 5) (At 12 ∷ At 13 ∷ At 15 ∷ At 16 ∷ At 18 ∷ End Yes 3 ∷ [])
+pub own-steps-invented : ¬ ContainsWithinFive (calling 0 Contains 17 5) (At 12 ∷ At 13 ∷ At 15 ∷ At 16 ∷ At 18 ∷ ended Yes 3 ∷ [])
 unfolding begun stepped progress stepping calling
 own-steps-invented f = let fourth-on = f .1 .1 .1 .1 in let e = fourth-on .1 .0 refl .0 in omega arith

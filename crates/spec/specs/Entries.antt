@@ -9,6 +9,8 @@ use Rattle.spec.specs.declared.Task.{Task}
 use Rattle.spec.specs.declared.Config.{Config}
 use Rattle.spec.specs.declared.Call.{Call}
 use Rattle.spec.specs.declared.Call.the-variants.{Insert, Remove, Contains, Grow, Shrink}
+use Rattle.spec.specs.declared.Occupancy.{Occupancy}
+use Rattle.spec.specs.declared.Occupancy.the-variants.{NotGiven, Tags}
 use Rattle.spec.specs.declared.Output.{Output}
 use Rattle.spec.specs.declared.Output.the-variants.{At, End, Refuse}
 use Rattle.spec.specs.declared.Listing.{Listing}
@@ -16,7 +18,7 @@ use Rattle.spec.specs.declared.Listing.the-variants.{Count, Refused}
 use Rattle.spec.specs.Lists.{if_then_else_}
 use Rattle.spec.specs.Numbers.{call-number}
 use Rattle.spec.specs.Machine.{Machine, idle, fresh-task, with-own, zero-config, state-of, task-of, set-task}
-use Rattle.spec.specs.Words.{tags, apply}
+use Rattle.spec.specs.Words.{number, filled, count, tags, apply}
 use Rattle.spec.specs.Sound.{within, task-count, bucket-count, sound}
 use Rattle.spec.specs.Listed.{listed}
 use Rattle.spec.specs.Lines.{Next, on, ends, Effect, effect}
@@ -81,10 +83,15 @@ start y k call tag =
     else if task-of y k .running then refuse 5 y
     else record { out = At (started call tag .line); machine = set-task k (started call tag) y }
 
+-- paper 02, U2: "A bucket's add and remove now also give the number of tags it holds afterwards, and an ended insert or remove
+-- hands that number on, full and no included": of the bucket of that link, in what the step leaves; a contains and a resize name none
+unfoldable pub occupancy : Machine → ℕ → Occupancy
+occupancy y l = if filled l then Tags (count (y .buckets) (number l)) else NotGiven
+
 -- the task's next record with its own steps, or an idle record, and what is answered
 unfoldable pub finish : Machine → ℕ → ℕ → Next → Reply
 finish y k own (on c) = record { out = At (c .line); machine = set-task k (with-own own c) y }
-finish y k own (ends a) = record { out = End a own; machine = set-task k idle y }
+finish y k own (ends a l) = record { out = End a own (occupancy y l); machine = set-task k idle y }
 
 -- "Own steps count accepted steps of the call, staying at 65,535."
 unfoldable pub accept : Machine → ℕ → ℕ → Effect → Reply

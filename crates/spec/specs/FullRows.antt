@@ -6,12 +6,12 @@ use lib.ListN.{replicate}
 use Rattle.spec.specs.declared.Answer.the-variants.{Yes, No, Full}
 use Rattle.spec.specs.declared.Listing.{Listing}
 use Rattle.spec.specs.declared.Listing.the-variants.{Count, Refused}
-use Rattle.spec.specs.declared.Output.the-variants.{End}
 use Rattle.spec.specs.declared.Task.{Task}
 use Rattle.spec.specs.Lists.{range}
 use Rattle.spec.specs.Machine.{Machine, idle}
 use Rattle.spec.specs.Entries.{Written, list}
 use Rattle.spec.specs.Everything.{everything}
+use Rattle.spec.specs.Rows.{counted}
 use Rattle.spec.specs.WholeRows.{call_tag_line_i_own_t_s_b_m_n_new-node_new-bucket_, node, bucket, yard, Row, told, stepped, goes, keeps, ends, ends-writing, refused, whole-rows}
 
 -- every second number from k on, so many
@@ -49,17 +49,17 @@ merging k c = yard 0 0 0 (head-node ∷ []) (merged k (bucket 0 [])) (c ∷ [])
 unfoldable pub full-rows : List Row
 full-rows =
     -- the listed tags are counted, not those of b: 63, then 64 with the tag absent and present, a remove that counts none, and 65
-    ends-writing (listing 32 31) (holding (by-two 0 32 ++ 90 ∷ []) (by-two 1 31)) (End Yes 3) (at-36 1 90 1)
-    ∷ ends (listing 32 32) (End Full 3) (at-36 1 90 1)
-    ∷ ends (listing 32 32) (End No 3) (at-36 1 4 1)
-    ∷ ends-writing (listing 32 32) (listing 31 32) (End Yes 3) (at-36 2 62 1)
-    ∷ ends (listing 33 32) (End Full 3) (at-36 1 90 1)
-    ∷ ends (listing 33 32) (End No 3) (at-36 1 4 1)
+    ends-writing (listing 32 31) (holding (by-two 0 32 ++ 90 ∷ []) (by-two 1 31)) (counted Yes 3 33) (at-36 1 90 1)
+    ∷ ends (listing 32 32) (counted Full 3 32) (at-36 1 90 1)
+    ∷ ends (listing 32 32) (counted No 3 32) (at-36 1 4 1)
+    ∷ ends-writing (listing 32 32) (listing 31 32) (counted Yes 3 31) (at-36 2 62 1)
+    ∷ ends (listing 33 32) (counted Full 3 33) (at-36 1 90 1)
+    ∷ ends (listing 33 32) (counted No 3 33) (at-36 1 4 1)
     -- a 65th tag in bucket 2: only an insert that would be answered yes needs it
     ∷ refused 8 (listing 1 1) (at-36 1 90 3)
-    ∷ ends (listing 1 1) (End No 3) (at-36 1 163 3)
-    ∷ ends (listing 1 1) (End No 3) (at-36 2 90 3)
-    ∷ ends (listing 32 32) (End Full 3) (at-36 1 90 3)
+    ∷ ends (listing 1 1) (counted No 3 64) (at-36 1 163 3)
+    ∷ ends (listing 1 1) (counted No 3 64) (at-36 2 90 3)
+    ∷ ends (listing 32 32) (counted Full 3 64) (at-36 1 90 3)
     -- nor does one that finds its bucket frozen
     ∷ keeps (λ c. yard 0 0 0 (head-node ∷ []) (bucket 0 (range 0 64) ∷ bucket 1 [] ∷ []) (c ∷ []))
     (at-36 1 90 1)

@@ -39,7 +39,7 @@ set-call Shrink = false
 -- each task's last accepted start, after event n
 unfoldable pub note : ℕ → (ℕ → Started) → Event → Output → ℕ → Started
 note n last (starts p call tag) (At l) q = if eqb q p then record { call = call; tag = tag; start = n } else last q
-note n last (starts p call tag) (End a own) q = last q
+note n last (starts p call tag) (End a own full) q = last q
 note n last (starts p call tag) (Refuse r) q = last q
 note n last (steps p) o q = last q
 
@@ -47,7 +47,7 @@ note n last (steps p) o q = last q
 unfoldable pub tell : ℕ → (ℕ → Started) → List Ended → Event → Output → List Ended
 tell n last H (starts p call tag) o = H
 tell n last H (steps p) (At l) = H
-tell n last H (steps p) (End a own) =
+tell n last H (steps p) (End a own full) =
     let b = last p in
     if set-call (b .call) then (record { task = p; call = b .call; tag = b .tag; answer = a; start = b .start; end = n } ∷ H) else H
 tell n last H (steps p) (Refuse r) = H

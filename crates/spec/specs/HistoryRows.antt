@@ -7,13 +7,14 @@ use Rattle.spec.specs.declared.Answer.{Answer}
 use Rattle.spec.specs.declared.Answer.the-variants.{Yes, No, Full, Done}
 use Rattle.spec.specs.declared.Call.the-variants.{Insert, Remove, Contains, Grow, Shrink}
 use Rattle.spec.specs.declared.Output.{Output}
-use Rattle.spec.specs.declared.Output.the-variants.{At, End, Refuse}
+use Rattle.spec.specs.declared.Output.the-variants.{At, Refuse}
 use Rattle.spec.specs.Lists.{range}
 use Rattle.spec.specs.Machine.{config-of}
 use Rattle.spec.specs.Plain.{Plain, plain}
 use Rattle.spec.specs.Schedule.{Event, starts, steps, schedule}
 use Rattle.spec.specs.History.{set-call, note, tell, history-from, history}
 use Rattle.spec.specs.Everything.{everything}
+use Rattle.spec.specs.Rows.{ended, counted}
 
 -- ---- the plain set
 
@@ -36,7 +37,7 @@ unfoldable pub outs-of : ℕ → List Output
 outs-of k =
     schedule (config-of k) (replicate 34 7) (replicate 66 7) (starts 0 Insert 5 ∷ steps 0 ∷ starts 0 Insert 5 ∷ steps 1 ∷ steps 0 ∷ steps 0 ∷ steps 0 ∷ []) .outs
 
-pub schedule-rows : map outs-of (1 ∷ 0 ∷ 9 ∷ []) ≡ (At 32 ∷ At 33 ∷ Refuse 5 ∷ Refuse 4 ∷ At 36 ∷ End Yes 3 ∷ Refuse 6 ∷ []) ∷ [] ∷ [] ∷ []
+pub schedule-rows : map outs-of (1 ∷ 0 ∷ 9 ∷ []) ≡ (At 32 ∷ At 33 ∷ Refuse 5 ∷ Refuse 4 ∷ At 36 ∷ counted Yes 3 1 ∷ Refuse 6 ∷ []) ∷ [] ∷ [] ∷ []
 unfolding everything outs-of
 schedule-rows = refl
 
@@ -50,8 +51,8 @@ told-events =
 -- a start while a call runs, and a step while none runs, are refused; a grow and a shrink end; the remove of 8 still runs at the end
 unfoldable pub told-outs : List Output
 told-outs =
-    At 32 ∷ Refuse 5 ∷ At 20 ∷ At 33 ∷ End Done 7 ∷ End Yes 3 ∷ Refuse 6 ∷ At 12 ∷ At 32 ∷ End No 3
-    ∷ At 20 ∷ End Done 9 ∷ []
+    At 32 ∷ Refuse 5 ∷ At 20 ∷ At 33 ∷ ended Done 7 ∷ counted Yes 3 1 ∷ Refuse 6 ∷ At 12 ∷ At 32 ∷ ended No 3
+    ∷ At 20 ∷ ended Done 9 ∷ []
 
 -- the last ended first
 pub history-row :

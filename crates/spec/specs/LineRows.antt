@@ -4,10 +4,10 @@ use Prim.Native.Nat.{ℕ}
 use mathlib.Core.Path.{_≡_, refl}
 use mathlib.Core.List.{List, [], _∷_, map}
 use Rattle.spec.specs.declared.Answer.the-variants.{Yes, No, Done, Lost, Limit}
-use Rattle.spec.specs.declared.Output.the-variants.{End}
 use Rattle.spec.specs.declared.Task.{Task}
 use Rattle.spec.specs.Machine.{Machine}
 use Rattle.spec.specs.Everything.{everything}
+use Rattle.spec.specs.Rows.{ended, counted}
 use Rattle.spec.specs.WholeRows.{call_tag_line_i_own_t_s_b_m_n_new-node_new-bucket_, node, bucket, yard, Row, told, stepped, goes, keeps, ends, ends-writing, whole-rows}
 
 -- ---- one yard for most rows: node 1 is head with place 0 empty, node 0 its predecessor, node 2 and bucket 3 hold old words
@@ -90,9 +90,9 @@ contains-rows =
     (call 3 tag 5 line 17 i 1 own 4 t 1 s 3 b 3 m 1 n 2 new-node 3 new-bucket 4)
     (call 3 tag 5 line 18 i 1 own 5 t 1 s 3 b 1 m 1 n 2 new-node 3 new-bucket 4)
     -- b alone is looked into
-    ∷ ends grown (End Yes 5)
+    ∷ ends grown (ended Yes 5)
     (call 3 tag 6 line 18 i 1 own 4 t 2 s 3 b 3 m 1 n 2 new-node 3 new-bucket 4)
-    ∷ ends grown (End No 5)
+    ∷ ends grown (ended No 5)
     (call 3 tag 5 line 18 i 1 own 4 t 2 s 3 b 3 m 1 n 2 new-node 3 new-bucket 4)
     ∷ []
 
@@ -108,9 +108,9 @@ lone sz c = yard 0 0 0 (node sz 0 (1 ∷ []) ∷ []) (bucket 1 (5 ∷ []) ∷ []
 
 unfoldable pub resize-rows : List Row
 resize-rows =
-    ends (lone 32) (End Limit 5)
+    ends (lone 32) (ended Limit 5)
     (call 4 tag 0 line 20 i 1 own 4 t 0 s 1 b 1 m 1 n 1 new-node 1 new-bucket 1)
-    ∷ ends (lone 1) (End Limit 5)
+    ∷ ends (lone 1) (ended Limit 5)
     (call 5 tag 0 line 20 i 1 own 4 t 0 s 1 b 1 m 1 n 1 new-node 1 new-bucket 1)
     -- a shrink at 32, a grow at 1, and a grow between: t is the head, i is 0
     ∷ keeps (lone 32)
@@ -133,9 +133,9 @@ resize-rows =
     (call 5 tag 0 line 27 i 1 own 4 t 2 s 2 b 3 m 1 n 2 new-node 2 new-bucket 4)
     (call 5 tag 0 line 28 i 1 own 5 t 2 s 2 b 3 m 1 n 2 new-node 3 new-bucket 4)
     -- the head is t, the head is not t
-    ∷ ends-writing grown (λ c. yard 2 0 2 old-nodes old-buckets (c ∷ other ∷ [])) (End Done 5)
+    ∷ ends-writing grown (λ c. yard 2 0 2 old-nodes old-buckets (c ∷ other ∷ [])) (ended Done 5)
     (call 4 tag 0 line 28 i 1 own 4 t 2 s 1 b 3 m 1 n 2 new-node 3 new-bucket 4)
-    ∷ ends grown (End Lost 5)
+    ∷ ends grown (ended Lost 5)
     (call 4 tag 0 line 28 i 1 own 4 t 1 s 1 b 3 m 1 n 2 new-node 3 new-bucket 4)
     ∷ []
 
@@ -169,13 +169,13 @@ apply-rows =
     (call 2 tag 5 line 36 i 1 own 4 t 2 s 3 b 1 m 1 n 2 new-node 3 new-bucket 4)
     (call 2 tag 5 line 32 i 0 own 5 t 0 s 0 b 0 m 0 n 0 new-node 0 new-bucket 0)
     -- b alone decides: tag 6 is in the set and not in b
-    ∷ ends-writing grown (with-these-buckets (bucket-0 ∷ bucket 1 (5 ∷ 6 ∷ 9 ∷ []) ∷ bucket-2 ∷ bucket-3 ∷ [])) (End Yes 5)
+    ∷ ends-writing grown (with-these-buckets (bucket-0 ∷ bucket 1 (5 ∷ 6 ∷ 9 ∷ []) ∷ bucket-2 ∷ bucket-3 ∷ [])) (counted Yes 5 3)
     (call 1 tag 6 line 36 i 1 own 4 t 2 s 3 b 2 m 1 n 2 new-node 3 new-bucket 4)
-    ∷ ends grown (End No 5)
+    ∷ ends grown (counted No 5 2)
     (call 1 tag 9 line 36 i 1 own 4 t 2 s 3 b 2 m 1 n 2 new-node 3 new-bucket 4)
-    ∷ ends-writing grown (with-these-buckets (bucket-0 ∷ bucket 1 (9 ∷ []) ∷ bucket-2 ∷ bucket-3 ∷ [])) (End Yes 5)
+    ∷ ends-writing grown (with-these-buckets (bucket-0 ∷ bucket 1 (9 ∷ []) ∷ bucket-2 ∷ bucket-3 ∷ [])) (counted Yes 5 1)
     (call 2 tag 5 line 36 i 1 own 4 t 2 s 3 b 2 m 1 n 2 new-node 3 new-bucket 4)
-    ∷ ends grown (End No 5)
+    ∷ ends grown (counted No 5 2)
     (call 2 tag 4 line 36 i 1 own 4 t 2 s 3 b 2 m 1 n 2 new-node 3 new-bucket 4)
     ∷ []
 

@@ -16,11 +16,12 @@ use Rattle.spec.specs.Plain.{insert-answer, found-answer}
 use Rattle.spec.specs.Held.{free-node, free-bucket}
 use Rattle.spec.specs.Listed.{slot, size-of, pred-of, place-of, place-for, tags-of, head-of, listed}
 
--- ---- what a line does: the task goes on with a record, or its call ends; and at most one write to shared memory
+-- ---- what a line does: the task goes on with a record, or its call ends, handing on how full a bucket is (its link, 0 for none);
+-- and at most one write to shared memory
 
 pub data Next : Type 0 where
   on : Task → Next
-  ends : Answer → Next
+  ends : Answer → ℕ → Next
 
 pub record Effect : Type 0 where
   pub next : Next
@@ -33,10 +34,14 @@ abbrev pub writes : Write → Task → Effect
 writes w c = record { next = on c; write = w }
 
 abbrev pub answers : Answer → Effect
-answers a = record { next = ends a; write = nothing }
+answers a = record { next = ends a 0; write = nothing }
 
 abbrev pub answers-writing : Write → Answer → Effect
-answers-writing w a = record { next = ends a; write = w }
+answers-writing w a = record { next = ends a 0; write = w }
+
+-- of an insert or a remove with this bucket
+abbrev pub answers-of : ℕ → Write → Answer → Effect
+answers-of b w a = record { next = ends a b; write = w }
 
 -- ---- contains
 
@@ -124,14 +129,14 @@ unfoldable pub answer-36 : Machine → Task → Answer
 answer-36 y c = insert-answer (length (listed y)) (member (c .tag) (tags-of y (c .b)))
 
 unfoldable pub insert-36 : Machine → Task → Effect
-insert-36 y c = answers-writing (insert-write y c (answer-36 y c)) (answer-36 y c)
+insert-36 y c = answers-of (c .b) (insert-write y c (answer-36 y c)) (answer-36 y c)
 
 -- "remove takes it out and ends yes, or ends no"
 unfoldable pub remove-36 : Machine → Task → Effect
 remove-36 y c =
     if member (c .tag) (tags-of y (c .b))
-    then answers-writing (put-tags (number (c .b)) (remove-tag (c .tag) (tags-of y (c .b)))) Yes
-    else answers No
+    then answers-of (c .b) (put-tags (number (c .b)) (remove-tag (c .tag) (tags-of y (c .b)))) Yes
+    else answers-of (c .b) nothing No
 
 -- "36: if b is frozen, every place in the task's record is emptied and i is 0, to 32; otherwise" as above
 unfoldable pub line-36 : Machine → Task → Effect

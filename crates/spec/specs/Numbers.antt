@@ -6,6 +6,8 @@ use Rattle.spec.specs.declared.Call.{Call}
 use Rattle.spec.specs.declared.Call.the-variants.{Insert, Remove, Contains, Grow, Shrink}
 use Rattle.spec.specs.declared.Answer.{Answer}
 use Rattle.spec.specs.declared.Answer.the-variants.{Yes, No, Full, Done, Lost, Limit}
+use Rattle.spec.specs.declared.Occupancy.{Occupancy}
+use Rattle.spec.specs.declared.Occupancy.the-variants.{NotGiven, Tags}
 use Rattle.spec.specs.declared.Output.{Output}
 use Rattle.spec.specs.declared.Output.the-variants.{At, End, Refuse}
 
@@ -26,8 +28,14 @@ answer-number Done = 4
 answer-number Lost = 5
 answer-number Limit = 6
 
--- an output as three words: 0 and the line; 1, the answer's number and the own steps; 2 and the refusal's number of paper 01
+-- the number of tags of an ended call's bucket, 0 where none is given
+abbrev pub occupancy-number : Occupancy → ℕ
+occupancy-number NotGiven = 0
+occupancy-number (Tags n) = n
+
+-- an output as four words: 0 and the line; 1, the answer's number, the own steps and the number of tags; 2 and the refusal's number
+-- of paper 01
 abbrev pub output-words : Output → List ℕ
-output-words (At line) = 0 ∷ line ∷ 0 ∷ []
-output-words (End a own) = 1 ∷ answer-number a ∷ own ∷ []
-output-words (Refuse r) = 2 ∷ r ∷ 0 ∷ []
+output-words (At line) = 0 ∷ line ∷ 0 ∷ 0 ∷ []
+output-words (End a own full) = 1 ∷ answer-number a ∷ own ∷ occupancy-number full ∷ []
+output-words (Refuse r) = 2 ∷ r ∷ 0 ∷ 0 ∷ []

@@ -7,13 +7,13 @@ use lib.ListN.{replicate}
 use Rattle.spec.specs.declared.Answer.the-variants.{Yes, No, Done, Lost}
 use Rattle.spec.specs.declared.Call.the-variants.{Insert, Remove, Contains, Grow, Shrink}
 use Rattle.spec.specs.declared.Output.{Output}
-use Rattle.spec.specs.declared.Output.the-variants.{At, End, Refuse}
+use Rattle.spec.specs.declared.Output.the-variants.{At, Refuse}
 use Rattle.spec.specs.declared.Listing.{Listing}
 use Rattle.spec.specs.declared.Listing.the-variants.{Count, Refused}
 use Rattle.spec.specs.Machine.{config-of}
 use Rattle.spec.specs.Entries.{opening, list}
 use Rattle.spec.specs.Everything.{everything}
-use Rattle.spec.specs.Rows.{Case, expected, observed, stepping, calling, times, in-three, filling, first-grow, grow-to-24, grow-filling}
+use Rattle.spec.specs.Rows.{Case, expected, observed, stepping, calling, times, in-three, gaining, ended, counted, filling, first-grow, grow-to-24, grow-filling}
 
 -- ---- openings: T, the pools' words, and the refusal (the bounds of the bucket pool, 67,584 words and more, are in `cases`)
 
@@ -68,7 +68,7 @@ ours =
       nodes = 2;
       buckets = 3;
       events = calling 0 Insert 5 3 ++ calling 0 Grow 0 7 ++ calling 1 Contains 5 2 ++ calling 0 Grow 0 16 ++ stepping 1 3;
-      outs = in-three (End Yes 3) ++ first-grow ++ At 12 ∷ At 13 ∷ At 15 ∷ grow-to-24 1 ++ At 27 ∷ At 17 ∷ At 18 ∷ End Yes 5 ∷ [];
+      outs = in-three (counted Yes 3 1) ++ first-grow ++ At 12 ∷ At 13 ∷ At 15 ∷ grow-to-24 1 ++ At 27 ∷ At 17 ∷ At 18 ∷ ended Yes 5 ∷ [];
       head = 1;
       size = 2;
       tags = 5 ∷ [];
@@ -80,7 +80,7 @@ ours =
       nodes = 3;
       buckets = 3;
       events = calling 0 Insert 5 3 ++ calling 0 Grow 0 7 ++ calling 1 Contains 5 2 ++ calling 0 Grow 0 18 ++ stepping 1 3;
-      outs = in-three (End Yes 3) ++ first-grow ++ At 12 ∷ At 13 ∷ At 15 ∷ grow-filling 1 18 ++ At 17 ∷ At 18 ∷ End Yes 5 ∷ [];
+      outs = in-three (counted Yes 3 1) ++ first-grow ++ At 12 ∷ At 13 ∷ At 15 ∷ grow-filling 1 18 ++ At 17 ∷ At 18 ∷ ended Yes 5 ∷ [];
       head = 2;
       size = 4;
       tags = 5 ∷ [];
@@ -93,9 +93,9 @@ ours =
       buckets = 3;
       events = calling 0 Insert 4 3 ++ calling 0 Insert 7 3 ++ calling 0 Grow 0 7 ++ calling 0 Shrink 0 18 ++ calling 0 Remove 4 12;
       outs =
-          times 2 (in-three (End Yes 3)) ++ first-grow ++ grow-filling 1 18
+          gaining 0 2 ++ first-grow ++ grow-filling 1 18
           ++ At 32 ∷ At 33 ∷ At 39
-          ∷ At 40 ∷ At 46 ∷ At 47 ∷ At 48 ∷ At 52 ∷ At 49 ∷ At 50 ∷ At 51 ∷ At 36 ∷ End Yes 12 ∷ [];
+          ∷ At 40 ∷ At 46 ∷ At 47 ∷ At 48 ∷ At 52 ∷ At 49 ∷ At 50 ∷ At 51 ∷ At 36 ∷ counted Yes 12 1 ∷ [];
       head = 0;
       size = 1;
       tags = 7 ∷ [];
@@ -110,10 +110,10 @@ ours =
       outs =
           first-grow ++ grow-to-24 1 ++ At 27 ∷ At 28
           ∷ At 32 ∷ At 33 ∷ At 36
-          ∷ End Done 18
+          ∷ ended Done 18
           ∷ At 32 ∷ At 33 ∷ At 39 ∷ At 40 ∷ At 46 ∷ At 47 ∷ At 48 ∷ At 52
-          ∷ End Yes 3
-          ∷ At 49 ∷ At 50 ∷ At 51 ∷ At 36 ∷ End Yes 12 ∷ [];
+          ∷ counted Yes 3 1
+          ∷ At 49 ∷ At 50 ∷ At 51 ∷ At 36 ∷ counted Yes 12 2 ∷ [];
       head = 2;
       size = 1;
       tags = 1 ∷ 2 ∷ [];
@@ -128,11 +128,11 @@ ours =
       outs =
           first-grow ++ grow-to-24 1 ++ At 27 ∷ At 28
           ∷ At 32 ∷ At 33 ∷ At 36
-          ∷ End Done 18
+          ∷ ended Done 18
           ∷ At 32 ∷ At 33 ∷ At 39 ∷ At 40 ∷ At 46 ∷ At 47 ∷ At 48 ∷ At 52
           ∷ At 32
-          ∷ At 49 ∷ At 50 ∷ At 51 ∷ At 36 ∷ End Yes 12
-          ∷ At 33 ∷ At 36 ∷ End Yes 6 ∷ [];
+          ∷ At 49 ∷ At 50 ∷ At 51 ∷ At 36 ∷ counted Yes 12 1
+          ∷ At 33 ∷ At 36 ∷ counted Yes 6 2 ∷ [];
       head = 2;
       size = 1;
       tags = 2 ∷ 4 ∷ [];
@@ -144,7 +144,7 @@ ours =
       nodes = 3;
       buckets = 1;
       events = calling 0 Grow 0 6 ++ calling 1 Grow 0 6 ++ stepping 1 1 ++ stepping 0 1;
-      outs = times 2 grow-to-28 ++ End Done 7 ∷ End Lost 7 ∷ [];
+      outs = times 2 grow-to-28 ++ ended Done 7 ∷ ended Lost 7 ∷ [];
       head = 2;
       size = 2;
       tags = [];
@@ -180,7 +180,7 @@ ours =
       nodes = 2;
       buckets = 3;
       events = calling 0 Grow 0 7 ++ calling 0 Grow 0 18 ++ calling 0 Insert 0 10 ++ calling 0 Insert 1 7;
-      outs = first-grow ++ grow-filling 1 18 ++ insert-filling (End Yes 10) ++ insert-to-49 ++ Refuse 7 ∷ [];
+      outs = first-grow ++ grow-filling 1 18 ++ insert-filling (counted Yes 10 1) ++ insert-to-49 ++ Refuse 7 ∷ [];
       head = 0;
       size = 4;
       tags = 0 ∷ [];
@@ -194,7 +194,7 @@ ours =
       events = calling 0 Grow 0 7 ++ calling 0 Insert 5 7 ++ calling 1 Insert 5 7 ++ stepping 0 3 ++ stepping 1 3;
       outs =
           first-grow ++ times 2 (insert-to-49 ++ At 50 ∷ [])
-          ++ At 51 ∷ At 36 ∷ End Yes 10 ∷ At 51 ∷ At 36 ∷ End No 10 ∷ [];
+          ++ At 51 ∷ At 36 ∷ counted Yes 10 1 ∷ At 51 ∷ At 36 ∷ counted No 10 1 ∷ [];
       head = 1;
       size = 2;
       tags = 5 ∷ [];
@@ -218,7 +218,7 @@ ours =
       nodes = 3;
       buckets = 3;
       events = calling 0 Grow 0 6 ++ calling 1 Grow 0 6 ++ stepping 0 1 ++ stepping 1 1 ++ calling 0 Grow 0 18;
-      outs = times 2 grow-to-28 ++ End Done 7 ∷ End Lost 7 ∷ grow-filling 1 18;
+      outs = times 2 grow-to-28 ++ ended Done 7 ∷ ended Lost 7 ∷ grow-filling 1 18;
       head = 0;
       size = 4;
       tags = [];
@@ -226,5 +226,5 @@ ours =
     ∷ []
 
 pub ours-hold : map observed ours ≡ map expected ours
-unfolding everything expected observed stepping calling times in-three filling first-grow grow-to-24 grow-filling insert-to-49 insert-filling grow-to-28 ours
+unfolding everything expected observed stepping calling times in-three gaining filling first-grow grow-to-24 grow-filling insert-to-49 insert-filling grow-to-28 ours
 ours-hold = refl

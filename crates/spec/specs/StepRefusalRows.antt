@@ -5,11 +5,12 @@ use mathlib.Core.Path.{_≡_, refl}
 use mathlib.Core.List.{List, [], _∷_, map}
 use Rattle.spec.specs.declared.Answer.the-variants.{No, Lost}
 use Rattle.spec.specs.declared.Output.{Output}
-use Rattle.spec.specs.declared.Output.the-variants.{At, End}
+use Rattle.spec.specs.declared.Output.the-variants.{At}
 use Rattle.spec.specs.declared.Task.{Task}
 use Rattle.spec.specs.Machine.{Machine}
 use Rattle.spec.specs.Entries.{step}
 use Rattle.spec.specs.Everything.{everything}
+use Rattle.spec.specs.Rows.{ended, counted}
 use Rattle.spec.specs.WholeRows.{call_tag_line_i_own_t_s_b_m_n_new-node_new-bucket_, node, bucket, yard, Row, told, stepped, refused, whole-rows}
 
 -- node 0 is head with one place, node 1 has two, node 2 has four and is free, and so is bucket 2
@@ -93,9 +94,9 @@ out-of c = step (three c) 0 .out
 
 pub sparse-accepted :
     map out-of sparse
-    ≡ At 13 ∷ At 18 ∷ At 17 ∷ At 18 ∷ At 18 ∷ End No 2
-    ∷ At 39 ∷ At 27 ∷ At 28 ∷ End Lost 2
-    ∷ At 33 ∷ At 36 ∷ End No 2
+    ≡ At 13 ∷ At 18 ∷ At 17 ∷ At 18 ∷ At 18 ∷ ended No 2
+    ∷ At 39 ∷ At 27 ∷ At 28 ∷ ended Lost 2
+    ∷ At 33 ∷ At 36 ∷ counted No 2 0
     ∷ At 40 ∷ At 51 ∷ At 44 ∷ At 49 ∷ At 47 ∷ At 48 ∷ At 52 ∷ At 49 ∷ At 50 ∷ At 51 ∷ At 36 ∷ []
 unfolding everything whole-rows three sparse out-of
 sparse-accepted = refl

@@ -20,11 +20,17 @@ pub enum Answer {
     Limit,
 }
 
-// What a start or a step answers: the line at which the task now stands, the ended call's answer and own steps, or a refusal's
-// number.
+// How many tags the bucket of an ended insert or remove holds afterwards; a contains and a resize give none.
+pub enum Occupancy {
+    NotGiven,
+    Tags(u32),
+}
+
+// What a start or a step answers: the line at which the task now stands, the ended call's answer, own steps and how full its bucket
+// is, or a refusal's number.
 pub enum Output {
     At(u32),
-    End(Answer, u16),
+    End(Answer, u16, Occupancy),
     Refuse(u32),
 }
 

@@ -29,10 +29,10 @@ fn input_room() -> [u8; 1024]
 }
 
 // What one read prints, at most `longest-line` bytes for each of its 1,024 (`feeds-bound`), or the end, which is shorter (`end-bound`).
-fn output_room() -> [u8; 53248]
+fn output_room() -> [u8; 74752]
     ensures { λ r. ⌜ 1024 * longest-line ≡ length r ⌝ }
 {
-    [0; 53248]
+    [0; 74752]
 }
 
 // A session between two reads, and whether the input may go on.

@@ -60,18 +60,25 @@ add-requires c κs = search needs
 enum-told : tie.Need-enum-told Inv-loop μ-loop
 enum-told c = search needs
 
+answered-requires : tie.Need-answered-requires Inv-loop μ-loop
+answered-requires c κs = search needs
+
 returns : tie.Need-returns Inv-loop μ-loop
 returns c =
-    let l = c .before .before .before .before .loop in
-    let a = c .before .before .before .before .before .before .before .before .args in
+    let told = c .before in
+    let asked = told .before .before in
+    let turn = asked .before .before in
+    let l = turn .loop in
+    let a = turn .before .before .before .before .args in
     let xs = tags-in (a .a .words) in
     let ys = tags-in (a .b .words) in
     let u = tail-union (l .i) xs ys in
     let x = getD (a .a .words) (1 + l .i) 0 in
-    let f = adds u x (l .inv .2) (l .out) (l .inv .3) .full (ap (λ (d : Changed). d .answer) (sym (c .before .before .add .ensures)) ∙ c .enum-told .given .1) in
+    let full = ap (λ (d : Changed). d .answer) (sym (asked .add .ensures)) ∙ told .enum-told .given .1 in
+    let f = adds u x (l .inv .2) (l .out) (l .inv .3) .full full in
     let m : tail-union (l .i - 1) xs ys ≡ add-tag x u = next (a .a .words) ys (l .i) (omega arith) (l .inv .0) in
     let f′ : 64 < length (tail-union (l .i - 1) xs ys) = rw m f in
-    is-full (a .a) (a .b) (omega (arith, length-tail-union (l .i - 1) xs ys))
+    c .answered .ensures ∙ is-full (a .a) (a .b) (omega (arith, length-tail-union (l .i - 1) xs ys))
 
 sub-i : tie.Need-sub-i Inv-loop μ-loop
 sub-i c = search needs
@@ -81,20 +88,28 @@ loop-less c = search needs
 
 loop-again : tie.Need-loop-again Inv-loop μ-loop
 loop-again c =
-    let l = c .before .before .before .before .loop in
-    let a = c .before .before .before .before .before .before .before .before .args in
+    let asked = c .before .before in
+    let turn = asked .before .before in
+    let l = turn .loop in
+    let a = turn .before .before .before .before .args in
     let xs = tags-in (a .a .words) in
     let ys = tags-in (a .b .words) in
     let u = tail-union (l .i) xs ys in
     let x = getD (a .a .words) (1 + l .i) 0 in
-    let f = adds u x (l .inv .2) (l .out) (l .inv .3) .more (λ e. not-full (c .before .before .add .result .answer) (c .before .match .keys2) (ap (λ (d : Changed). d .answer) (c .before .before .add .ensures) ∙ e)) in
+    let answer = ap (λ (d : Changed). d .answer) (asked .add .ensures) in
+    let f = adds u x (l .inv .2) (l .out) (l .inv .3) .more (λ e. not-full (asked .add .result .answer) (c .before .match .keys2) (answer ∙ e)) in
     let m : tail-union (l .i - 1) xs ys ≡ add-tag x u = next (a .a .words) ys (l .i) (omega arith) (l .inv .0) in
-    (omega arith, omega arith, rw m (f .0), rw m (ap (λ (d : Changed). d .bucket .words) (c .before .before .add .ensures) ∙ f .1))
+    (omega arith, omega arith, rw m (f .0), rw m (ap (λ (d : Changed). d .bucket .words) (asked .add .ensures) ∙ f .1))
+
+answered-requires-2 : tie.Need-answered-requires-2 Inv-loop μ-loop
+answered-requires-2 c κs = search needs
 
 returns-2 : tie.Need-returns-2 Inv-loop μ-loop
 returns-2 c =
-    let a = c .before .before .before .before .before .args in
-    is-joined (a .a) (a .b) (c .before .loop .out) (c .before .loop .i) (omega arith) (c .before .loop .inv .2) (c .before .loop .inv .3)
+    let turn = c .before .before in
+    let l = turn .loop in
+    let a = turn .before .before .before .before .args in
+    c .answered2 .ensures ∙ is-joined (a .a) (a .b) (l .out) (l .i) (omega arith) (l .inv .2) (l .inv .3)
 
 pub union-spec : {M : Type 1} → statement M
 union-spec =
@@ -110,8 +125,10 @@ union-spec =
     array-read-add
     add-requires
     enum-told
+    answered-requires
     returns
     sub-i
     loop-less
     loop-again
+    answered-requires-2
     returns-2)

@@ -1,25 +1,16 @@
--- `lines::end` meets its contract: with k below 8 the answer changes the state, and stores an idle record. Assumes nothing.
+-- `lines::end` meets its contract: a call that names no bucket gives no number. Assumes nothing.
+use mathlib.Core.Path.{refl}
+use Rattle.spec.specs.Entries.{occupancy}
 use borrow.Author.Needs.{needs}
-use borrow.Author.Tests.{lt-ltb}
-use Rattle.lines.specs.Reply.{changes}
-use Rattle.lines.proofs.Settling.{ends-so}
 use Rattle.lines.proofs.end.Statement.{statement}
 use Rattle.lines.proofs.end.Tie as tie
 
-one-more-own-step-requires : tie.Need-one-more-own-step-requires
-one-more-own-step-requires c κs = search needs
-
-idle-requires : tie.Need-idle-requires
-idle-requires c κs = search needs
+ended-requires : tie.Need-ended-requires
+ended-requires c κs = search needs
 
 returns : tie.Need-returns
-unfolding changes
-returns c =
-    let own = c .before in
-    let p = own .before in (
-      λ ns bs. rw (own .one-more-own-step .ensures, c .idle .ensures) (ends-so (p .args .s) (p .args .k) (p .args .c) (p .pre) ns bs (p .args .a)),
-      lt-ltb _ _ (p .pre),
-    )
+unfolding occupancy
+returns c = (λ ns bs. c .ended .ensures .0 ns bs 0 refl, c .ended .ensures .1)
 
 pub end-spec : {M : Type 1} → statement M
-end-spec = tie.close (tie.spec one-more-own-step-requires idle-requires returns)
+end-spec = tie.close (tie.spec ended-requires returns)

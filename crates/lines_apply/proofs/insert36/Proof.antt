@@ -1,35 +1,33 @@
--- `lines_apply::insert36` meets its contract: a tag that the bucket has ends no; else the number of listed tags decides between full and
--- what the bucket answers. Assumes nothing.
-use mathlib.Core.Path.{_≡_, sym, ap, _∙_}
+-- `lines_apply::insert36` meets its contract: the tag is there, or 64 are listed, or the bucket gains it or has no room. The number that is
+-- handed on is the record's count afterwards. Assumes nothing.
+use mathlib.Core.Path.{_≡_, refl, sym, ap, _∙_, subst}
 use mathlib.Core.List.{List}
-use mathlib.Core.Bool.{false}
-use Prim.Native.Nat.{ℕ}
+use mathlib.Core.Bool.{true, false}
+use Prim.Native.Nat.{ℕ, _+_, _*_, _<_, _≤_}
 use native.Mathlib.Omega.{arith}
 use denote.Ref.{now}
-use lib.Dec.{leb}
 use lib.ListN.{length}
-use borrow.Author.Tests.{le-leb, lt-leb}
 use Rattle.spec.specs.declared.Task.{Task}
-use Rattle.spec.specs.declared.Answer.{Answer}
 use Rattle.spec.specs.declared.Answer.the-variants as ans
 use Rattle.spec.specs.Lists.{member}
 use Rattle.spec.specs.Machine.{Machine, with-buckets, machine-of}
-use Rattle.spec.specs.Words.{number, apply, changeable, tags}
+use Rattle.spec.specs.Words.{number, changeable, count, tags, nothing, apply}
 use Rattle.spec.specs.Listed.{listed}
-use Rattle.spec.specs.Lines.{answers}
-use Rattle.spec.specs.Entries.{Reply, accept}
+use Rattle.spec.specs.Lines.{answers-of}
+use Rattle.spec.specs.Entries.{refuse, accept, step-running}
+use Rattle.bucket.specs.declared.Response.{Response}
+use Rattle.bucket.specs.declared.Response.the-variants.{Yes}
+use Rattle.pool.specs.declared.buckets.Answered.{Answered}
 use Rattle.pool.specs.Pool.{add-answer, add-words}
-use Rattle.pool.proofs.Facts.{link-of}
-use Rattle.pool.proofs.At.{add-here, found-here}
+use Rattle.pool.proofs.At.{found-here, add-here}
 use Rattle.listing.proofs.Sound.{counted}
 use Rattle.lines.proofs.Giving.{refusing, going}
-use Rattle.lines_apply.proofs.Apply36.{added-yes, added-other, not-yes}
-use Rattle.lines_apply.proofs.Apply36.{full-36, yes-36, no-36, over-36}
+use Rattle.lines_apply.proofs.Apply36.{not-yes, Adds, gains, over, adds, no-36, full-36, yes-36, over-36}
 use borrow.Author.Needs.{needs}
 use Rattle.lines_apply.proofs.insert36.Statement.{statement}
 use Rattle.lines_apply.proofs.insert36.Tie as tie
 
--- ---- what is known at the start
+-- ---- what is known at a place
 
 module _ (p : tie.Start) where
   abbrev machine : Machine
@@ -44,67 +42,83 @@ module _ (p : tie.Start) where
   abbrev place : ℕ
   place = number (task .b)
 
-  at-36 : task .line ≡ 36
-  at-36 = p .pre .1
+  filled : task .b ≡ 0 → ⊥
+  filled z = omega (arith, p .pre .0 .there)
 
-  filled-b : task .b ≡ 0 → ⊥
-  filled-b e = let h = p .pre .4 in omega arith
+  fits : 66 * place + 66 ≤ length words
+  fits = omega (arith, p .pre .0 .there, p .pre .0 .fits)
 
-  may-change : changeable words place ≡ 0 → ⊥
-  may-change e = let h = p .pre .5 in omega arith
+abbrev before-word : tie.After-word → tie.Start
+before-word p = p .before .before .before .before .before
 
-  inserting : task .call ≡ 1
-  inserting = p .pre .6
+abbrev at-start : tie.After-has-at → tie.Start
+at-start p = before-word (p .before .before)
 
--- ---- the bucket is searched
-
-has : (p : tie.After-has-at) → let s = p .before .before .before .before .before in p .has-at .result ≡ member (task s .tag) (tags (words s) (place s))
+-- the search says whether the bucket has the tag
+has : (p : tie.After-has-at) → let q = at-start p in p .has-at .result ≡ member (task q .tag) (tags (words q) (place q))
 has p =
-    let s = p .before .before .before .before .before in
-    let m = link-of (machine s) (s .pre .2) (task s .b) (s .pre .3) in
-    let some = s .pre .4 in
-    p .has-at .ensures ∙ found-here (words s) (place s) (m .good (omega (arith, some))) (omega (arith, m .fits, some)) (task s .tag)
+    let q = at-start p in
+    p .has-at .ensures ∙ found-here (words q) (place q) (q .pre .0 .good) (fits q) (task q .tag)
 
--- ---- the tag is absent, and the listed tags are counted
+-- the second word is the count
+number-is : (p : tie.After-word) → let q = before-word p in p .word .result ≡ count (words q) (place q)
+unfolding count
+number-is p = p .word .ensures
 
-module _ (p : tie.After-count) where
-  abbrev searched : tie.After-has-at
-  searched = p .before .before .before
+-- the listed tags are counted
+listed-is : (p : tie.After-count) → p .count .result ≡ length (listed (machine (at-start (p .before .before .before))))
+listed-is p = let q = at-start (p .before .before .before) in p .count .ensures ∙ counted (machine q) (q .pre .2)
 
-  abbrev start : tie.Start
-  start = searched .before .before .before .before .before
-
-  absent : member (task start .tag) (tags (words start) (place start)) ≡ false
-  absent = sym (has searched) ∙ p .before .before .if1 .left
-
-  count-is : p .count .result ≡ length (listed (machine start))
-  count-is = p .count .ensures ∙ counted (machine start) (start .pre .2)
-
--- ---- the bucket is asked
+-- ---- the bucket has been asked
 
 module _ (p : tie.After-add-at) where
-  abbrev listed-few : tie.Else2
-  listed-few = p .before .before
+  abbrev looked : tie.Else1
+  looked = p .before .before .before .before .before
 
-  abbrev from : tie.Start
-  from = start (listed-few .before)
+  abbrev q : tie.Start
+  q = at-start (looked .before)
 
-  abbrev tag : ℕ
-  tag = task from .tag
+  absent : member (task q .tag) (tags (words q) (place q)) ≡ false
+  absent = sym (has (looked .before)) ∙ looked .if1 .left
 
-  room : leb 64 (length (listed (machine from))) ≡ false
-  room = lt-leb 64 _ (rw (count-is (listed-few .before)) at (listed-few .if2 .left))
+  room : length (listed (machine q)) < 64
+  room = let tested = p .before .before in rw (listed-is (tested .before)) at (tested .if2 .left)
 
-  gives : (p .add-at .result ≡ add-answer (words from) (place from) tag) × (p .add-at .last .0 ≡ add-words (words from) (place from) tag)
-  gives =
-      let some = from .pre .4 in
-      let m = link-of (machine from) (from .pre .2) (task from .b) (from .pre .3) in
-      let d = add-here (words from) (place from) (m .good (omega (arith, some))) (omega (arith, m .fits, some)) tag in
+  nf : changeable (words q) (place q) ≡ 0 → ⊥
+  nf = q .pre .0 .may-change
+
+  abbrev answer : Response
+  answer = add-answer (words q) (place q) (task q .tag)
+
+  abbrev after : List ℕ
+  after = add-words (words q) (place q) (task q .tag)
+
+  here : (p .add-at .result ≡ record { response = answer; count = count after (place q) }) × (p .add-at .last .0 ≡ after)
+  here =
+      let d = add-here (words q) (place q) (q .pre .0 .good) (fits q) (task q .tag) in
       (p .add-at .ensures .0 ∙ d .0, p .add-at .ensures .1 ∙ d .1)
 
--- the call ends so, with these words in the bucket pool
-abbrev ended : tie.Start → Answer → List ℕ → Reply
-ended p a w = accept (machine-of (p .args .s) (now (p .args .ns)) w) (p .args .k) (p .args .c .own) (answers a)
+  asked : Adds (words q) (place q) (task q .tag) nf (p .add-at .result .response) (p .add-at .last .0)
+  asked =
+      subst (λ (d : Response). Adds (words q) (place q) (task q .tag) nf d (p .add-at .last .0)) (sym (ap (λ (a : Answered). a .response) (here .0)))
+      (subst (λ (w : List ℕ). Adds (words q) (place q) (task q .tag) nf answer w) (sym (here .1)) (adds (words q) (place q) (task q .tag) nf absent))
+
+  count-is : p .add-at .result .count ≡ count (p .add-at .last .0) (place q)
+  count-is = ap (λ (a : Answered). a .count) (here .0) ∙ ap (λ (w : List ℕ). count w (place q)) (sym (here .1))
+
+  abbrev left : List ℕ → Machine
+  left w = machine-of (q .args .s) (now (q .args .ns)) w
+
+  on-yes : {d : Response} {w : List ℕ} → Adds (words q) (place q) (task q .tag) nf d w → d ≡ Yes
+      → accept (left w) (q .args .k) (task q .own) (answers-of (task q .b) nothing ans.Yes) ≡ step-running (machine q) (q .args .k) (task q)
+  unfolding accept apply with-buckets
+  on-yes (gains l) e = sym (yes-36 (machine q) _ (task q) (q .pre .0 .line) (filled q) nf (q .pre .1) absent room l)
+  on-yes (over l) e = let z : _≡_ {A = ℕ} 0 1 = cc in absurd (omega arith)
+
+  on-other : {d : Response} {w : List ℕ} → Adds (words q) (place q) (task q .tag) nf d w → (d ≡ Yes → ⊥)
+      → step-running (machine q) (q .args .k) (task q) ≡ refuse 8 (left w)
+  on-other (gains l) n = absurd (n refl)
+  on-other (over l) n = over-36 (machine q) _ (task q) (q .pre .0 .line) (filled q) nf (q .pre .1) absent room l
 
 -- ---- the needs
 
@@ -114,38 +128,51 @@ cast-j c = search needs
 sub-j : tie.Need-sub-j
 sub-j c = search needs
 
+mul-word : tie.Need-mul-word
+mul-word c = search needs
+
+add-word : tie.Need-add-word
+add-word c = search needs
+
+word-requires : tie.Need-word-requires
+word-requires c κs = search needs
+
 has-at-requires : tie.Need-has-at-requires
 has-at-requires c κs = search needs
 
-end-requires : tie.Need-end-requires
-end-requires c κs = search needs
+end-counted-requires : tie.Need-end-counted-requires
+end-counted-requires c κs = search needs
 
 same-length : tie.Need-same-length
 same-length c = search needs
 
 returns : tie.Need-returns
 returns c =
-    let asked = c .before .before in
-    let s = asked .before .before .before .before .before in
-    going (c .end .ensures .1)
-    (c .end .ensures .0 _ _ ∙ sym (no-36 (machine s) _ (task s) (at-36 s) (filled-b s) (may-change s) (inserting s) (sym (has asked) ∙ c .before .if1 .taken)))
+    let found = c .before .before in
+    let q = at-start found in
+    going (c .end-counted .ensures .1)
+    (c .end-counted .ensures .0 _ _ (number-is (found .before .before))
+    ∙ sym (no-36 (machine q) _ (task q) (q .pre .0 .line) (filled q) (q .pre .0 .may-change) (q .pre .1) (sym (has found) ∙ c .before .if1 .taken)))
 
 count-requires : tie.Need-count-requires
 count-requires c κs = search needs
 
-end-requires-2 : tie.Need-end-requires-2
-end-requires-2 c κs = search needs
+end-counted-requires-2 : tie.Need-end-counted-requires-2
+end-counted-requires-2 c κs = search needs
 
 same-length-2 : tie.Need-same-length-2
 same-length-2 c = search needs
 
 returns-2 : tie.Need-returns-2
 returns-2 c =
-    let p = c .before .before in
-    let s = start p in
-    let many = le-leb 64 _ (rw (count-is p) at (c .before .if2 .taken)) in
-    going (c .end2 .ensures .1)
-    (c .end2 .ensures .0 _ _ ∙ sym (full-36 (machine s) _ (task s) (at-36 s) (filled-b s) (may-change s) (inserting s) (absent p) many))
+    let tallied = c .before .before in
+    let looked = tallied .before .before in
+    let found = looked .before in
+    let q = at-start found in
+    let full = rw (listed-is tallied) at (c .before .if2 .taken) in
+    going (c .end-counted2 .ensures .1)
+    (c .end-counted2 .ensures .0 _ _ (number-is (found .before .before))
+    ∙ sym (full-36 (machine q) _ (task q) (q .pre .0 .line) (filled q) (q .pre .0 .may-change) (q .pre .1) (sym (has found) ∙ looked .if1 .left) full))
 
 add-at-requires : tie.Need-add-at-requires
 add-at-requires c κs = search needs
@@ -153,21 +180,16 @@ add-at-requires c κs = search needs
 enum-told : tie.Need-enum-told
 enum-told c = search needs
 
-end-requires-3 : tie.Need-end-requires-3
-end-requires-3 c κs = search needs
+end-counted-requires-3 : tie.Need-end-counted-requires-3
+end-counted-requires-3 c κs = search needs
 
 same-length-3 : tie.Need-same-length-3
 same-length-3 c = search needs
 
 returns-3 : tie.Need-returns-3
-unfolding accept apply with-buckets
 returns-3 c =
     let p = c .before .before .before .before .before in
-    let s = from p in
-    let i = added-yes (words s) (place s) (tag p) (sym (gives p .0) ∙ c .before .enum-told .given .1) in
-    going (c .end3 .ensures .1)
-    (c .end3 .ensures .0 _ _ ∙ ap (ended s ans.Yes) (gives p .1 ∙ i .2)
-    ∙ sym (yes-36 (machine s) _ (task s) (at-36 s) (filled-b s) (may-change s) (inserting s) (room p) (i .0) (i .1)))
+    going (c .end-counted3 .ensures .1) (c .end-counted3 .ensures .0 _ _ (count-is p) ∙ on-yes p (asked p) (c .before .enum-told .given .1))
 
 refused-requires : tie.Need-refused-requires
 refused-requires c κs = search needs
@@ -178,11 +200,7 @@ same-length-4 c = search needs
 returns-4 : tie.Need-returns-4
 returns-4 c =
     let p = c .before .before .before .before in
-    let s = from p in
-    let i = added-other (words s) (place s) (tag p) (may-change s) (absent (listed-few p .before)) (λ e. not-yes _ (c .before .match .keys2) (gives p .0 ∙ e)) in
-    rw (gives p .1 ∙ i .1)
-    (refusing 8 (c .refused .ensures)
-    (over-36 (machine s) _ (task s) (at-36 s) (filled-b s) (may-change s) (inserting s) (room p) (absent (listed-few p .before)) (i .0)))
+    refusing 8 (c .refused .ensures) (on-other p (asked p) (not-yes _ (c .before .match .keys2)))
 
 pub insert36-spec : {M : Type 1} → statement M
 insert36-spec =
@@ -190,17 +208,20 @@ insert36-spec =
     (tie.spec
     cast-j
     sub-j
+    mul-word
+    add-word
+    word-requires
     has-at-requires
-    end-requires
+    end-counted-requires
     same-length
     returns
     count-requires
-    end-requires-2
+    end-counted-requires-2
     same-length-2
     returns-2
     add-at-requires
     enum-told
-    end-requires-3
+    end-counted-requires-3
     same-length-3
     returns-3
     refused-requires

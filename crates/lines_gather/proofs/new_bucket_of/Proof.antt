@@ -46,20 +46,24 @@ size-of-requires c κs = search needs
 split-requires : tie.Need-split-requires
 split-requires c κs = search needs
 
+answered-requires : tie.Need-answered-requires
+answered-requires c κs = search needs
+
 returns : tie.Need-returns
 unfolding gathered split-of tags-of size-of
 returns c =
-    let loaded = c .before .before .before in
+    let cut = c .before in
+    let loaded = cut .before .before .before in
     let p = start loaded in
     let w = now (p .args .bs) in
     let t = p .args .c in
-    let z : ℕ = c .before .size-of .result in
+    let z : ℕ = cut .before .size-of .result in
     let f : ℕ → Bool = λ k. eqb (slot (p .args .g) k z) (t .i) in
     let few : length (filter f (tags-in (loaded .load .result .words))) ≤ 64 =
     rw (tags-m loaded) (omega (arith, length-filter f (tags w (number (t .m))), few-tags w (number (t .m)) (p .pre .5))) in
     λ s same.
-    rw (same, c .before .before .if1 .taken, ← c .before .size-of .ensures, ← tags-m loaded)
-    (makes-one (c .split .result) (filter f (tags-in (loaded .load .result .words))) few (ap (λ (b : Bucket). b .words) (c .split .ensures)))
+    rw (c .answered .ensures, same, cut .before .before .if1 .taken, ← cut .before .size-of .ensures, ← tags-m loaded)
+    (makes-one (cut .split .result) (filter f (tags-in (loaded .load .result .words))) few (ap (λ (b : Bucket). b .words) (cut .split .ensures)))
 
 cast-load-2 : tie.Need-cast-load-2
 cast-load-2 c = search needs
@@ -94,6 +98,7 @@ new-bucket-of-spec =
     load-requires
     size-of-requires
     split-requires
+    answered-requires
     returns
     cast-load-2
     sub-load-2

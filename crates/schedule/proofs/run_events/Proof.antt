@@ -17,7 +17,7 @@ use Rattle.schedule.proofs.run_events.Tie as tie
 abbrev Inv-loop : tie.InvT-loop
 Inv-loop n events ns₀ bs₀ outs₀ t₀ i₀ ns bs outs t i =
     (i ≤ n) × (length ns ≡ length ns₀) × (length bs ≡ length bs₀) × (length outs ≡ length outs₀)
-    × Rest (machine-of t₀ ns₀ bs₀) outs₀ (events-of n events) (machine-of t ns bs) outs (3 * i) (events-of (n - i) (drop (4 * i) events))
+    × Rest (machine-of t₀ ns₀ bs₀) outs₀ (events-of n events) (machine-of t ns bs) outs (4 * i) (events-of (n - i) (drop (4 * i) events))
 
 abbrev μ-loop : tie.MeasureT-loop
 μ-loop n events ns₀ bs₀ outs₀ t₀ i₀ ns bs outs t i = n - i

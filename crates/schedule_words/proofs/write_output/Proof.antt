@@ -1,4 +1,4 @@
--- `write_output` writes them from word 3 i on: what is written over the part that begins there, put back into the whole.
+-- `write_output` writes them from word 4 i on: what is written over the part that begins there, put back into the whole.
 -- Assumes nothing.
 use mathlib.Core.Path.{_≡_, ap, _∙_}
 use mathlib.Core.List.{List}
@@ -10,7 +10,7 @@ use lib.ListN.{length, drop, length-drop}
 use Rattle.spec.specs.Numbers.{output-words}
 use Rattle.spec.specs.Words.{overwrite}
 use Rattle.pool.specs.Pool.{write-front}
-use Rattle.schedule_words.proofs.Laws.{three}
+use Rattle.schedule_words.proofs.Laws.{output-length}
 use Rattle.pool.proofs.Part.{rest, back}
 use borrow.Author.Needs.{needs}
 use Rattle.schedule_words.proofs.write_output.Statement.{statement}
@@ -51,10 +51,10 @@ returns c =
     let entry = at-words .before .before in
     let a = entry .args in
     let p = now (a .outs) in
-    let i = 3 * a .i in
+    let i = 4 * a .i in
     let v = output-words (a .out) in
     let w = at-words .output-words in
-    let n = three (a .out) in
+    let n = output-length (a .out) in
     let l : length v ≤ length (drop i p) = rw (length-drop i p) (omega (arith, entry .pre)) in
     let f : write-front (drop i p) v ≡ overwrite (drop i p) 0 v = rw (le-leb (length v) (length (drop i p)) l) in
     let e = at-write .write-over .ensures ∙ ap (λ (u : List ℕ). write-front u (w .result)) (rest p i)

@@ -1,7 +1,7 @@
--- `session_print::end_line` meets its contract. Five parts appended one after the other. Assumes nothing.
+-- `session_print::end_line` meets its contract. Six parts appended one after the other. Assumes nothing.
 use mathlib.Core.List.{[], _∷_, _++_}
-use Rattle.session_print.proofs.Laws.{append-5}
-use Rattle.session.specs.Print.{decimal, output-line, answer-word}
+use Rattle.session_print.proofs.Laws.{append-6}
+use Rattle.session.specs.Print.{decimal, output-line, answer-word, occupancy-field}
 use Rattle.session.specs.Keys.{end-key}
 use Rattle.session.specs.Buffer.{append}
 use borrow.Author.Needs.{needs}
@@ -23,6 +23,9 @@ one-byte-requires c κs = search needs
 number-requires : tie.Need-number-requires
 number-requires c κs = search needs
 
+occupancy-field-requires : tie.Need-occupancy-field-requires
+occupancy-field-requires c κs = search needs
+
 one-byte-requires-2 : tie.Need-one-byte-requires-2
 one-byte-requires-2 c κs = search needs
 
@@ -32,15 +35,16 @@ same-length c = search needs
 returns : tie.Need-returns
 unfolding output-line append
 returns c =
-    let at-number = c .before .before .before .before .before .before in
+    let at-last = c .before .before in
+    let at-field = at-last .before .before .before .before in
+    let at-number = at-field .before .before .before .before in
     let at-one-byte = at-number .before .before .before .before in
     let at-answer = at-one-byte .before .before .before .before in
     let at-keyed = at-answer .before .before .before .before in
-    let entry = at-keyed .before .before .before .before in
-    let a = entry .args in
-    append-5 (end-key ++ decimal (a .k) ++ (44 ∷ [])) (answer-word (a .w)) (44 ∷ []) (decimal (a .own)) (10 ∷ []) _ _ _ _ _ _
+    let a = at-keyed .before .before .before .before .args in
+    append-6 (end-key ++ decimal (a .k) ++ (44 ∷ [])) (answer-word (a .w)) (44 ∷ []) (decimal (a .own)) (occupancy-field (a .full)) (10 ∷ []) _ _ _ _ _ _ _
     (at-keyed .keyed .ensures) (at-answer .answer .ensures) (at-one-byte .one-byte .ensures) (at-number .number .ensures)
-    (c .before .before .one-byte2 .ensures)
+    (at-field .occupancy-field .ensures) (at-last .one-byte2 .ensures)
 
 pub end-line-spec : {M : Type 1} → statement M
 end-line-spec =
@@ -51,6 +55,7 @@ end-line-spec =
     answer-requires
     one-byte-requires
     number-requires
+    occupancy-field-requires
     one-byte-requires-2
     same-length
     returns)

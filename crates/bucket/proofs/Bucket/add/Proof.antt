@@ -16,12 +16,28 @@ use Rattle.bucket.proofs.Bucket.add.Tie as tie
 abbrev yes : List ℕ → Changed
 yes w = changed w Yes
 
+abbrev tagOf : tie.After-stands-at → ℕ
+tagOf c = c .before .before .before .before .args .tag
+
+abbrev tagsOf : tie.After-stands-at → List ℕ
+tagsOf c = tags-in (c .before .before .before .before .args .t1 .words)
+
+-- the tag stands where the search ended if and only if the bucket has it
+has : (c : tie.After-stands-at) → found (tagOf c) (tagsOf c) ≡ c .stands-at .result
+has c = found-at _ _ _ _ (c .before .position .ensures) (c .stands-at .ensures)
+
+absent : (c : tie.Else2) → found (tagOf (c .before)) (tagsOf (c .before)) ≡ false
+absent c = has (c .before) ∙ c .if2 .left
+
 element-copy-out-flag : tie.Need-element-copy-out-flag
 element-copy-out-flag c = search needs
 
+answered-requires : tie.Need-answered-requires
+answered-requires c κs = search needs
+
 returns : tie.Need-returns
 unfolding added
-returns c = rw (eq-eqb _ _ (c .if1 .taken))
+returns c = rw (eq-eqb _ _ (c .before .if1 .taken)) (c .answered .ensures)
 
 position-requires : tie.Need-position-requires
 position-requires c κs = search needs
@@ -29,57 +45,60 @@ position-requires c κs = search needs
 stands-at-requires : tie.Need-stands-at-requires
 stands-at-requires c κs = search needs
 
+answered-requires-2 : tie.Need-answered-requires-2
+answered-requires-2 c κs = search needs
+
 returns-2 : tie.Need-returns-2
 unfolding added
 returns-2 c =
-    let a = c .before .before .before .before .before .args in
-    let f : found (a .tag) (tags-in (a .t1 .words)) ≡ true =
-    found-at _ _ _ _ (c .before .before .position .ensures) (c .before .stands-at .ensures) ∙ c .if2 .taken in
-    rw (ne-eqb _ _ (c .before .before .before .if1 .left), f)
+    let found? = c .before .before in
+    let changeable = found? .before .before .if1 .left in
+    rw (ne-eqb _ _ changeable, has found? ∙ c .before .if2 .taken) (c .answered2 .ensures)
 
 count-requires : tie.Need-count-requires
 count-requires c κs = search needs
 
+answered-requires-3 : tie.Need-answered-requires-3
+answered-requires-3 c κs = search needs
+
 returns-3 : tie.Need-returns-3
 unfolding added
 returns-3 c =
-    let at-position = c .before .before .before .before in
-    let at-if1 = at-position .before in
-    let a = at-if1 .before .before .args in
-    let f : found (a .tag) (tags-in (a .t1 .words)) ≡ false =
-    found-at _ _ _ _ (at-position .position .ensures) (c .before .before .before .stands-at .ensures) ∙ c .before .before .if2 .left in
-    rw (ne-eqb _ _ (at-if1 .if1 .left), f, le-leb 64 _ (rw (c .before .count .ensures .0) at (c .if3 .taken)))
+    let counted = c .before .before in
+    let changeable = counted .before .before .before .before .if1 .left in
+    rw (ne-eqb _ _ changeable, absent (counted .before), le-leb 64 _ (rw (counted .count .ensures .0) at (c .before .if3 .taken))) (c .answered3 .ensures)
 
 put-requires : tie.Need-put-requires
 put-requires c κs =
-    let at-position = c .before .before .before .before in
-    let a = at-position .before .before .before .args in
-    let f : found (a .tag) (tags-in (a .t1 .words)) ≡ false =
-    found-at _ _ _ _ (at-position .position .ensures) (c .before .before .before .stands-at .ensures) ∙ c .before .before .if2 .left in
-    let r = rank-le (a .tag) (tags-in (a .t1 .words)) in
-    (omega arith, omega arith, omega arith, at-position .position .ensures, f)
+    let missed = c .before .before in
+    let r = rank-le (tagOf (missed .before)) (tagsOf (missed .before)) in
+    (omega arith, omega arith, omega arith, missed .before .before .position .ensures, absent missed)
+
+answered-requires-4 : tie.Need-answered-requires-4
+answered-requires-4 c κs = search needs
 
 returns-4 : tie.Need-returns-4
 unfolding added
 returns-4 c =
-    let at-stands-at = c .before .before .before .before in
-    let at-position = at-stands-at .before in
-    let at-if1 = at-position .before in
-    let a = at-if1 .before .before .args in
-    let f : found (a .tag) (tags-in (a .t1 .words)) ≡ false =
-    found-at _ _ _ _ (at-position .position .ensures) (at-stands-at .stands-at .ensures) ∙ c .before .before .before .if2 .left in
-    rw (ne-eqb _ _ (at-if1 .if1 .left), f, lt-leb 64 _ (rw (c .before .before .count .ensures .0) at (c .before .if3 .left))) (ap yes (c .put .ensures))
+    let counted = c .before .before .before in
+    let changeable = counted .before .before .before .before .if1 .left in
+    rw (ne-eqb _ _ changeable, absent (counted .before), lt-leb 64 _ (rw (counted .count .ensures .0) at (c .before .before .if3 .left)))
+    (c .answered4 .ensures ∙ ap yes (c .before .put .ensures))
 
 pub add-spec : {M : Type 1} → statement M
 add-spec =
     tie.close
     (tie.spec
     element-copy-out-flag
+    answered-requires
     returns
     position-requires
     stands-at-requires
+    answered-requires-2
     returns-2
     count-requires
+    answered-requires-3
     returns-3
     put-requires
+    answered-requires-4
     returns-4)

@@ -16,12 +16,28 @@ use Rattle.bucket.proofs.Bucket.remove.Tie as tie
 abbrev yes : List ℕ → Changed
 yes w = changed w Yes
 
+abbrev tagOf : tie.After-stands-at → ℕ
+tagOf c = c .before .before .before .before .args .tag
+
+abbrev tagsOf : tie.After-stands-at → List ℕ
+tagsOf c = tags-in (c .before .before .before .before .args .t1 .words)
+
+-- the tag stands where the search ended if and only if the bucket has it
+has : (c : tie.After-stands-at) → found (tagOf c) (tagsOf c) ≡ c .stands-at .result
+has c = found-at _ _ _ _ (c .before .position .ensures) (c .stands-at .ensures)
+
+present : (c : tie.Then2) → found (tagOf (c .before)) (tagsOf (c .before)) ≡ true
+present c = has (c .before) ∙ c .if2 .taken
+
 element-copy-out-flag : tie.Need-element-copy-out-flag
 element-copy-out-flag c = search needs
 
+answered-requires : tie.Need-answered-requires
+answered-requires c κs = search needs
+
 returns : tie.Need-returns
 unfolding removed
-returns c = rw (eq-eqb _ _ (c .if1 .taken))
+returns c = rw (eq-eqb _ _ (c .before .if1 .taken)) (c .answered .ensures)
 
 position-requires : tie.Need-position-requires
 position-requires c κs = search needs
@@ -34,39 +50,42 @@ count-requires c κs = search needs
 
 cut-requires : tie.Need-cut-requires
 cut-requires c κs =
-    let a = c .before .before .before .before .before .before .args in
-    let f : found (a .tag) (tags-in (a .t1 .words)) ≡ true =
-    found-at _ _ _ _ (c .before .before .before .position .ensures) (c .before .before .stands-at .ensures) ∙ c .before .if2 .taken in
-    let r = rank-below (a .tag) (tags-in (a .t1 .words)) f in
-    (omega arith, omega arith, omega arith, c .before .before .before .position .ensures, f)
+    let met = c .before in
+    let r = rank-below (tagOf (met .before)) (tagsOf (met .before)) (present met) in
+    (omega arith, omega arith, omega arith, met .before .before .position .ensures, present met)
+
+answered-requires-2 : tie.Need-answered-requires-2
+answered-requires-2 c κs = search needs
 
 returns-2 : tie.Need-returns-2
 unfolding removed
 returns-2 c =
-    let at-position = c .before .before .before .before in
-    let at-if1 = at-position .before in
-    let a = at-if1 .before .before .args in
-    let f : found (a .tag) (tags-in (a .t1 .words)) ≡ true =
-    found-at _ _ _ _ (at-position .position .ensures) (c .before .before .before .stands-at .ensures) ∙ c .before .before .if2 .taken in
-    rw (ne-eqb _ _ (at-if1 .if1 .left), f) (ap yes (c .cut .ensures))
+    let met = c .before .before .before in
+    let changeable = met .before .before .before .if1 .left in
+    rw (ne-eqb _ _ changeable, present met) (c .answered2 .ensures ∙ ap yes (c .before .cut .ensures))
+
+answered-requires-3 : tie.Need-answered-requires-3
+answered-requires-3 c κs = search needs
 
 returns-3 : tie.Need-returns-3
 unfolding removed
 returns-3 c =
-    let a = c .before .before .before .before .before .args in
-    let f : found (a .tag) (tags-in (a .t1 .words)) ≡ false =
-    found-at _ _ _ _ (c .before .before .position .ensures) (c .before .stands-at .ensures) ∙ c .if2 .left in
-    rw (ne-eqb _ _ (c .before .before .before .if1 .left), f)
+    let found? = c .before .before in
+    let changeable = found? .before .before .if1 .left in
+    rw (ne-eqb _ _ changeable, has found? ∙ c .before .if2 .left) (c .answered3 .ensures)
 
 pub remove-spec : {M : Type 1} → statement M
 remove-spec =
     tie.close
     (tie.spec
     element-copy-out-flag
+    answered-requires
     returns
     position-requires
     stands-at-requires
     count-requires
     cut-requires
+    answered-requires-2
     returns-2
+    answered-requires-3
     returns-3)

@@ -4,7 +4,7 @@ use denote.Ref.{now}
 use Rattle.spec.specs.Words.{overwrite}
 use Rattle.bucket.specs.declared.Bucket.{Bucket}
 use Rattle.bucket.specs.declared.Changed.{Changed}
-use Rattle.pool.specs.Pool.{front-of}
+use Rattle.pool.specs.Pool.{front-of, answer-of}
 use Rattle.bucket.specs.Bucket.{added}
 use borrow.Author.Needs.{needs}
 use Rattle.pool.proofs.buckets.add.Statement.{statement}
@@ -24,12 +24,12 @@ same-length c = search needs
 
 returns : tie.Need-returns
 returns c =
-    let at-add = c .before .before .before .before .before in
-    let at-front = at-add .before in
-    let a = c .before .before .before .before .before .before .before .before .before .args in
-    let e : at-add .add .result ≡ added (front-of (now (a .part))) (a .tag) =
-    at-add .add .ensures ∙ ap (λ (b : Bucket). added b (a .tag)) (at-front .front .ensures) in
-    (ap (λ (d : Changed). d .answer) e, c .before .before .store .ensures ∙ ap (λ (d : Changed). overwrite (now (a .part)) 0 (d .bucket .words)) e)
+    let stored = c .before .before in
+    let asked = stored .before .before .before in
+    let a = asked .before .before .before .before .args in
+    let same = ap (λ (b : Bucket). added b (a .tag)) (asked .before .front .ensures) in
+    let e : asked .add .result ≡ added (front-of (now (a .part))) (a .tag) = asked .add .ensures ∙ same in
+    (ap answer-of e, stored .store .ensures ∙ ap (λ (d : Changed). overwrite (now (a .part)) 0 (d .bucket .words)) e)
 
 pub add-spec : {M : Type 1} → statement M
 add-spec = tie.close (tie.spec front-requires add-requires store-requires same-length returns)

@@ -4,7 +4,7 @@ use denote.Ref.{now}
 use Rattle.spec.specs.Words.{overwrite}
 use Rattle.bucket.specs.declared.Bucket.{Bucket}
 use Rattle.bucket.specs.declared.Changed.{Changed}
-use Rattle.pool.specs.Pool.{front-of}
+use Rattle.pool.specs.Pool.{front-of, answer-of}
 use Rattle.bucket.specs.Bucket.{removed}
 use borrow.Author.Needs.{needs}
 use Rattle.pool.proofs.buckets.remove.Statement.{statement}
@@ -24,13 +24,12 @@ same-length c = search needs
 
 returns : tie.Need-returns
 returns c =
-    let at-remove = c .before .before .before .before .before in
-    let at-front = at-remove .before in
-    let a = c .before .before .before .before .before .before .before .before .before .args in
-    let e : at-remove .remove .result ≡ removed (front-of (now (a .part))) (a .tag) =
-    at-remove .remove .ensures ∙ ap (λ (b : Bucket). removed b (a .tag)) (at-front .front .ensures) in
-    (ap (λ (d : Changed). d .answer) e, c .before .before .store .ensures ∙ ap (λ (d : Changed). overwrite (now (a .part)) 0 (d .bucket .words)) e)
+    let stored = c .before .before in
+    let asked = stored .before .before .before in
+    let a = asked .before .before .before .before .args in
+    let same = ap (λ (b : Bucket). removed b (a .tag)) (asked .before .front .ensures) in
+    let e : asked .remove .result ≡ removed (front-of (now (a .part))) (a .tag) = asked .remove .ensures ∙ same in
+    (ap answer-of e, stored .store .ensures ∙ ap (λ (d : Changed). overwrite (now (a .part)) 0 (d .bucket .words)) e)
 
 pub remove-spec : {M : Type 1} → statement M
-remove-spec =
-    tie.close (tie.spec front-requires remove-requires store-requires same-length returns)
+remove-spec = tie.close (tie.spec front-requires remove-requires store-requires same-length returns)

@@ -1,12 +1,9 @@
 -- `pool::buckets::store_at` meets its contract: 66 words over the part that begins at the bucket's first. Assumes nothing.
-use mathlib.Core.Path.{sym, ap, _∙_}
-use Prim.Native.Nat.{ℕ, _*_}
+use mathlib.Core.Path.{sym}
+use Prim.Native.Nat.{_+_, _*_, _≤_}
 use denote.Ref.{now}
-use mathlib.Core.List.{List}
-use Rattle.spec.specs.Words.{overwrite}
-use lib.ListN.{length-drop}
-use Rattle.pool.proofs.Part.{rest, back}
-use Rattle.pool.proofs.At.{store-past, store-here}
+use lib.ListN.{length}
+use Rattle.pool.proofs.At.{store-past, lent-room, put-back}
 use native.Mathlib.Omega.{arith}
 use borrow.Author.Needs.{needs}
 use Rattle.pool.proofs.buckets.store_at.Statement.{statement}
@@ -32,18 +29,18 @@ part-store-end : tie.Need-part-store-end
 part-store-end c = search needs
 
 store-requires : tie.Need-store-requires
-store-requires c κs =
-    rw (rest (now (c .before .before .before .args .pool)) (66 * c .before .before .before .args .k), length-drop (66 * c .before .before .before .args .k) (now (c .before .before .before .args .pool))) (omega arith)
+store-requires c κs = let a = c .before .before .before .args in lent-room (now (a .pool)) (a .k) (omega arith)
 
 same-length : tie.Need-same-length
 same-length c = search needs
 
 returns-2 : tie.Need-returns-2
 returns-2 c =
-    let a = c .before .before .before .before .before .before .args in
+    let lent-to = c .before .before in
+    let a = lent-to .before .before .before .before .args in
     let p = now (a .pool) in
-    let i = c .before .before .before .before .if1 .left in
-    back p (66 * a .k) (a .b .words) (c .before .before .store .last .0) (c .before .before .store .ensures ∙ ap (λ (l : List ℕ). overwrite l 0 (a .b .words)) (rest p (66 * a .k))) ∙ sym (store-here p (a .k) (omega arith) (a .b))
+    let h : 66 * a .k + 66 ≤ length p = omega (arith, lent-to .before .before .if1 .left) in
+    put-back p (a .k) h (λ b. a .b) (lent-to .store .last .0) (lent-to .store .ensures)
 
 pub store-at-spec : {M : Type 1} → statement M
 store-at-spec =

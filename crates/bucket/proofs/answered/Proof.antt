@@ -1,0 +1,23 @@
+-- `bucket::answered` meets its contract: the count is the number of tags. Assumes nothing.
+use mathlib.Core.Path.{_≡_, ap}
+use Prim.Native.Nat.{ℕ}
+use Rattle.bucket.specs.declared.Changed.{Changed}
+use native.Mathlib.Omega.{arith}
+use borrow.Author.Needs.{needs}
+use Rattle.bucket.proofs.answered.Statement.{statement}
+use Rattle.bucket.proofs.answered.Tie as tie
+
+count-requires : tie.Need-count-requires
+count-requires c κs = search needs
+
+cast-t4 : tie.Need-cast-t4
+cast-t4 c = search needs
+
+returns : tie.Need-returns
+returns c =
+    let a = c .before .args in
+    let given : ℕ → Changed = λ n. record { bucket = a .b; answer = a .answer; count = n } in
+    ap given (c .count .ensures .0)
+
+pub answered-spec : {M : Type 1} → statement M
+answered-spec = tie.close (tie.spec count-requires cast-t4 returns)
