@@ -64,6 +64,7 @@ pub enum Refusal {
     NoFreeRecord = 7,
     Corrupt = 8,
     ShortList = 9,
+    Version = 11,
 }
 
 /// What an accepted start or step gives: the next line, or an answer with the own steps and,
@@ -94,6 +95,8 @@ pub struct Task {
 #[derive(Clone, Copy, Debug, Default, PartialEq, Eq)]
 pub struct State {
     pub tasks: u32,
+    /// Of the tags: 1, or 2 for tags that end in a check digit.
+    pub version: u32,
     pub nodes: u32,
     pub buckets: u32,
     pub head: u32,
@@ -122,13 +125,25 @@ fn record_count(words: usize, record: usize, max: usize) -> Option<u32> {
     (words.is_multiple_of(record) && (1..=max).contains(&count)).then_some(count as u32)
 }
 
-pub fn open(tasks: u32, nodes: &mut [u32], buckets: &mut [u32]) -> Result<State, Refusal> {
+fn is_version(version: u32) -> bool {
+    matches!(version, 1 | 2)
+}
+
+pub fn open(
+    tasks: u32,
+    version: u32,
+    nodes: &mut [u32],
+    buckets: &mut [u32],
+) -> Result<State, Refusal> {
     if !(1..=MAX_TASKS as u32).contains(&tasks) {
         return Err(Refusal::TaskCount);
     }
     let node_count = record_count(nodes.len(), NODE_WORDS, MAX_NODES).ok_or(Refusal::NodeSlice)?;
     let bucket_count =
         record_count(buckets.len(), BUCKET_WORDS, MAX_BUCKETS).ok_or(Refusal::BucketSlice)?;
+    if !is_version(version) {
+        return Err(Refusal::Version);
+    }
     nodes.fill(0);
     buckets.fill(0);
     buckets[bucket::CHANGEABLE] = 1;
@@ -136,6 +151,7 @@ pub fn open(tasks: u32, nodes: &mut [u32], buckets: &mut [u32]) -> Result<State,
     nodes[node::PLACES] = 1;
     Ok(State {
         tasks,
+        version,
         nodes: node_count,
         buckets: bucket_count,
         ..State::default()
@@ -214,7 +230,7 @@ pub fn list(
     if !sound(state, nodes, buckets) {
         return Err(Refusal::Corrupt);
     }
-    let (tags, count) = listed::collect(state.head, nodes.as_chunks().0, buckets.as_chunks().0)
+    let (tags, count) = listed::collect(state, nodes.as_chunks().0, buckets.as_chunks().0)
         .ok_or(Refusal::Corrupt)?;
     if out.len() < MAX_TAGS {
         return Err(Refusal::ShortList);

@@ -11,6 +11,7 @@ use std::collections::{BTreeMap, BTreeSet};
 /// How often each thing occurred.
 #[derive(Clone, Debug, Default)]
 pub struct Coverage {
+    pub schedules: u64,
     pub events: u64,
     pub lines: BTreeMap<u32, u64>,
     pub answers: [u64; 7],
@@ -32,6 +33,7 @@ struct Running {
 
 struct Model<'a> {
     tasks: u32,
+    version: u32,
     set: BTreeSet<u32>,
     size: usize,
     /// The size before the last resize.
@@ -44,15 +46,18 @@ struct Model<'a> {
 /// Checks every output and the tags listed at the end.
 pub fn check(
     tasks: u32,
+    version: u32,
     events: &[u32],
     outputs: &[u32],
     listed: &[u32],
     coverage: &mut Coverage,
 ) -> Result<(), String> {
+    coverage.schedules += 1;
     let task = Default::default();
     let set = BTreeSet::new();
     let mut model = Model {
         tasks,
+        version,
         set,
         size: 1,
         old_size: 1,
@@ -168,8 +173,9 @@ impl Model<'_> {
         if !matches!(running.call, Call::Insert | Call::Remove) {
             return tags == 0;
         }
+        let divisor = if self.version == 2 { 10 } else { 1 };
         let sharing = |size: usize| {
-            let place = |tag: u32| tag as usize % size;
+            let place = |tag: u32| (tag / divisor) as usize % size;
             let shares = |&&tag: &&u32| place(tag) == place(running.tag);
             self.set.iter().filter(shares).count()
         };

@@ -10,10 +10,11 @@ pub struct Owned {
 }
 
 impl Owned {
-    pub fn open(tasks: u32, nodes: usize, buckets: usize) -> Owned {
+    pub fn open(tasks: u32, version: u32, nodes: usize, buckets: usize) -> Owned {
         let mut nodes = vec![0; nodes * NODE_WORDS];
         let mut buckets = vec![0; buckets * BUCKET_WORDS];
-        let state = machine::open(tasks, &mut nodes, &mut buckets).expect("numbers in bounds");
+        let state =
+            machine::open(tasks, version, &mut nodes, &mut buckets).expect("numbers in bounds");
         Owned {
             state,
             nodes,

@@ -9,6 +9,7 @@
 extern "C" {
     fn schedule_run(
         tasks: u32,
+        version: u32,
         nodes: *mut u32,
         nodes_len: usize,
         buckets: *mut u32,
@@ -25,6 +26,7 @@ extern "C" {
 /// The same as `schedule::run`, in meaning and encoding.
 pub fn run(
     tasks: u32,
+    version: u32,
     nodes: &mut [u32],
     buckets: &mut [u32],
     events: &[u32],
@@ -35,6 +37,7 @@ pub fn run(
     unsafe {
         schedule_run(
             tasks,
+            version,
             nodes.as_mut_ptr(),
             nodes.len(),
             buckets.as_mut_ptr(),

@@ -46,6 +46,7 @@ impl Random {
 #[derive(Clone, Copy, Debug)]
 pub struct Shape {
     pub tasks: u32,
+    pub version: u32,
     pub nodes: usize,
     pub buckets: usize,
     /// Tags are multiples of `tag_stride`, below `tag_count` times it.
@@ -60,15 +61,16 @@ pub struct Shape {
 }
 
 impl Shape {
-    pub fn random(random: &mut Random) -> Shape {
+    pub fn random(random: &mut Random, version: u32) -> Shape {
         let tasks = random.one_to(MAX_TASKS);
         let (nodes, buckets) = pool_sizes(random, tasks);
         Shape {
             tasks: tasks as u32,
+            version,
             nodes,
             buckets,
             tag_count: random.pick(&[2, 5, 20, 66, 90, 200]),
-            tag_stride: random.pick(&[1, 1, 1, 2, 8, 32, 0x0123_4567]),
+            tag_stride: random.pick(strides(version)),
             resize_percent: random.pick(&[0, 1, 5, 15, 40, 80]),
             favoured_percent: random.pick(&[0, 50, 90, 99]),
             blind_percent: random.pick(&[2, 10, 40]),
@@ -85,6 +87,15 @@ impl Shape {
 
     pub fn tag(&self, random: &mut Random) -> u32 {
         random.below(self.tag_count).wrapping_mul(self.tag_stride)
+    }
+}
+
+/// In version 2 those up to 7 give tags that differ in the last digit alone.
+fn strides(version: u32) -> &'static [u32] {
+    if version == 2 {
+        &[1, 3, 5, 7, 10, 80, 320, 0x0123_4567]
+    } else {
+        &[1, 1, 1, 2, 8, 32, 0x0123_4567]
     }
 }
 
@@ -165,7 +176,7 @@ impl Phase {
 /// A schedule of at most `count` events, accepted or refused, in words. It ends early
 /// when nothing is accepted any more: every task waits for a record.
 pub fn events(shape: &Shape, random: &mut Random, count: usize) -> Vec<u32> {
-    let mut machine = Owned::open(shape.tasks, shape.nodes, shape.buckets);
+    let mut machine = Owned::open(shape.tasks, shape.version, shape.nodes, shape.buckets);
     let mut phase = Phase::random(random);
     let mut words = Vec::new();
     let mut refused_in_a_row = 0;

@@ -27,7 +27,7 @@ pub type EventWords = [u32; EVENT_WORDS];
 pub type OutputWords = [u32; OUTPUT_WORDS];
 
 /// Any implementation of `run`.
-pub type Run = fn(u32, &mut [u32], &mut [u32], &[u32], &mut [u32], &mut [u32]) -> u32;
+pub type Run = fn(u32, u32, &mut [u32], &mut [u32], &[u32], &mut [u32], &mut [u32]) -> u32;
 
 pub fn encode_event(event: Event) -> EventWords {
     match event {
@@ -106,13 +106,14 @@ pub fn apply(
 /// tags at the end. A refused opening writes nothing. `outputs` has room for every event.
 pub fn run(
     tasks: u32,
+    version: u32,
     nodes: &mut [u32],
     buckets: &mut [u32],
     events: &[u32],
     outputs: &mut [u32],
     tags: &mut [u32],
 ) -> u32 {
-    let mut state = match machine::open(tasks, nodes, buckets) {
+    let mut state = match machine::open(tasks, version, nodes, buckets) {
         Ok(state) => state,
         Err(refusal) => return REFUSED + refusal as u32,
     };
@@ -162,6 +163,7 @@ mod tests {
         let (mut outputs, mut tags) = ([9; 20], [9; 64]);
         let outcome = run(
             1,
+            1,
             &mut nodes,
             &mut buckets,
             &events,
@@ -183,8 +185,18 @@ mod tests {
     #[test]
     fn a_refused_opening_writes_nothing() {
         let (mut nodes, mut buckets, mut tags) = ([9; 34], [9; 66], [9; 64]);
-        let outcome = run(9, &mut nodes, &mut buckets, &[], &mut [], &mut tags);
-        assert_eq!(outcome, REFUSED + 1);
-        assert_eq!((nodes, buckets, tags), ([9; 34], [9; 66], [9; 64]));
+        for (tasks, version, refusal) in [(9, 1, 1), (9, 3, 1), (8, 3, 11), (1, 0, 11)] {
+            let outcome = run(
+                tasks,
+                version,
+                &mut nodes,
+                &mut buckets,
+                &[],
+                &mut [],
+                &mut tags,
+            );
+            assert_eq!(outcome, REFUSED + refusal);
+            assert_eq!((nodes, buckets, tags), ([9; 34], [9; 66], [9; 64]));
+        }
     }
 }

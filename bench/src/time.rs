@@ -42,7 +42,7 @@ impl Load {
     /// A schedule of `count` accepted events. The head does not grow past `max_size`.
     fn new(name: &'static str, shape: Shape, max_size: u32, count: usize) -> Load {
         let mut random = Random::new(7);
-        let mut machine = Owned::open(shape.tasks, shape.nodes, shape.buckets);
+        let mut machine = Owned::open(shape.tasks, shape.version, shape.nodes, shape.buckets);
         let mut events = Vec::new();
         while events.len() < count * EVENT_WORDS {
             let event = next(&machine, &shape, max_size, &mut random);
@@ -96,6 +96,7 @@ fn time_runs<const N: usize>(shape: &Shape, events: &[u32], runs: [Run; N]) -> [
     let mut round = |run: Run| {
         black_box(run(
             shape.tasks,
+            shape.version,
             &mut nodes,
             &mut buckets,
             black_box(events),
@@ -222,6 +223,7 @@ fn print_scan(load: &Load) {
 fn loads() -> [Load; 2] {
     let small = Shape {
         tasks: 2,
+        version: 1,
         nodes: 4,
         buckets: 16,
         tag_count: 40,

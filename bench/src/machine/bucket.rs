@@ -1,6 +1,6 @@
 //! One bucket: a sorted array of tags with its count.
 
-use super::node::slot;
+use super::node::{key, slot};
 use super::{Bucket, BUCKET_WORDS, MAX_TAGS};
 
 pub const CHANGEABLE: usize = 0;
@@ -49,11 +49,11 @@ fn changeable() -> Bucket {
 }
 
 /// The tags of `from` that belong to place `i` of a node of `size` places.
-pub fn split(from: &Bucket, size: u32, i: u32) -> Bucket {
+pub fn split(from: &Bucket, version: u32, size: u32, i: u32) -> Bucket {
     let mut bucket = changeable();
     let mut count = 0;
     for &tag in tags(from) {
-        if slot(tag, size) == i {
+        if slot(key(version, tag), size) == i {
             bucket[TAGS + count] = tag;
             count += 1;
         }

@@ -11,9 +11,13 @@ struct Session {
 }
 
 fn session(tasks: u32, nodes: usize, buckets: usize) -> Session {
+    session_of_version(1, tasks, nodes, buckets)
+}
+
+fn session_of_version(version: u32, tasks: u32, nodes: usize, buckets: usize) -> Session {
     let mut nodes = vec![7; nodes * NODE_WORDS];
     let mut buckets = vec![7; buckets * BUCKET_WORDS];
-    let state = open(tasks, &mut nodes, &mut buckets).expect("a good opening");
+    let state = open(tasks, version, &mut nodes, &mut buckets).expect("a good opening");
     Session {
         state,
         nodes,
@@ -292,21 +296,55 @@ fn contains_reads_its_place_again() {
     assert_eq!(s.step_until(0, "end="), "end=0,yes,5");
 }
 
+/// 14 and 19 differ in the check digit alone.
+#[test]
+fn version_2_takes_tags_without_their_last_digit() {
+    let mut s = session_of_version(2, 1, 8, 64);
+    for tag in [14, 19, 25, u32::MAX] {
+        assert_eq!(s.call(0, Call::Insert, tag), "end=0,yes,3");
+    }
+    s.call(0, Call::Grow, 0);
+    assert_eq!(s.call(0, Call::Contains, 19), "end=0,yes,5");
+    assert_eq!(s.call(0, Call::Remove, 14), "end=0,yes,10");
+    assert_eq!(s.call(0, Call::Contains, 19), "end=0,yes,3");
+    assert_eq!(s.call(0, Call::Contains, u32::MAX), "end=0,yes,3");
+    assert_eq!(s.call(0, Call::Contains, 25), "end=0,yes,5");
+    assert_eq!(s.tags(), [19, 25, u32::MAX]);
+    s.call(0, Call::Grow, 0);
+    s.call(0, Call::Grow, 0);
+    s.call(0, Call::Shrink, 0);
+    assert_eq!((s.size(), s.tags()), (4, vec![19, 25, u32::MAX]));
+    assert_eq!(s.call(0, Call::Remove, 19), "end=0,yes,12");
+    assert_eq!(s.call(0, Call::Insert, 19), "end=0,yes,3");
+    assert_eq!(s.call(0, Call::Insert, 51), "end=0,yes,3");
+}
+
 #[test]
 fn opening_bounds() {
-    let opened = |tasks, nodes: usize, buckets: usize| {
+    let opened_for = |version, tasks, nodes: usize, buckets: usize| {
         let (mut nodes, mut buckets) = (vec![3; nodes], vec![3; buckets]);
-        let result = open(tasks, &mut nodes, &mut buckets);
+        let result = open(tasks, version, &mut nodes, &mut buckets);
         if result.is_err() {
             assert!(nodes.iter().chain(&buckets).all(|&word| word == 3));
         }
         result.map_or_else(|refusal| refusal as u32, |_| 0)
     };
+    let opened = |tasks, nodes, buckets| opened_for(1, tasks, nodes, buckets);
     assert_eq!((opened(0, 0, 0), opened(9, 34, 66)), (1, 1));
     assert_eq!((opened(1, 34 * 64, 66), opened(1, 34 * 65, 0)), (0, 2));
     assert_eq!((opened(1, 0, 66), opened(1, 35, 66)), (2, 2));
     assert_eq!((opened(8, 34, 66 * 1024), opened(8, 34, 66 * 1025)), (0, 3));
     assert_eq!((opened(8, 34, 0), opened(8, 34, 65)), (3, 3));
+    assert_eq!((opened_for(2, 8, 34, 66), opened_for(2, 9, 34, 66)), (0, 1));
+    assert_eq!(
+        (opened_for(0, 1, 34, 66), opened_for(3, 8, 34, 66)),
+        (11, 11)
+    );
+    assert_eq!((opened_for(0, 9, 34, 66), opened_for(3, 8, 35, 66)), (1, 2));
+    assert_eq!(
+        (opened_for(u32::MAX, 8, 34, 65), opened_for(0, 8, 34, 0)),
+        (3, 3)
+    );
 }
 
 #[test]

@@ -1,7 +1,7 @@
 //! One method for each line. A line that is refused has written nothing:
 //! it works on a copy of the task's record and touches the pools last.
 
-use super::node::{place_of_tag, pred, size, slot, PLACES, PRED, SIZE};
+use super::node::{key, place_of_key, pred, size, slot, PLACES, PRED, SIZE};
 use super::{bucket, held, listed};
 use super::{Answer, Bucket, Call, Node, Refusal, State, Task};
 use super::{MAX_SIZE, MAX_TAGS, NODE_WORDS};
@@ -90,6 +90,11 @@ impl Step<'_> {
         Ok(&self.nodes[filled(self.task.s)?])
     }
 
+    /// What of the task's tag is taken mod a size.
+    fn key(&self) -> u32 {
+        key(self.state.version, self.task.tag)
+    }
+
     fn is(&self, call: Call) -> bool {
         self.task.call == call as u32
     }
@@ -103,7 +108,7 @@ impl Step<'_> {
     // Contains.
 
     fn line_13(&mut self) -> Moved {
-        self.task.b = place_of_tag(self.t()?, self.task.tag);
+        self.task.b = place_of_key(self.t()?, self.key());
         to(if self.task.b != 0 { 18 } else { 15 })
     }
 
@@ -113,12 +118,12 @@ impl Step<'_> {
     }
 
     fn line_16(&mut self) -> Moved {
-        self.task.b = place_of_tag(self.s()?, self.task.tag);
+        self.task.b = place_of_key(self.s()?, self.key());
         to(18)
     }
 
     fn line_17(&mut self) -> Moved {
-        self.task.b = place_of_tag(self.t()?, self.task.tag);
+        self.task.b = place_of_key(self.t()?, self.key());
         to(18)
     }
 
@@ -132,7 +137,7 @@ impl Step<'_> {
 
     fn line_33(&mut self) -> Moved {
         let t = self.t()?;
-        let i = slot(self.task.tag, size(t));
+        let i = slot(self.key(), size(t));
         self.task.b = place(t, i)?;
         if self.task.b != 0 {
             return to(36);
@@ -166,7 +171,7 @@ impl Step<'_> {
         let Err(index) = bucket::search(&self.buckets[number], self.task.tag) else {
             return end_with(Answer::No, &self.buckets[number]);
         };
-        if listed::count(self.state.head, self.nodes, self.buckets) >= MAX_TAGS {
+        if listed::count(self.state, self.nodes, self.buckets) >= MAX_TAGS {
             return end_with(Answer::Full, &self.buckets[number]);
         }
         let b = &mut self.buckets[number];
@@ -259,7 +264,8 @@ impl Step<'_> {
     }
 
     fn line_43(&mut self) -> Moved {
-        self.task.m = place_of_tag(self.s()?, self.task.i);
+        let s = self.s()?;
+        self.task.m = place(s, slot(self.task.i, size(s)))?;
         to(44)
     }
 
@@ -284,7 +290,7 @@ impl Step<'_> {
         let t_size = size(self.t()?);
         let m = &self.buckets[filled(self.task.m)?];
         let new = match self.task.n {
-            0 => bucket::split(m, t_size, self.task.i),
+            0 => bucket::split(m, self.state.version, t_size, self.task.i),
             n => bucket::merge(m, &self.buckets[filled(n)?]).ok_or(Refusal::Corrupt)?,
         };
         self.task.new_bucket = held::take_bucket(self.state, self.nodes, self.buckets, new)

@@ -2,23 +2,24 @@
 //! those of the predecessor's.
 
 use super::bucket::tags;
-use super::node::{places, pred, size, slot};
-use super::{Bucket, Node, MAX_TAGS};
+use super::node::{key, places, pred, size, slot};
+use super::{Bucket, Node, State, MAX_TAGS};
 
 /// Calls `visit` once for each tag in the set, in no particular order.
-fn for_each(head: u32, nodes: &[Node], buckets: &[Bucket], mut visit: impl FnMut(u32)) {
-    let node = &nodes[head as usize];
+fn for_each(state: &State, nodes: &[Node], buckets: &[Bucket], mut visit: impl FnMut(u32)) {
+    let node = &nodes[state.head as usize];
+    let version = state.version;
     let head_size = size(node);
     for (j, &place) in (0..).zip(places(node)) {
         if place != 0 {
             for &tag in tags(&buckets[place as usize - 1]) {
-                if slot(tag, head_size) == j {
+                if slot(key(version, tag), head_size) == j {
                     visit(tag);
                 }
             }
         } else if pred(node) != 0 {
             let old = &nodes[pred(node) as usize - 1];
-            for_each_in_pred(old, head_size, j, buckets, &mut visit);
+            for_each_in_pred(old, version, head_size, j, buckets, &mut visit);
         }
     }
 }
@@ -26,6 +27,7 @@ fn for_each(head: u32, nodes: &[Node], buckets: &[Bucket], mut visit: impl FnMut
 /// The tags of `old` that belong to place `j` of a head of `head_size` places.
 fn for_each_in_pred(
     old: &Node,
+    version: u32,
     head_size: u32,
     j: u32,
     buckets: &[Bucket],
@@ -38,24 +40,29 @@ fn for_each_in_pred(
             continue;
         }
         for &tag in tags(&buckets[place as usize - 1]) {
-            if slot(tag, old_size) == k && slot(tag, head_size) == j {
+            let key = key(version, tag);
+            if slot(key, old_size) == k && slot(key, head_size) == j {
                 visit(tag);
             }
         }
     }
 }
 
-pub fn count(head: u32, nodes: &[Node], buckets: &[Bucket]) -> usize {
+pub fn count(state: &State, nodes: &[Node], buckets: &[Bucket]) -> usize {
     let mut count = 0;
-    for_each(head, nodes, buckets, |_| count += 1);
+    for_each(state, nodes, buckets, |_| count += 1);
     count
 }
 
 /// The tags in the set, ascending, and their number; none if there are more than 64.
-pub fn collect(head: u32, nodes: &[Node], buckets: &[Bucket]) -> Option<([u32; MAX_TAGS], usize)> {
+pub fn collect(
+    state: &State,
+    nodes: &[Node],
+    buckets: &[Bucket],
+) -> Option<([u32; MAX_TAGS], usize)> {
     let mut tags = [0; MAX_TAGS];
     let mut count = 0;
-    for_each(head, nodes, buckets, |tag| {
+    for_each(state, nodes, buckets, |tag| {
         if let Some(word) = tags.get_mut(count) {
             *word = tag;
         }

@@ -19,12 +19,21 @@ pub fn places(node: &Node) -> &[u32] {
     &node[PLACES..PLACES + node[SIZE] as usize]
 }
 
-/// `tag` mod `size`: sizes are powers of two.
-pub fn slot(tag: u32, size: u32) -> u32 {
-    tag & (size - 1)
+/// What of a tag is taken mod a size. Tags of version 2 end in a check digit.
+pub fn key(version: u32, tag: u32) -> u32 {
+    if version == 2 {
+        tag / 10
+    } else {
+        tag
+    }
 }
 
-/// The place that is to hold `tag`.
-pub fn place_of_tag(node: &Node, tag: u32) -> u32 {
-    node[PLACES + slot(tag, size(node)) as usize]
+/// `key` mod `size`: sizes are powers of two.
+pub fn slot(key: u32, size: u32) -> u32 {
+    key & (size - 1)
+}
+
+/// The place that is to hold the tags with `key`.
+pub fn place_of_key(node: &Node, key: u32) -> u32 {
+    node[PLACES + slot(key, size(node)) as usize]
 }

@@ -13,7 +13,7 @@ struct Memory {
 fn memory() -> Memory {
     let mut nodes = vec![0; 4 * NODE_WORDS];
     let mut buckets = vec![0; 4 * BUCKET_WORDS];
-    let state = open(2, &mut nodes, &mut buckets).expect("a good opening");
+    let state = open(2, 1, &mut nodes, &mut buckets).expect("a good opening");
     let mut m = Memory {
         state,
         nodes,
@@ -81,6 +81,9 @@ fn bad_numbers_of_the_state() {
     each_is_refused(&[
         |m| m.state.tasks = 0,
         |m| m.state.tasks = 9,
+        |m| m.state.version = 0,
+        |m| m.state.version = 3,
+        |m| m.state.version = u32::MAX,
         |m| m.state.nodes = 3,
         |m| m.state.buckets = 5,
         |m| m.nodes.push(0),
@@ -277,6 +280,10 @@ fn tags_of_another_residue_are_not_listed() {
     m.bucket(1)[..4].copy_from_slice(&[1, 2, 4, 5]);
     assert_eq!(m.list(), Ok(2));
     m.bucket(0)[..4].copy_from_slice(&[0, 1, 4, 0]);
+    assert_eq!(m.list(), Ok(1));
+    m.bucket(1)[..5].copy_from_slice(&[1, 3, 14, 25, 36]);
+    assert_eq!(m.list(), Ok(2));
+    m.state.version = 2;
     assert_eq!(m.list(), Ok(1));
 }
 

@@ -1,7 +1,7 @@
 //! The check of state and pools that goes before every start, step and list.
 
 use super::node::{pred, size, PLACES, SIZE};
-use super::{bucket, record_count, Bucket, Call, Node, State, Task};
+use super::{bucket, is_version, record_count, Bucket, Call, Node, State, Task};
 use super::{BUCKET_WORDS, MAX_BUCKETS, MAX_NODES, MAX_SIZE, MAX_TAGS, MAX_TASKS, NODE_WORDS};
 
 pub fn sound(state: &State, nodes: &[u32], buckets: &[u32]) -> bool {
@@ -18,6 +18,7 @@ pub fn sound(state: &State, nodes: &[u32], buckets: &[u32]) -> bool {
 
 fn bounds_sound(state: &State, node_words: usize, bucket_words: usize) -> bool {
     (1..=MAX_TASKS as u32).contains(&state.tasks)
+        && is_version(state.version)
         && record_count(node_words, NODE_WORDS, MAX_NODES) == Some(state.nodes)
         && record_count(bucket_words, BUCKET_WORDS, MAX_BUCKETS) == Some(state.buckets)
         && state.head < state.nodes

@@ -44,11 +44,11 @@ pub fn remainder(n: u32, size: u32) -> u32
     if size == 0 { n } else { n % size }
 }
 
-// What of a tag is taken mod a node's size in a set opened so.
+// What of a tag is taken mod a node's size in a set opened so: in version 2 the tag without its check digit.
 pub fn key(g: Config, tag: u32) -> u32
     ensures { λ r. ⌜ r ≡ key g tag ⌝ }
 {
-    tag
+    if g.version == 2 { tag / 10 } else { tag }
 }
 
 // The number of a tag's place in a node of this size.

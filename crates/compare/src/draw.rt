@@ -10,6 +10,7 @@ use reference_words::words::BUCKETS;
 use reference_words::words::NODE_WORDS;
 use reference_words::words::NODES;
 use reference_words::words::NOWHERE;
+use reference_words::words::VERSION;
 use reference_words::words::WHAT;
 use reference_words::words::either;
 use reference_words::words::field_at;
@@ -76,13 +77,14 @@ fn odd_value(x: u32) -> u32 {
     )
 }
 
-// A word to be spoilt: of the state half of the time, or of the nodes, or of the buckets.
+// A word to be spoilt: of the state half of the time, with the version one time in 16, or of the nodes, or of the buckets.
 fn odd_word(m: &[u32], x: u32) -> usize {
     let y = next(x);
-    match below(x, 4) {
-        0 => NODES + below(y, get(m, NODE_WORDS)) as usize,
-        1 => BUCKETS + below(y, get(m, BUCKET_WORDS)) as usize,
-        _ => below(y, 110) as usize,
+    match below(x, 16) {
+        0 | 1 | 2 | 3 => NODES + below(y, get(m, NODE_WORDS)) as usize,
+        4 | 5 | 6 | 7 => BUCKETS + below(y, get(m, BUCKET_WORDS)) as usize,
+        8 => VERSION,
+        _ => below(y, 111) as usize,
     }
 }
 
@@ -170,6 +172,11 @@ fn number_for(what: u32, k: u32, x: u32) -> u32 {
     if what == 7 { below(x / 64, 210) } else { k }
 }
 
+// A multiple of 7: some tags then have the same tag div 10.
+fn tag_for(m: &[u32], x: u32) -> u32 {
+    ((below(x, number(m, b'G')) as u64) * 7 % 4294967296) as u32
+}
+
 fn event(m: &mut [u32], x: u32) {
     let k = task_for(m, x);
     let y = next(next(x));
@@ -177,18 +184,14 @@ fn event(m: &mut [u32], x: u32) {
     put_words(
         m,
         WHAT,
-        &[
-            what,
-            number_for(what, k, y),
-            below(next(y), number(m, b'G')),
-        ],
+        &[what, number_for(what, k, y), tag_for(m, next(y))],
     );
 }
 
 // A schedule begins with an opening.
 fn draw(m: &mut [u32], x: u32, opens: bool) {
     if opens {
-        return put_words(m, WHAT, &[8, number(m, b'T'), 0]);
+        return put_words(m, WHAT, &[8, number(m, b'T'), number(m, b'V')]);
     }
     event(m, x)
 }

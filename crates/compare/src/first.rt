@@ -43,6 +43,7 @@ fn start(m: &mut [u32], ns: &[u32], bs: &[u32]) {
 fn open(m: &mut [u32], ns: &mut [u32], bs: &mut [u32]) {
     let g = Config {
         tasks: get(m, ASKED_K),
+        version: get(m, ASKED_TAG),
     };
     let o = opening::open(g, ns, bs);
     let s = o.state;

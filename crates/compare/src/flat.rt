@@ -9,6 +9,7 @@ use reference_words::words::LAST_NODE;
 use reference_words::words::RECORDS;
 use reference_words::words::REPLY;
 use reference_words::words::T;
+use reference_words::words::VERSION;
 use reference_words::words::either;
 use reference_words::words::field_at;
 use reference_words::words::get;
@@ -41,7 +42,10 @@ fn task_at(m: &[u32], k: u32) -> Task {
 }
 
 fn config_of(m: &[u32]) -> Config {
-    Config { tasks: get(m, T) }
+    Config {
+        tasks: get(m, T),
+        version: get(m, VERSION),
+    }
 }
 
 pub fn state_of(m: &[u32]) -> State {
@@ -101,6 +105,7 @@ pub fn put_state(m: &mut [u32], s: State) {
         FIRST,
         &[
             g.tasks,
+            g.version,
             s.nodes,
             s.buckets,
             s.head,

@@ -1,4 +1,5 @@
-// What is counted and printed: each output's kind, line, answer or refusal, and the differences found.
+// What is counted and printed, by the version of the schedule: each output's kind, line, answer or refusal, and the differences found.
+use crate::script::number;
 use crate::vars::CALLS;
 use crate::vars::COUNTS;
 use crate::vars::DIFFERENCES;
@@ -14,8 +15,9 @@ use reference_words::words::get;
 use reference_words::words::plus;
 use reference_words::words::put;
 
+// The counts of version 2 stand after the 400 of version 1.
 fn more(m: &mut [u32], i: usize, by: u32) {
-    let at = COUNTS + i % 400;
+    let at = COUNTS + either(number(m, b'V') == 2, 400, 0) as usize + i % 400;
     put(m, at, plus(get(m, at), by));
 }
 
@@ -99,7 +101,7 @@ fn cell(i: u32, n: u32) {
 
 // The counts from place a on, those that are not 0, each as number:count with the number counted from a.
 fn row(name: &[u8], m: &[u32], a: usize) {
-    let first = COUNTS + a % 400;
+    let first = COUNTS + a % 800;
     text(name);
     let mut i: u32 = 0;
     while i < 64 {
@@ -110,23 +112,38 @@ fn row(name: &[u8], m: &[u32], a: usize) {
 
 fn line(name: &[u8], m: &[u32], i: usize) {
     text(name);
-    decimal(get(m, COUNTS + i % 400));
+    decimal(get(m, COUNTS + i % 800));
 }
 
-fn print_rows(m: &[u32]) {
-    row(b"\nat line", m, 0);
-    row(b"\nended (1 yes 2 no 3 full 4 done 5 lost 6 limit)", m, 64);
-    row(b"\nrefused", m, 128);
-    row(b"\nin spoilt memory: at line", m, 192);
-    row(b"\nended", m, 256);
-    row(b"\nrefused", m, 320);
+fn print_rows(m: &[u32], from: u32) {
+    let a = from as usize;
+    row(b"\nat line", m, a);
+    row(
+        b"\nended (1 yes 2 no 3 full 4 done 5 lost 6 limit)",
+        m,
+        a + 64,
+    );
+    row(b"\nrefused", m, a + 128);
+    row(b"\nin spoilt memory: at line", m, a + 192);
+    row(b"\nended", m, a + 256);
+    row(b"\nrefused", m, a + 320);
+}
+
+// The counts of a version. Each schedule has one opening, which is counted at line 0.
+fn print_version(m: &[u32], from: u32) {
+    let a = from as usize;
+    line(b"schedules ", m, a);
+    line(b", calls ", m, a + CALLS);
+    print_rows(m, from);
+    line(b"\nlists ", m, a + LISTS);
+    line(b"\nshows ", m, a + SHOWS);
+    line(b"\ndifferences ", m, a + DIFFERENCES);
+    text(b"\n");
 }
 
 pub fn print(m: &[u32]) {
-    line(b"calls ", m, CALLS);
-    print_rows(m);
-    line(b"\nlists ", m, LISTS);
-    line(b"\nshows ", m, SHOWS);
-    line(b"\ndifferences ", m, DIFFERENCES);
-    text(b"\n");
+    text(b"version 1: ");
+    print_version(m, 0);
+    text(b"version 2: ");
+    print_version(m, 400);
 }

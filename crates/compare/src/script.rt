@@ -3,6 +3,7 @@
 //
 //   n b        so many node words, so many bucket words from now on
 //   t          the tag of the starts that follow
+//   V          the version of the openings that follow
 //   o          an opening with so many tasks
 //   i r c g h  a start of insert, remove, contains, grow or shrink for this task
 //   s          a step of this task
@@ -14,7 +15,7 @@
 //   #          a comment, to the end of the line
 //   X          the pseudo-random number that others follow
 //   x          so many turns of random schedules (draw.rt): of W turns each for T tasks; of 100 starts R are resizes; of 100 others D are removes and those up
-//              to L contains; G tags; of 128 steps of a contains at line 15 Z go to another task
+//              to L contains; G tags, multiples of 7; of 128 steps of a contains at line 15 Z go to another task
 use crate::draw;
 use crate::vars::BACK;
 use crate::vars::DRAWN;
@@ -31,6 +32,8 @@ use reference_words::words::BUCKETS;
 use reference_words::words::NODE_WORDS;
 use reference_words::words::NODES;
 use reference_words::words::NOWHERE;
+use reference_words::words::RECORDS;
+use reference_words::words::STATE_END;
 use reference_words::words::WHAT;
 use reference_words::words::copy;
 use reference_words::words::either;
@@ -93,10 +96,10 @@ pub fn move_memory(m: &mut [u32], keeps: bool, restores: bool) {
 
 // A value as a state can have it in a word: `running` is 0 or 1, and own steps are below 65,536.
 pub fn fitting(at: usize, v: u32) -> u32 {
-    if at < 6 || 110 <= at {
+    if at < RECORDS || STATE_END <= at {
         return v;
     }
-    match (at - 6) % 13 {
+    match (at - RECORDS) % 13 {
         0 => either(v == 0, 0, 1),
         5 => v % 65536,
         _ => v,
@@ -159,6 +162,11 @@ fn heard(m: &[u32], byte: u8) -> u8 {
     }
 }
 
+// The letter whose number goes with a call: an opening has a version, a start a tag.
+fn partner(b: u8) -> u8 {
+    if b == b'o' { b'V' } else { b't' }
+}
+
 fn set_words(m: &mut [u32], b: u8, n: u32) {
     let at = target(m, b);
     put(m, at, fitting(at, n));
@@ -185,7 +193,7 @@ fn read(m: &mut [u32], byte: u8) {
     let n = get(m, NUMBER);
     set_words(m, b, n);
     move_memory(m, b == b'k', b == b'p');
-    put_words(m, WHAT, &[what(b), n, number(m, b't')]);
+    put_words(m, WHAT, &[what(b), n, number(m, partner(b))]);
     set_script(m, byte, b, n);
 }
 

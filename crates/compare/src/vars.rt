@@ -23,7 +23,8 @@ pub const EXCURSION: usize = 72008;
 pub const DIFFERS: usize = 72009;
 // The numbers that stood before each letter of the script last.
 pub const NUMBERS: usize = 72020;
-// Counts: 64 lines, 64 answers, 64 refusals; the same in spoilt memory; lists and shows that are not refused; calls; differences.
+// Counts, 400 for each version: 64 lines, 64 answers, 64 refusals; the same in spoilt memory; lists and shows that are not refused; calls;
+// differences.
 pub const COUNTS: usize = 72200;
 
 pub const LISTS: usize = 390;

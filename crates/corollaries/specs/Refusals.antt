@@ -1,4 +1,4 @@
--- Each of the refusals 1 to 9 is given exactly under its condition: one theorem for each, read off the tables. In the other rows of
+-- Each of the refusals 1 to 9 and 11 is given exactly under its condition: one theorem for each, read off the tables. In the other rows of
 -- a table the numbers differ. Assumes nothing.
 use Prim.Native.Nat.{ℕ, _≤_, _<_}
 use mathlib.Core.Path.{_≡_, refl}
@@ -20,7 +20,7 @@ use Rattle.laws.specs.SoundFacts.{SoundFacts}
 use Rattle.laws.specs.StepRefusals.{StepSound}
 use Rattle.laws.specs.Held.{HeldNode, HeldBucket}
 use Rattle.laws.specs.Taking.{AllHeld, all-nodes, all-buckets}
-use Rattle.corollaries.specs.Tables.{Within, Records, OpeningRefused, StartRefused, StepRefused, ListRefused, opening-refused, start-refused, step-refused, list-refused, is-1, is-2, is-3, is-4, is-5, is-6, is-7, is-8, is-8-step, is-8-list, is-9}
+use Rattle.corollaries.specs.Tables.{Within, Records, OpeningRefused, StartRefused, StepRefused, ListRefused, opening-refused, start-refused, step-refused, list-refused, is-1, is-2, is-3, is-4, is-5, is-6, is-7, is-8, is-8-step, is-8-list, is-9, is-11}
 
 module _ (g : Config) (ns bs : List ℕ) where
   -- 1: T is not 1 to 8
@@ -31,6 +31,7 @@ module _ (g : Config) (ns bs : List ℕ) where
       go (is-1 e n) = n
       go (is-2 e p n) = absurd (omega arith)
       go (is-3 e p q n) = absurd (omega arith)
+      go (is-11 e p q s n) = absurd (omega arith)
 
   -- 2: T is, and the node slice is not 34 × H words with H from 1 to 64
   pub refusal-2 : opening g ns bs .refusal ≡ 2 ↔ (Within 1 8 (g .tasks) × (¬ Records 34 64 ns))
@@ -40,6 +41,7 @@ module _ (g : Config) (ns bs : List ℕ) where
       go (is-1 e n) = absurd (omega arith)
       go (is-2 e p n) = (p, n)
       go (is-3 e p q n) = absurd (omega arith)
+      go (is-11 e p q s n) = absurd (omega arith)
 
   -- 3: both are right, and the bucket slice is not 66 × B words with B from 1 to 1,024
   pub refusal-3 : opening g ns bs .refusal ≡ 3 ↔ (Within 1 8 (g .tasks) × Records 34 64 ns × (¬ Records 66 1024 bs))
@@ -49,6 +51,17 @@ module _ (g : Config) (ns bs : List ℕ) where
       go (is-1 e n) = absurd (omega arith)
       go (is-2 e p n) = absurd (omega arith)
       go (is-3 e p q n) = (p, q, n)
+      go (is-11 e p q s n) = absurd (omega arith)
+
+  -- 11: all three are right, and the version is neither 1 nor 2
+  pub refusal-11 : opening g ns bs .refusal ≡ 11 ↔ (Within 1 8 (g .tasks) × Records 34 64 ns × Records 66 1024 bs × (¬ Within 1 2 (g .version)))
+  refusal-11 = ((λ e. go (opening-refused g ns bs 11 (λ z. omega arith) .0 e)), (λ h. opening-refused g ns bs 11 (λ z. omega arith) .1 (is-11 refl (h .0) (h .1) (h .2) (h .3))))
+    where
+      go : OpeningRefused g ns bs 11 → Within 1 8 (g .tasks) × Records 34 64 ns × Records 66 1024 bs × (¬ Within 1 2 (g .version))
+      go (is-1 e n) = absurd (omega arith)
+      go (is-2 e p n) = absurd (omega arith)
+      go (is-3 e p q n) = absurd (omega arith)
+      go (is-11 e p q s n) = (p, q, s, n)
 
 module _ (y : Machine) (k : ℕ) (call : Call) (tag : ℕ) where
   -- 4 of a start: memory is sound, and the task's number is T or more

@@ -19,7 +19,7 @@ use Rattle.spec.specs.declared.Listing.the-variants.{Refused}
 use Rattle.spec.specs.Lists.{if_then_else_}
 use Rattle.spec.specs.Machine.{Machine, task-of}
 use Rattle.spec.specs.declared.Config.{Config}
-use Rattle.spec.specs.Sound.{within, sound}
+use Rattle.spec.specs.Sound.{within, version-known, sound}
 use Rattle.spec.specs.Listed.{listed}
 use Rattle.spec.specs.Lines.{effect}
 use Rattle.spec.specs.StepRefusals.{unsound-step, all-held}
@@ -84,6 +84,8 @@ pub data OpeningRefused (g : Config) (ns bs : List ℕ) (r : ℕ) : Type 0 where
   is-2 : r ≡ 2 → Within 1 8 (g .tasks) → ¬ Records 34 64 ns → OpeningRefused g ns bs r
   -- "3 bucket slice not 66 × B words for a B within bounds"
   is-3 : r ≡ 3 → Within 1 8 (g .tasks) → Records 34 64 ns → ¬ Records 66 1024 bs → OpeningRefused g ns bs r
+  -- paper 02, U3: "11, opening with another version, after 3"
+  is-11 : r ≡ 11 → Within 1 8 (g .tasks) → Records 34 64 ns → Records 66 1024 bs → ¬ Within 1 2 (g .version) → OpeningRefused g ns bs r
 
 module _ (g : Config) (ns bs : List ℕ) (r : ℕ) where
   why-opening : ¬ (r ≡ 0) → opening g ns bs .refusal ≡ r → OpeningRefused g ns bs r
@@ -94,8 +96,11 @@ module _ (g : Config) (ns bs : List ℕ) (r : ℕ) where
       choose Why (not (pool-fits 34 64 (length ns))) _ _ (λ q e. is-2 (sym e) t-ok (never (pool-fits 34 64 (length ns)) (means-fits 34 64 ns (omega arith)) (not-true _ q))) (λ q.
       let n-ok = fits-means 34 64 ns (not-false _ q) in
       choose Why (not (pool-fits 66 1024 (length bs))) _ _ (λ s e.
-      is-3 (sym e) t-ok n-ok (never (pool-fits 66 1024 (length bs)) (means-fits 66 1024 bs (omega arith)) (not-true _ s))) (λ s e.
-      absurd (d (sym e)))))
+      is-3 (sym e) t-ok n-ok (never (pool-fits 66 1024 (length bs)) (means-fits 66 1024 bs (omega arith)) (not-true _ s))) (λ s.
+      let b-ok = fits-means 66 1024 bs (not-false _ s) in
+      choose Why (not (version-known g)) _ _ (λ v e.
+      is-11 (sym e) t-ok n-ok b-ok (never (version-known g) (means-within 1 2 (g .version)) (not-true _ v))) (λ v e.
+      absurd (d (sym e))))))
     where
       Why : Opened → Type 0
       Why o = o .refusal ≡ r → OpeningRefused g ns bs r
@@ -105,6 +110,8 @@ module _ (g : Config) (ns bs : List ℕ) (r : ℕ) where
   opening-why (is-1 e n) = rw (e, fails (within 1 8 (g .tasks)) (within-means 1 8 (g .tasks)) n)
   opening-why (is-2 e p n) = rw (e, means-within 1 8 (g .tasks) p, fails (pool-fits 34 64 (length ns)) (fits-means 34 64 ns) n)
   opening-why (is-3 e p q n) = rw (e, means-within 1 8 (g .tasks) p, means-fits 34 64 ns (omega arith) q, fails (pool-fits 66 1024 (length bs)) (fits-means 66 1024 bs) n)
+  opening-why (is-11 e p q s n) =
+      rw (e, means-within 1 8 (g .tasks) p, means-fits 34 64 ns (omega arith) q, means-fits 66 1024 bs (omega arith) s, fails (version-known g) (within-means 1 2 (g .version)) n)
 
   -- the opening is refused with a number exactly if the table has it
   pub opening-refused : ¬ (r ≡ 0) → opening g ns bs .refusal ≡ r ↔ OpeningRefused g ns bs r

@@ -12,7 +12,7 @@ use Rattle.spec.specs.declared.Output.the-variants.{At, Refuse}
 use Rattle.spec.specs.declared.Listing.the-variants.{Refused}
 use Rattle.spec.specs.Machine.{Machine, machine-of, state-of, task-of, zero-config}
 use Rattle.spec.specs.declared.Config.{Config}
-use Rattle.spec.specs.Sound.{within, sound}
+use Rattle.spec.specs.Sound.{within, version-known, sound}
 use Rattle.spec.specs.Listed.{listed}
 use Rattle.spec.specs.Lines.{Next, on, ends, Effect, effect}
 use Rattle.spec.specs.StepRefusals.{unsound-step, all-held}
@@ -82,7 +82,8 @@ unfolding opening not-opened
 refused-opening-changes-nothing g ns bs =
     choose Same (not (within 1 8 (g .tasks))) _ _ (λ p e. refl) (λ p.
     choose Same (not (pool-fits 34 64 (length ns))) _ _ (λ q e. refl) (λ q.
-    choose Same (not (pool-fits 66 1024 (length bs))) _ _ (λ s e. refl) (λ s e. absurd (e refl))))
+    choose Same (not (pool-fits 66 1024 (length bs))) _ _ (λ s e. refl) (λ s.
+    choose Same (not (version-known g)) _ _ (λ v e. refl) (λ v e. absurd (e refl)))))
   where
     Same : Opened → Type 0
     Same o = ¬ (o .refusal ≡ 0) → o .machine ≡ machine-of (state-of zero-config 0 0) ns bs

@@ -65,6 +65,7 @@ fn task(k: u32, c: Task) {
 fn state(s: State) {
     let g = s.config;
     field(b"T=", g.tasks);
+    field(b" version=", g.version);
     field(b" H=", s.nodes);
     field(b" B=", s.buckets);
     field(b" head=", s.head);

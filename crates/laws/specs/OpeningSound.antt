@@ -12,7 +12,7 @@ use Rattle.spec.specs.declared.Config.{Config}
 use Rattle.spec.specs.Lists.{member, ascending}
 use Rattle.spec.specs.Machine.{idle, state-of, task-of}
 use Rattle.spec.specs.Words.{size, pred, place, changeable, count, tags}
-use Rattle.spec.specs.Sound.{listed-size, sound, within}
+use Rattle.spec.specs.Sound.{listed-size, sound, within, version-known}
 use Rattle.spec.specs.Entries.{pool-fits, not-opened, fresh-machine, Opened, opening}
 use Rattle.laws.specs.Tests.{choose, and2}
 use Rattle.laws.specs.SoundFacts.{NodeFacts, BucketFacts, is-idle, ConfigFacts, SoundFacts}
@@ -123,11 +123,14 @@ opening-outcome g ns bs =
     choose (OpeningOutcome g ns bs) (not (within 1 8 (g .tasks))) _ _ (λ q. refused 1 (omega arith))
     (λ a. choose (OpeningOutcome g ns bs) (not (pool-fits 34 64 (length ns))) _ _ (λ q. refused 2 (omega arith))
     (λ c. choose (OpeningOutcome g ns bs) (not (pool-fits 66 1024 (length bs))) _ _ (λ q. refused 3 (omega arith))
-    (λ d.
+    (λ d. choose (OpeningOutcome g ns bs) (not (version-known g)) _ _ (λ q. refused 11 (omega arith))
+    (λ e.
     let x = within-facts 1 8 (g .tasks) (not-false _ a) in
+    let known = within-facts 1 2 (g .version) (not-false _ e) in
     let v = fits-means 34 64 (length ns) (not-false (pool-fits 34 64 (length ns)) c) in
     let w = fits-means 66 1024 (length bs) (not-false (pool-fits 66 1024 (length bs)) d) in
-    accepted (record { T-low = x .0; T-high = x .1 }) (v .0) (v .1) (v .2) (w .0) (w .1) (w .2))))
+    let g-ok : ConfigFacts g = record { T-low = x .0; T-high = x .1; version-low = known .0; version-high = known .1 } in
+    accepted g-ok (v .0) (v .1) (v .2) (w .0) (w .1) (w .2)))))
 
 pub opening-sound : (g : Config) (ns bs : List ℕ) → opening g ns bs .refusal ≡ 0 → sound (opening g ns bs .machine) ≡ true
 unfolding not-opened

@@ -51,6 +51,8 @@ pub data TaskFacts (y : Machine) (k : ℕ) (c : Task) : Type 0 where
 pub record ConfigFacts (g : Config) : Type 0 where
   pub T-low : 1 ≤ g .tasks
   pub T-high : g .tasks ≤ 8
+  pub version-low : 1 ≤ g .version
+  pub version-high : g .version ≤ 2
 
 pub record SoundFacts (y : Machine) : Type 0 where
   pub config : ConfigFacts (y .state .config)

@@ -36,11 +36,16 @@ pub config-facts : (g : Config) → config-sound g ≡ true → ConfigFacts g
 unfolding config-sound
 config-facts g e =
     let t = within-facts 1 8 (g .tasks) (passes _ e 0) in
-    record { T-low = t .0; T-high = t .1 }
+    let v = within-facts 1 2 (g .version) (passes _ e 1) in
+    record { T-low = t .0; T-high = t .1; version-low = v .0; version-high = v .1 }
 
 facts-config : (g : Config) → ConfigFacts g → config-sound g ≡ true
 unfolding config-sound
-facts-config g f = all-pass (facts-within 1 8 (g .tasks) (f .T-low) (f .T-high) also no-more)
+facts-config g f =
+    all-pass
+    (facts-within 1 8 (g .tasks) (f .T-low) (f .T-high)
+    also facts-within 1 2 (g .version) (f .version-low) (f .version-high)
+    also no-more)
 
 -- ---- the whole
 

@@ -10,6 +10,7 @@ pub mod ReadLinks
 pub mod LookupLines
 pub mod ListedTags
 pub mod FillEffects
+pub mod SplitMerge
 pub mod Gathered
 pub mod FillLines
 pub mod UpdateLines

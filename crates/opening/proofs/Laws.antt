@@ -11,7 +11,7 @@ use lib.ListN.{length, replicate}
 use Rattle.laws.specs.Tests.{and-left, and-right}
 use Rattle.spec.specs.declared.Config.{Config}
 use Rattle.spec.specs.Lists.{if_then_else_}
-use Rattle.spec.specs.Sound.{within}
+use Rattle.spec.specs.Sound.{within, version-known}
 use Rattle.spec.specs.Entries.{Opened, opening, not-opened, fresh-machine, pool-fits}
 use Rattle.opening.specs.Opening.{refusal-of, first-node, first-bucket}
 
@@ -37,29 +37,32 @@ pool-of width most words e =
 
 -- ---- the conditions in their order: the first that fails gives the refusal
 
-abbrev chosen : {A : Type 0} → (ℕ → A) → A → Bool → Bool → Bool → A
-chosen refused opened tasks nodes buckets =
-    if not tasks then refused 1 else if not nodes then refused 2 else if not buckets then refused 3 else opened
+abbrev chosen : {A : Type 0} → (ℕ → A) → A → Bool → Bool → Bool → Bool → A
+chosen refused opened tasks nodes buckets version =
+    if not tasks then refused 1 else if not nodes then refused 2 else if not buckets then refused 3 else if not version then refused 11 else opened
 
-first-fails : {A : Type 0} (refused : ℕ → A) (opened : A) (t n b : Bool)
-    → (chosen (λ k. k) 0 t n b ≡ 0 → ⊥) → chosen refused opened t n b ≡ refused (chosen (λ k. k) 0 t n b)
-first-fails refused opened false n b d = refl
-first-fails refused opened true false b d = refl
-first-fails refused opened true true false d = refl
-first-fails refused opened true true true d = absurd (d refl)
+first-fails : {A : Type 0} (refused : ℕ → A) (opened : A) (t n b v : Bool)
+    → (chosen (λ k. k) 0 t n b v ≡ 0 → ⊥) → chosen refused opened t n b v ≡ refused (chosen (λ k. k) 0 t n b v)
+first-fails refused opened false n b v d = refl
+first-fails refused opened true false b v d = refl
+first-fails refused opened true true false v d = refl
+first-fails refused opened true true true false d = refl
+first-fails refused opened true true true true d = absurd (d refl)
 
-all-hold : (t n b : Bool) → chosen (λ k. k) 0 t n b ≡ 0 → (t ≡ true) × (n ≡ true) × (b ≡ true)
-all-hold false n b e = let z : _≡_ {A = ℕ} 1 0 = e in absurd (omega arith)
-all-hold true false b e = let z : _≡_ {A = ℕ} 2 0 = e in absurd (omega arith)
-all-hold true true false e = let z : _≡_ {A = ℕ} 3 0 = e in absurd (omega arith)
-all-hold true true true e = (refl, refl, refl)
+all-hold : (t n b v : Bool) → chosen (λ k. k) 0 t n b v ≡ 0 → (t ≡ true) × (n ≡ true) × (b ≡ true) × (v ≡ true)
+all-hold false n b v e = let z : _≡_ {A = ℕ} 1 0 = e in absurd (omega arith)
+all-hold true false b v e = let z : _≡_ {A = ℕ} 2 0 = e in absurd (omega arith)
+all-hold true true false v e = let z : _≡_ {A = ℕ} 3 0 = e in absurd (omega arith)
+all-hold true true true false e = let z : _≡_ {A = ℕ} 11 0 = e in absurd (omega arith)
+all-hold true true true true e = (refl, refl, refl, refl)
 
-whichever : {A : Type 0} (P : A → Type 0) (refused : ℕ → A) (opened : A) → ((k : ℕ) → k ≤ 3 → P (refused k)) → P opened
-    → (t n b : Bool) → P (chosen refused opened t n b)
-whichever P refused opened r o false n b = r 1 (omega arith)
-whichever P refused opened r o true false b = r 2 (omega arith)
-whichever P refused opened r o true true false = r 3 (omega arith)
-whichever P refused opened r o true true true = o
+whichever : {A : Type 0} (P : A → Type 0) (refused : ℕ → A) (opened : A) → ((k : ℕ) → k ≤ 11 → P (refused k)) → P opened
+    → (t n b v : Bool) → P (chosen refused opened t n b v)
+whichever P refused opened r o false n b v = r 1 (omega arith)
+whichever P refused opened r o true false b v = r 2 (omega arith)
+whichever P refused opened r o true true false v = r 3 (omega arith)
+whichever P refused opened r o true true true false = r 11 (omega arith)
+whichever P refused opened r o true true true true = o
 
 module _ (g : Config) (ns bs : List ℕ) where
   abbrev T-fits : Bool
@@ -71,6 +74,9 @@ module _ (g : Config) (ns bs : List ℕ) where
   abbrev B-fits : Bool
   B-fits = pool-fits 66 1024 (length bs)
 
+  abbrev version-fits : Bool
+  version-fits = version-known g
+
   abbrev why : ℕ
   why = refusal-of g (length ns) (length bs)
 
@@ -79,7 +85,7 @@ module _ (g : Config) (ns bs : List ℕ) where
 
   pub is-refused : (why ≡ 0 → ⊥) → opening g ns bs ≡ not-opened why ns bs
   unfolding opening refusal-of
-  is-refused d = first-fails (λ r. not-opened r ns bs) opened T-fits H-fits B-fits d
+  is-refused d = first-fails (λ r. not-opened r ns bs) opened T-fits H-fits B-fits version-fits d
 
   pub record Accepted : Type 0 where
     pub nodes-fit : Pool 34 64 (length ns)
@@ -89,9 +95,10 @@ module _ (g : Config) (ns bs : List ℕ) where
   pub is-accepted : why ≡ 0 → Accepted
   unfolding opening refusal-of
   is-accepted e =
-      let p = all-hold T-fits H-fits B-fits e in
-      record { nodes-fit = pool-of 34 64 (length ns) (p .1); buckets-fit = pool-of 66 1024 (length bs) (p .2); gives = rw (p .0, p .1, p .2) }
+      let p = all-hold T-fits H-fits B-fits version-fits e in
+      record { nodes-fit = pool-of 34 64 (length ns) (p .1); buckets-fit = pool-of 66 1024 (length bs) (p .2); gives = rw (p .0, p .1, p .2, p .3) }
 
-  pub refusal-small : opening g ns bs .refusal ≤ 9
+  pub refusal-small : opening g ns bs .refusal ≤ 11
   unfolding opening not-opened
-  refusal-small = whichever (λ (o : Opened). o .refusal ≤ 9) (λ r. not-opened r ns bs) opened (λ k h. omega arith) (omega arith) T-fits H-fits B-fits
+  refusal-small =
+      whichever (λ (o : Opened). o .refusal ≤ 11) (λ r. not-opened r ns bs) opened (λ k h. omega arith) (omega arith) T-fits H-fits B-fits version-fits

@@ -51,6 +51,9 @@ fn refusal(g: Config, n: usize, m: usize) -> u32
     if !fits(pool::BUCKET_WORDS, MOST_BUCKETS, m) {
         return 3;
     }
+    if !sound_records::within(1, 2, g.version) {
+        return 11;
+    }
     0
 }
 

@@ -1,4 +1,4 @@
-// A second implementation of the yard set of paper 01, with requests U1 and U2 of paper 02, to be compared word by word with the first.
+// A second implementation of the yard set of paper 01, with requests U1 to U3 of paper 02, to be compared word by word with the first.
 // Its shape: state, pools, what is asked and the reply are words of one memory (reference_words::words has their addresses). The paper's lines are
 // the rows of a table of letters (reference_words::table); a letter stands for something that a line can see, a number (sight.rt). A call first
 // works out what it gives and what every word becomes, from unchanged memory, then stores (stores.rt). Spoilt memory is found word by word, held
@@ -16,6 +16,7 @@ use reference_words::tags::MADE_BY_49;
 use reference_words::tags::NO_TAGS;
 use reference_words::tags::gather;
 use reference_words::words::ASKED_K;
+use reference_words::words::ASKED_TAG;
 use reference_words::words::AT_B;
 use reference_words::words::AT_T;
 use reference_words::words::B;
@@ -61,7 +62,8 @@ fn buckets_lent(w: &[u32]) -> u32 {
     records_in(get(w, BUCKET_WORDS), 66, 1024)
 }
 
-// "1 T outside its bounds; 2 node slice not 34 × H words for an H within bounds; 3 bucket slice not 66 × B words for a B within bounds."
+// "1 T outside its bounds; 2 node slice not 34 × H words for an H within bounds; 3 bucket slice not 66 × B words for a B within bounds"; "11,
+// opening with another version, after 3".
 fn opening_refusal(w: &[u32]) -> u32 {
     let t = get(w, ASKED_K);
     if t < 1 || 8 < t {
@@ -70,12 +72,28 @@ fn opening_refusal(w: &[u32]) -> u32 {
     if nodes_lent(w) == 0 {
         return 2;
     }
-    either(buckets_lent(w) == 0, 3, 0)
+    if buckets_lent(w) == 0 {
+        return 3;
+    }
+    let version = get(w, ASKED_TAG);
+    match version {
+        1 | 2 => 0,
+        _ => 11,
+    }
 }
 
 // "Opening zeroes both pools, puts changeable empty bucket 0 into node 0 of size 1, makes it head, and sets both "last taken" to 0; no task runs."
 fn write_opening(w: &mut [u32]) {
-    put_words(w, T, &[get(w, ASKED_K), nodes_lent(w), buckets_lent(w)]);
+    put_words(
+        w,
+        T,
+        &[
+            get(w, ASKED_K),
+            get(w, ASKED_TAG),
+            nodes_lent(w),
+            buckets_lent(w),
+        ],
+    );
     clear(w, NODES, NODES + get(w, NODE_WORDS) as usize);
     clear(w, BUCKETS, BUCKETS + get(w, BUCKET_WORDS) as usize);
     put_words(w, NODES, &[1, 0, 1]);
@@ -236,7 +254,7 @@ fn enter(w: &mut [u32]) {
 }
 
 // What WHAT asks: a step of task ASKED_K (0), the start of a call of it with ASKED_TAG (1 insert, 2 remove, 3 contains, 4 grow, 5 shrink), a list
-// into so many words (6), a show of this bucket (7), an opening with so many tasks (8); nothing for other numbers.
+// into so many words (6), a show of this bucket (7), an opening with so many tasks, ASKED_TAG the version (8); nothing for other numbers.
 pub fn act(w: &mut [u32]) {
     let what = get(w, WHAT);
     if what < 8 {

@@ -13,6 +13,7 @@ use super::words::NODES;
 use super::words::RECORDS;
 use super::words::STATE_END;
 use super::words::T;
+use super::words::VERSION;
 use super::words::get;
 use super::words::head;
 use super::words::is_size;
@@ -41,9 +42,11 @@ fn bad_node(w: &[u32], place: u32) -> bool {
     get(w, H) < place || node(w, place, 0) == 0
 }
 
-// "a record number is past its pool", of the head and of both last taken.
+// "a record number is past its pool", of the head and of both last taken; "A yard is opened for version 1 or 2 and its state keeps the version
+// (another there is 8)".
 fn bad_header_word(w: &[u32], at: usize) -> bool {
     match at {
+        VERSION => outside(get(w, VERSION), 1, 2),
         HEAD => get(w, H) <= get(w, HEAD) || bad_node(w, head(w)),
         LAST_NODE => get(w, H) <= get(w, LAST_NODE),
         LAST_BUCKET => get(w, B) <= get(w, LAST_BUCKET),

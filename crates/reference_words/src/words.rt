@@ -4,19 +4,21 @@
 // The state. From RECORDS on eight tasks of 13 words: running, call, tag, line, i, own steps, t, s, b, m, n, new node, new bucket.
 pub const T: usize = 0;
 
-pub const H: usize = 1;
+pub const VERSION: usize = 1;
 
-pub const B: usize = 2;
+pub const H: usize = 2;
 
-pub const HEAD: usize = 3;
+pub const B: usize = 3;
 
-pub const LAST_NODE: usize = 4;
+pub const HEAD: usize = 4;
 
-pub const LAST_BUCKET: usize = 5;
+pub const LAST_NODE: usize = 5;
 
-pub const RECORDS: usize = 6;
+pub const LAST_BUCKET: usize = 6;
 
-pub const STATE_END: usize = 110;
+pub const RECORDS: usize = 7;
+
+pub const STATE_END: usize = 111;
 // The reply: kind, value, own steps, a bucket's tags plus 1. Then words that are lent to a list, and the lengths of the two slices that are lent.
 pub const REPLY: usize = 120;
 
@@ -160,9 +162,9 @@ pub fn place(w: &[u32], of: u32, i: u32) -> u32 {
     node(w, of, plus(i, 2))
 }
 
-// The number of a node's place for a tag, and that place.
+// The number of a node's place for a tag, and that place. "Version 2 uses tag div 10 wherever version 1 uses the tag before a mod".
 pub fn home(w: &[u32], of: u32, tag: u32) -> u32 {
-    rest(tag, node(w, of, 0))
+    rest(either(get(w, VERSION) == 2, tag / 10, tag), node(w, of, 0))
 }
 
 pub fn at_home(w: &[u32], of: u32, tag: u32) -> u32 {

@@ -142,7 +142,7 @@ module _ (g : Config) (ns bs ws os ts : List ℕ) (refusal : ℕ) (r : refusal �
 -- ---- the number for C is small: at most 64 tags are listed, and refusals are numbered to 9
 
 abbrev Small : Written → Type 0
-Small l = listing-number (l .says) ≤ 265
+Small l = listing-number (l .says) ≤ 267
 
 list-small : (y : Machine) (w : List ℕ) → Small (list y w)
 unfolding list
@@ -151,7 +151,7 @@ list-small y w =
     choose Small (not (leb 64 (length w))) _ _ (λ q. omega arith) (λ q.
     let z = ltb-false 64 (length (listed y)) (or-none (not (sound y)) (ltb 64 (length (listed y))) p .1) in omega arith))
 
-pub number-small : (g : Config) (ns bs ws os ts : List ℕ) → listing-number (run-words g ns bs ws os ts .listing) ≤ 265
+pub number-small : (g : Config) (ns bs ws os ts : List ℕ) → listing-number (run-words g ns bs ws os ts .listing) ≤ 267
 unfolding run-words list-opened
 number-small g ns bs ws os ts =
     let o = opening g ns bs .refusal in

@@ -9,7 +9,7 @@ ghost use Prim.Native.Nat.{_*_, _≤_};
 ghost use lib.ListN.{length};
 ghost use Rattle.spec.specs.Lists.{concat-map};
 ghost use Rattle.spec.specs.Numbers.{output-words};
-ghost use Rattle.spec.specs.Machine.{config-of, machine-of};
+ghost use Rattle.spec.specs.Machine.{config-of, with-version, machine-of};
 ghost use Rattle.spec.specs.Words.{overwrite};
 ghost use Rattle.spec.specs.Schedule.{event, run};
 ghost use Rattle.spec.specs.Linearizable.{Linearizable};
@@ -106,10 +106,19 @@ pub fn run(
     }
 }
 
+// What the opening of C's call is given.
+fn config(tasks: u32, version: u32) -> Config
+    ensures { λ r. ⌜ r ≡ with-version version (config-of tasks) ⌝ }
+{
+    let g = state::config(tasks);
+    state::with_version(g, version)
+}
+
 // The same for C. Gives the number of tags listed, or 256 and the refusal's number.
 #[no_mangle]
 pub extern "C" fn schedule_run(
     tasks: u32,
+    version: u32,
     ns: &mut [u32],
     bs: &mut [u32],
     events: &[u32],
@@ -117,9 +126,9 @@ pub extern "C" fn schedule_run(
     tags: &mut [u32],
 ) -> u32
     ensures { λ r. ⌜ c-result r (now (ns .exit)) (now (bs .exit)) (now (outs .exit)) (now (tags .exit))
-        ≡ c-result-of (run-words (config-of tasks) (now (ns .entry)) (now (bs .entry)) (now (events .entry)) (now (outs .entry)) (now (tags .entry))) ⌝ }
+        ≡ c-result-of (run-words (with-version version (config-of tasks)) (now (ns .entry)) (now (bs .entry)) (now (events .entry)) (now (outs .entry)) (now (tags .entry))) ⌝ }
 {
-    let g = state::config(tasks);
+    let g = config(tasks, version);
     let o = run(g, ns, bs, events, outs, tags);
     let l = o.listing;
     schedule_words::listing_number(l)

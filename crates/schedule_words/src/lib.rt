@@ -84,7 +84,7 @@ pub fn number_of_events(events: usize, outs: usize) -> usize
 
 // The list's answer as one number: of tags listed, or 256 and the refusal's number.
 pub fn listing_number(l: Listing) -> u32
-    requires { ⌜ listing-number l ≤ 265 ⌝ }
+    requires { ⌜ listing-number l ≤ 267 ⌝ }
     ensures { λ r. ⌜ r ≡ listing-number l ⌝ }
 {
     match l {

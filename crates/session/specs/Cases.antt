@@ -1,5 +1,5 @@
 -- Sessions computed from the definitions by one statement, `table-holds`: the whole case of the paper, what is outside the
--- grammar in each place, refused openings, refusals after which the session goes on. Assumes nothing.
+-- grammar in each place, refused openings, refusals after which the session goes on, and the version. Assumes nothing.
 use Prim.Native.Nat.{ℕ}
 use Prim.Native.String.{String}
 use mathlib.Core.Path.{_≡_, refl}
@@ -168,6 +168,56 @@ table =
     ∷
     -- a line of 41 bytes
     gives ("tasks=1\nnodes=1\nbuckets=1\nstep=111111111111111111111111111111111111\n" ∷ [])
+    ("refuse=10\n" ∷ [])
+    ∷
+    -- version 2: 14 and 17 have the same place, and 4 another. Place 1 is filled by an insert after a grow
+    gives ("tasks=1\nnodes=3\nbuckets=4\nversion=2\nstart=0,insert,17\nstep=0\nstep=0\nstep=0\nstart=0,grow\nstep=0\n"
+    ∷ "step=0\nstep=0\nstep=0\nstep=0\nstep=0\nstep=0\nstart=0,insert,14\nstep=0\nstep=0\nstep=0\n"
+    ∷ "step=0\nstep=0\nstep=0\nstep=0\nstep=0\nstep=0\nstep=0\nstart=0,insert,4\nstep=0\nstep=0\nstep=0\n"
+    ∷ "step=0\nstep=0\nstep=0\nstep=0\nstep=0\nstep=0\nstep=0\n" ∷ [])
+    ("at=0,32\nat=0,33\nat=0,36\nend=0,yes,3,1\nat=0,20\nat=0,39\nat=0,40\nat=0,51\nat=0,24\nat=0,27\n"
+    ∷ "at=0,28\nend=0,done,7\nat=0,32\nat=0,33\nat=0,39\nat=0,40\nat=0,43\nat=0,44\nat=0,49\nat=0,50\n"
+    ∷ "at=0,51\nat=0,36\nend=0,yes,10,2\nat=0,32\nat=0,33\nat=0,39\nat=0,40\nat=0,43\nat=0,44\nat=0,49\nat=0,50\n"
+    ∷ "at=0,51\nat=0,36\nend=0,yes,10,1\nsize=2\ntags=3\ntag=4\ntag=14\ntag=17\n" ∷ [])
+    ∷
+    -- the version of a session without it
+    gives ("tasks=1\nnodes=1\nbuckets=1\nversion=1\n" ∷ [])
+    ("size=1\ntags=0\n" ∷ [])
+    ∷
+    -- another version
+    gives ("tasks=1\nnodes=1\nbuckets=1\nversion=3\nstep=0\n" ∷ [])
+    ("refuse=11\n" ∷ [])
+    ∷
+    -- another version, and buckets out of bounds
+    gives ("tasks=1\nnodes=1\nbuckets=0\nversion=0\n" ∷ [])
+    ("refuse=3\n" ∷ [])
+    ∷
+    -- the line after the buckets is not of the version's form: the opening is judged before it
+    gives ("tasks=0\nnodes=1\nbuckets=1\nversion=x\n" ∷ [])
+    ("refuse=1\n" ∷ [])
+    ∷
+    -- and then it is outside the grammar
+    gives ("tasks=1\nnodes=1\nbuckets=1\nversion=x\n" ∷ [])
+    ("refuse=10\n" ∷ [])
+    ∷
+    -- the version with a leading zero, after an opening that is refused
+    gives ("tasks=1\nnodes=0\nbuckets=1\nversion=01\n" ∷ [])
+    ("refuse=2\n" ∷ [])
+    ∷
+    -- the version's line is not closed
+    gives ("tasks=1\nnodes=1\nbuckets=1\nversion=3" ∷ [])
+    ("refuse=10\n" ∷ [])
+    ∷
+    -- the version's line is not closed, after an opening that is refused
+    gives ("tasks=9\nnodes=1\nbuckets=1\nversion=2" ∷ [])
+    ("refuse=1\n" ∷ [])
+    ∷
+    -- the version twice
+    gives ("tasks=1\nnodes=1\nbuckets=1\nversion=2\nversion=2\n" ∷ [])
+    ("refuse=10\n" ∷ [])
+    ∷
+    -- the version before the buckets
+    gives ("tasks=1\nnodes=1\nversion=2\nbuckets=1\n" ∷ [])
     ("refuse=10\n" ∷ [])
     ∷ []
 

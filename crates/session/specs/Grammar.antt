@@ -1,5 +1,5 @@
 -- The grammar of a session's input: "lines of at most 40 bytes, each closed by byte 10, numbers decimal to 4,294,967,295 without
--- leading zeros", three header lines and five forms of event line, all on lists of bytes. Assumes nothing.
+-- leading zeros", four header lines and five forms of event line, all on lists of bytes. Assumes nothing.
 use Prim.Native.Nat.{ℕ, suc, _+_, _-_, _*_}
 use mathlib.Core.List.{List, [], _∷_, _++_}
 use mathlib.Core.Bool.{Bool, true, false, not, _&&_}

@@ -23,6 +23,10 @@ nodes-key = 110 ∷ 111 ∷ 100 ∷ 101 ∷ 115 ∷ 61 ∷ []
 abbrev pub buckets-key : List ℕ
 buckets-key = 98 ∷ 117 ∷ 99 ∷ 107 ∷ 101 ∷ 116 ∷ 115 ∷ 61 ∷ []
 
+-- `version=`
+abbrev pub version-key : List ℕ
+version-key = 118 ∷ 101 ∷ 114 ∷ 115 ∷ 105 ∷ 111 ∷ 110 ∷ 61 ∷ []
+
 -- `start=`
 abbrev pub start-key : List ℕ
 start-key = 115 ∷ 116 ∷ 97 ∷ 114 ∷ 116 ∷ 61 ∷ []
@@ -103,14 +107,14 @@ limit-word = 108 ∷ 105 ∷ 109 ∷ 105 ∷ 116 ∷ []
 
 unfoldable pub all-keys : List (List ℕ)
 all-keys =
-    tasks-key ∷ nodes-key ∷ buckets-key ∷ start-key ∷ step-key
+    tasks-key ∷ nodes-key ∷ buckets-key ∷ version-key ∷ start-key ∷ step-key
     ∷ insert-key ∷ remove-key ∷ contains-key ∷ grow-word ∷ shrink-word
     ∷ at-key ∷ end-key ∷ refuse-key ∷ size-key ∷ tags-key
     ∷ tag-key ∷ yes-word ∷ no-word ∷ full-word ∷ done-word
     ∷ lost-word ∷ limit-word ∷ []
 
 pub keys-spelled : all-keys
-    ≡ ascii "tasks=" ∷ ascii "nodes=" ∷ ascii "buckets=" ∷ ascii "start=" ∷ ascii "step="
+    ≡ ascii "tasks=" ∷ ascii "nodes=" ∷ ascii "buckets=" ∷ ascii "version=" ∷ ascii "start=" ∷ ascii "step="
     ∷ ascii "insert," ∷ ascii "remove," ∷ ascii "contains," ∷ ascii "grow" ∷ ascii "shrink"
     ∷ ascii "at=" ∷ ascii "end=" ∷ ascii "refuse=" ∷ ascii "size=" ∷ ascii "tags="
     ∷ ascii "tag=" ∷ ascii "yes" ∷ ascii "no" ∷ ascii "full" ∷ ascii "done"

@@ -26,17 +26,19 @@ pub struct Header {
     pub buckets: u32,
 }
 
-// The header lines, in their order: which one is due.
+// The header lines, in their order: which one is due. The version's line may be left out.
 pub enum HeaderLine {
     Tasks,
     Nodes,
     Buckets,
+    Version,
 }
 
 // What a line says where a header line is due: it is that line, and then another one is due, or the header is complete; or it is
-// another line, and the header line is missing.
+// another line, which follows a header that is complete without the line due, or the header line is missing.
 pub enum HeaderStep {
     Next(HeaderLine, Header),
     Complete(Header),
+    Absent(Header),
     Missing,
 }

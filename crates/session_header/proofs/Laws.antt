@@ -5,14 +5,14 @@ use Prim.Native.Nat.{ℕ}
 use borrow.Author.Tests.{eq-eqb, ne-eqb}
 use lib.ListN.{take, drop}
 use Rattle.spec.specs.declared.State.{State}
-use Rattle.spec.specs.Machine.{Machine, machine-of}
+use Rattle.spec.specs.Machine.{machine-of}
 use Rattle.spec.specs.Entries as entries
 use Rattle.spec.specs.Entries.{opening}
 use Rattle.session.specs.declared.Header.{Header}
 use Rattle.session.specs.Print.{refusal-line}
 use Rattle.session.specs.Buffer.{buffer, append}
 use Rattle.session_state.specs.declared.Phase.the-variants.{Events, Stopped}
-use Rattle.session_state.specs.Handling.{session, handled, LineHandled, node-extent, bucket-extent, node-part, bucket-part, with-machine, opened-effect, open-effect}
+use Rattle.session_state.specs.Handling.{session, handled, LineHandled, node-extent, bucket-extent, node-part, bucket-part, pools-kept, with-machine, silent, opened-then, open-then}
 use Rattle.session_state.proofs.Laws.{nothing-appended, puts-back}
 
 module _ (h : Header) (ns bs : List ℕ) (a b : ℕ) (ea : a ≡ node-extent h ns) (eb : b ≡ bucket-extent h bs) where
@@ -32,8 +32,8 @@ module _ (h : Header) (ns bs : List ℕ) (a b : ℕ) (ea : a ≡ node-extent h n
     machine-is = hm ∙ ap (λ (o : entries.Opened). o .machine) same-opening
 
     pub opens : (before : List ℕ) → refusal ≡ 0
-        → LineHandled (open-effect h ns bs) (handled (session Events h m) 0) (n' ++ drop a ns) (b' ++ drop b bs) before before
-    unfolding open-effect opened-effect
+        → LineHandled (open-then h ns bs silent) (handled (session Events h m) 0) (n' ++ drop a ns) (b' ++ drop b bs) before before
+    unfolding open-then opened-then silent pools-kept with-machine
     opens before z =
         let o = opening (h .config) (node-part h ns) (bucket-part h bs) in
         rw (eq-eqb (o .refusal) 0 (sym refusal-is ∙ z))
@@ -41,8 +41,8 @@ module _ (h : Header) (ns bs : List ℕ) (a b : ℕ) (ea : a ≡ node-extent h n
 
     pub refuses : (count : ℕ) (before after : List ℕ) → (refusal ≡ 0 → ⊥)
         → buffer after count ≡ append (refusal-line refusal) (buffer before 0)
-        → LineHandled (open-effect h ns bs) (handled (session Stopped h m) count) (n' ++ drop a ns) (b' ++ drop b bs) before after
-    unfolding open-effect opened-effect
+        → LineHandled (open-then h ns bs silent) (handled (session Stopped h m) count) (n' ++ drop a ns) (b' ++ drop b bs) before after
+    unfolding open-then opened-then
     refuses count before after n t =
         let o = opening (h .config) (node-part h ns) (bucket-part h bs) in
         rw (ne-eqb (o .refusal) 0 (λ e. n (refusal-is ∙ e)))

@@ -1,9 +1,9 @@
 -- Laws that the proofs of the functions cite, over plain lists and numbers: a start or a step over the session's part of the pools,
--- the final listing over it. Assumes nothing.
+-- the final listing over it, and what is done after an opening. Assumes nothing.
 use mathlib.Core.Path.{_≡_, refl, sym, ap, subst, _∙_}
-use mathlib.Core.List.{List, _++_}
+use mathlib.Core.List.{List, [], _++_}
 use mathlib.Core.Bool.{Bool, true, false, not, _||_}
-use lib.Dec.{ltb, leb}
+use lib.Dec.{ltb, leb, eqb}
 use Prim.Native.Nat.{ℕ, _+_, _-_, _≤_}
 use native.Mathlib.Omega.{arith}
 use borrow.Author.Tests.{ltb-false}
@@ -17,9 +17,11 @@ use Rattle.spec.specs.Words.{size}
 use Rattle.spec.specs.Listed.{listed, head-of, size-of}
 use Rattle.spec.specs.Sound.{sound}
 use Rattle.spec.specs.Entries as entries
-use Rattle.spec.specs.Entries.{list}
+use Rattle.spec.specs.Entries.{opening, list}
+use Rattle.laws.specs.Tests.{tf}
 use Rattle.lines.specs.declared.Stepped.{Stepped}
 use Rattle.lines.specs.Reply.{reply-of}
+use Rattle.session.specs.declared.EventLine.{EventLine}
 use Rattle.session.specs.declared.Header.{Header}
 use Rattle.session.specs.declared.HeaderLine.{HeaderLine}
 use Rattle.session.specs.declared.HeaderStep.the-variants.{Next}
@@ -28,10 +30,10 @@ use Rattle.session.specs.Print.{refusal-line, output-line, listing-lines}
 use Rattle.session.specs.Transcript.{final-listing}
 use Rattle.session.specs.Buffer.{Buffer, buffer, append}
 use Rattle.session_state.specs.declared.Phase.{Phase}
-use Rattle.session_state.specs.declared.Phase.the-variants.{Due, Events}
+use Rattle.session_state.specs.declared.Phase.the-variants.{Due, Events, Stopped}
 use Rattle.session_state.specs.declared.Session.{Session}
 use Rattle.session_state.specs.declared.Handled.{Handled}
-use Rattle.session_state.specs.Handling.{session, handled, LineHandled, pools-kept, silent, node-extent, bucket-extent, node-part, session-machine, header-effect, reply-effect, phase-effect, line-effect, phase-end, end-effect}
+use Rattle.session_state.specs.Handling.{session, reads-events, handled, LineEffect, LineHandled, pools-kept, silent, node-extent, bucket-extent, node-part, bucket-part, session-machine, with-machine, opened-then, open-then, header-effect, reply-effect, phase-effect, line-effect, phase-end, end-effect}
 use Rattle.session_state.proofs.Laws.{nothing-appended, puts-back, same-machine}
 
 -- ---- a start or a step over the session's part of the pools
@@ -141,12 +143,62 @@ module _ (s : Session) (p : Phase) (e : s .phase ≡ p) (ns bs : List ℕ) (r : 
   ends h = subst (λ (q : Phase). LineHandled (phase-end q s ns bs) r n' b' before after) (sym e) h
 
 -- nothing is done once the session has stopped
-pub does-nothing : (s : Session) (ns bs before : List ℕ) → LineHandled (pools-kept (silent s) ns bs) (handled s 0) ns bs before before
+pub does-nothing : (s : Session) (ns bs before : List ℕ) → LineHandled (silent s ns bs) (handled s 0) ns bs before before
 unfolding pools-kept silent
 does-nothing s ns bs before = record { next = refl; nodes = refl; buckets = refl; wrote = nothing-appended (buffer before 0) }
 
 -- another header line is due, and nothing is printed
-pub goes-on : (s : Session) (due : HeaderLine) (h : Header) (ns bs before : List ℕ)
-    → LineHandled (header-effect (Next due h) s ns bs) (handled (session (Due due) h (s .state)) 0) ns bs before before
+pub goes-on : (s : Session) (due : HeaderLine) (h : Header) (x : EventLine) (ns bs before : List ℕ)
+    → LineHandled (header-effect (Next due h) x s ns bs) (handled (session (Due due) h (s .state)) 0) ns bs before before
 unfolding header-effect pools-kept
-goes-on s due h ns bs before = record { next = refl; nodes = refl; buckets = refl; wrote = nothing-appended (buffer before 0) }
+goes-on s due h x ns bs before = record { next = refl; nodes = refl; buckets = refl; wrote = nothing-appended (buffer before 0) }
+
+-- ---- the opening, and where it was accepted what is done next
+
+-- nothing was done: the next effect is that of the same session and pools, and is written to the same buffer
+after-silence : (d : LineEffect) (t : Handled) (n' b' before middle : List ℕ) → LineHandled (silent (d .session) (d .nodes) (d .buckets)) t n' b' before middle
+    → (next : Session → List ℕ → List ℕ → LineEffect) (r : Handled) (n'' b'' after : List ℕ)
+    → LineHandled (next (t .session) n' b') r n'' b'' middle after → LineHandled (next (d .session) (d .nodes) (d .buckets)) r n'' b'' before after
+unfolding silent pools-kept append
+after-silence d t n' b' before middle o next r n'' b'' after h =
+    let same : next (t .session) n' b' ≡ next (d .session) (d .nodes) (d .buckets) = cc (o .next, o .nodes, o .buckets) in
+    let unwritten : middle ≡ before = ap (λ (u : Buffer). u .bytes) (o .wrote) in
+    subst (λ (w : List ℕ). LineHandled (next (d .session) (d .nodes) (d .buckets)) r n'' b'' w after) unwritten
+    (subst (λ (e : LineEffect). LineHandled e r n'' b'' middle after) same h)
+
+module _ (h : Header) (ns bs : List ℕ) (t : Handled) (n' b' before middle : List ℕ) (next : Session → List ℕ → List ℕ → LineEffect) where
+  abbrev lent : entries.Opened
+  lent = opening (h .config) (node-part h ns) (bucket-part h bs)
+
+  abbrev made : LineEffect
+  made = with-machine Events [] (lent .machine) h ns bs
+
+  -- after an opening that is accepted, or refused
+  abbrev after-opening : Bool → (Session → List ℕ → List ℕ → LineEffect) → LineEffect
+  after-opening a f =
+      if a then f (made .session) (made .nodes) (made .buckets) else with-machine Stopped (refusal-line (lent .refusal)) (lent .machine) h ns bs
+
+  -- it was accepted
+  pub opens-then : LineHandled (open-then h ns bs silent) t n' b' before middle → reads-events (t .session .phase) ≡ true
+      → (r : Handled) (n'' b'' after : List ℕ)
+      → LineHandled (next (t .session) n' b') r n'' b'' middle after → LineHandled (open-then h ns bs next) r n'' b'' before after
+  unfolding open-then opened-then with-machine reads-events
+  opens-then o p r n'' b'' after l = go (eqb (lent .refusal) 0) o
+    where
+      go : (a : Bool) → LineHandled (after-opening a silent) t n' b' before middle → LineHandled (after-opening a next) r n'' b'' before after
+      go true q = after-silence made t n' b' before middle q next r n'' b'' after l
+      go false q =
+          let stops : reads-events (t .session .phase) ≡ false = ap (λ (s : Session). reads-events (s .phase)) (q .next) in
+          absurd (tf p stops)
+
+  -- it was refused
+  pub refuses-then : LineHandled (open-then h ns bs silent) t n' b' before middle → reads-events (t .session .phase) ≡ false
+      → LineHandled (open-then h ns bs next) t n' b' before middle
+  unfolding open-then opened-then with-machine silent pools-kept reads-events
+  refuses-then o p = go (eqb (lent .refusal) 0) o
+    where
+      go : (a : Bool) → LineHandled (after-opening a silent) t n' b' before middle → LineHandled (after-opening a next) t n' b' before middle
+      go true q =
+          let opens : reads-events (t .session .phase) ≡ true = ap (λ (s : Session). reads-events (s .phase)) (q .next) in
+          absurd (tf opens p)
+      go false q = q

@@ -12,7 +12,7 @@ use lib.Seq.{length-take-le, take-at}
 use Rattle.spec.specs.declared.Config.{Config}
 use Rattle.spec.specs.Lists.{if_then_else_}
 use Rattle.spec.specs.Machine.{Machine, machine-of}
-use Rattle.spec.specs.Sound.{within}
+use Rattle.spec.specs.Sound.{within, version-known}
 use Rattle.spec.specs.Entries.{Opened, opening, pool-fits, not-opened, fresh-machine}
 use Rattle.laws.specs.Tests.{and-right}
 use Rattle.laws.specs.OpeningSound.{OpeningOutcome, refused, accepted, opening-outcome}
@@ -89,18 +89,23 @@ pub opening-same : (g : Config) (ns bs ns' bs' : List ℕ) → length ns ≡ len
     → Alike (opening g ns bs) (opening g ns' bs')
 unfolding opening not-opened
 opening-same g ns bs ns' bs' p q =
-    rw (p, q) (go (not (within 1 8 (g .tasks))) (not (pool-fits 34 64 (length ns'))) (not (pool-fits 66 1024 (length bs'))))
+    rw (p, q)
+    (go (not (within 1 8 (g .tasks))) (not (pool-fits 34 64 (length ns'))) (not (pool-fits 66 1024 (length bs'))) (not (version-known g)))
   where
-    made : Opened
-    made = record { refusal = 0; machine = fresh-machine g (length ns' / 34) (length bs' / 66) }
+    pick : Bool → Bool → Bool → Bool → List ℕ → List ℕ → Opened
+    pick a b c d w v =
+        if a then not-opened 1 w v
+        else if b then not-opened 2 w v
+        else if c then not-opened 3 w v
+        else if d then not-opened 11 w v
+        else record { refusal = 0; machine = fresh-machine g (length ns' / 34) (length bs' / 66) }
 
-    go : (a b c : Bool) →
-        Alike (if a then not-opened 1 ns bs else if b then not-opened 2 ns bs else if c then not-opened 3 ns bs else made)
-        (if a then not-opened 1 ns' bs' else if b then not-opened 2 ns' bs' else if c then not-opened 3 ns' bs' else made)
-    go true b c = record { refusal = refl; machine = λ z. absurd (omega arith) }
-    go false true c = record { refusal = refl; machine = λ z. absurd (omega arith) }
-    go false false true = record { refusal = refl; machine = λ z. absurd (omega arith) }
-    go false false false = record { refusal = refl; machine = λ z. refl }
+    go : (a b c d : Bool) → Alike (pick a b c d ns bs) (pick a b c d ns' bs')
+    go true b c d = record { refusal = refl; machine = λ z. absurd (omega arith) }
+    go false true c d = record { refusal = refl; machine = λ z. absurd (omega arith) }
+    go false false true d = record { refusal = refl; machine = λ z. absurd (omega arith) }
+    go false false false true = record { refusal = refl; machine = λ z. absurd (omega arith) }
+    go false false false false = record { refusal = refl; machine = λ z. refl }
 
 pub record OpenedLengths (ns bs : List ℕ) (o : Opened) : Type 0 where
   pub nodes : length (o .machine .nodes) ≡ length ns

@@ -56,7 +56,7 @@ pub fn event_line(
     line: &[u8],
     out: &mut [u8],
 ) -> Handled
-    ensures { λ r. ⌜ LineHandled (event-effect s (parse-event-line (closed-line (now (line .entry)))) (now (ns .entry)) (now (bs .entry))) r (now (ns .exit)) (now (bs .exit)) (now (out .entry)) (now (out .exit)) ⌝ }
+    ensures { λ r. ⌜ LineHandled (event-effect (parse-event-line (closed-line (now (line .entry)))) s (now (ns .entry)) (now (bs .entry))) r (now (ns .exit)) (now (bs .exit)) (now (out .entry)) (now (out .exit)) ⌝ }
 {
     match session_parse::event_line(line) {
         EventLine::Start(k, call, tag) => start_task(s, k, call, tag, ns, bs, out),

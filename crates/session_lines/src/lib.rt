@@ -2,7 +2,7 @@
 // printed are lent. `handle_line` takes each line, `end_input` the end of the input.
 mod events;
 
-ghost use Rattle.session.specs.Grammar.{closed-line};
+ghost use Rattle.session.specs.Grammar.{closed-line, parse-event-line};
 ghost use Rattle.session.specs.Header.{header-step};
 ghost use Rattle.session_state.specs.Handling.{header-effect, line-effect, end-effect, LineHandled};
 use session::HeaderLine;
@@ -11,7 +11,8 @@ use session_state::Handled;
 use session_state::Phase;
 use session_state::Session;
 
-// A closed line where a header line is due. The line that completes the header brings the opening about.
+// A closed line where a header line is due. The line that completes the header brings the opening about, and so does one that
+// stands in the place of a header line that may be left out.
 fn header_line(
     s: Session,
     due: HeaderLine,
@@ -20,7 +21,7 @@ fn header_line(
     line: &[u8],
     out: &mut [u8],
 ) -> Handled
-    ensures { λ r. ⌜ LineHandled (header-effect (header-step due (s .header) (closed-line (now (line .entry)))) s (now (ns .entry)) (now (bs .entry))) r (now (ns .exit)) (now (bs .exit)) (now (out .entry)) (now (out .exit)) ⌝ }
+    ensures { λ r. ⌜ LineHandled (header-effect (header-step due (s .header) (closed-line (now (line .entry)))) (parse-event-line (closed-line (now (line .entry)))) s (now (ns .entry)) (now (bs .entry))) r (now (ns .exit)) (now (bs .exit)) (now (out .entry)) (now (out .exit)) ⌝ }
 {
     let header = s.header;
     match session_parse::header_line(due, header, line) {
@@ -29,6 +30,15 @@ fn header_line(
             session_state::after_line(Phase::Due(next), h, m, 0)
         }
         HeaderStep::Complete(h) => session_header::open_machine(h, ns, bs, out),
+        HeaderStep::Absent(h) => {
+            let t = session_header::open_machine(h, ns, bs, out);
+            let opened = t.session;
+            let phase = opened.phase;
+            if session_state::reads_events(phase) {
+                return events::event_line(opened, ns, bs, line, out);
+            }
+            t
+        }
         HeaderStep::Missing => session_state::stop(s, out),
     }
 }
@@ -60,7 +70,19 @@ pub fn end_input(s: Session, ns: &mut [u32], bs: &mut [u32], out: &mut [u8]) -> 
 {
     let phase = s.phase;
     match phase {
-        Phase::Due(_) => session_state::stop(s, out),
+        Phase::Due(due) => {
+            if session_parse::optional(due) {
+                let header = s.header;
+                let t = session_header::open_machine(header, ns, bs, out);
+                let opened = t.session;
+                let at = opened.phase;
+                if session_state::reads_events(at) {
+                    return events::listing(opened, ns, bs, out);
+                }
+                return t;
+            }
+            session_state::stop(s, out)
+        }
         Phase::Events => events::listing(s, ns, bs, out),
         Phase::Stopped => Handled {
             session: s,

@@ -4,7 +4,7 @@ ghost use mathlib.Core.Path.{_≡_};
 ghost use Prim.Native.Nat.{_≤_};
 ghost use lib.ListN.{length};
 ghost use Rattle.session.specs.Grammar.{starts-with, equals, comma-position, parse-keyed-number, tagged-start, parse-call, parse-start, step-event, parse-event, closed-line, parse-header-line, parse-event-line};
-ghost use Rattle.session.specs.Header.{header-key, with-number, header-step};
+ghost use Rattle.session.specs.Header.{header-key, with-number, optional, header-step};
 use session::Decimal;
 use session::EventLine;
 use session::Header;
@@ -154,6 +154,7 @@ pub fn due_number(due: HeaderLine, s: &[u8]) -> Decimal
         HeaderLine::Tasks => header_number(b"tasks=", s),
         HeaderLine::Nodes => header_number(b"nodes=", s),
         HeaderLine::Buckets => header_number(b"buckets=", s),
+        HeaderLine::Version => header_number(b"version=", s),
     }
 }
 
@@ -187,8 +188,29 @@ pub fn with_number(due: HeaderLine, h: Header, n: u32) -> HeaderStep
                 nodes: h.nodes,
                 buckets: n,
             };
+            HeaderStep::Next(HeaderLine::Version, next)
+        }
+        HeaderLine::Version => {
+            let config = state::with_version(h.config, n);
+            let next = Header {
+                config,
+                nodes: h.nodes,
+                buckets: h.buckets,
+            };
             HeaderStep::Complete(next)
         }
+    }
+}
+
+// Whether a header is complete without this line.
+pub fn optional(due: HeaderLine) -> bool
+    ensures { λ r. ⌜ r ≡ optional due ⌝ }
+{
+    match due {
+        HeaderLine::Tasks => false,
+        HeaderLine::Nodes => false,
+        HeaderLine::Buckets => false,
+        HeaderLine::Version => true,
     }
 }
 
@@ -198,7 +220,12 @@ pub fn header_line(due: HeaderLine, h: Header, s: &[u8]) -> HeaderStep
 {
     match due_number(due, s) {
         Decimal::Value(n) => with_number(due, h, n),
-        Decimal::NotDecimal => HeaderStep::Missing,
+        Decimal::NotDecimal => {
+            if optional(due) {
+                return HeaderStep::Absent(h);
+            }
+            HeaderStep::Missing
+        }
     }
 }
 

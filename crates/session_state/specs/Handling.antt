@@ -3,7 +3,7 @@
 use Prim.Native.Nat.{ℕ, _*_}
 use mathlib.Core.Path.{_≡_}
 use mathlib.Core.List.{List, [], _∷_, _++_}
-use mathlib.Core.Bool.{_&&_}
+use mathlib.Core.Bool.{Bool, true, false, _&&_}
 use lib.Dec.{leb, eqb}
 use lib.ListN.{length, take, drop, replicate}
 use Rattle.spec.specs.declared.State.{State}
@@ -16,9 +16,9 @@ use Rattle.session.specs.declared.EventLine.the-variants.{Start, Step, Outside}
 use Rattle.session.specs.declared.Header.{Header}
 use Rattle.session.specs.declared.HeaderLine.the-variants.{Tasks}
 use Rattle.session.specs.declared.HeaderStep.{HeaderStep}
-use Rattle.session.specs.declared.HeaderStep.the-variants.{Next, Complete, Missing}
+use Rattle.session.specs.declared.HeaderStep.the-variants.{Next, Complete, Absent, Missing}
 use Rattle.session.specs.Grammar.{InputLine, parse-event-line}
-use Rattle.session.specs.Header.{empty-header, header-step}
+use Rattle.session.specs.Header.{empty-header, optional, header-step}
 use Rattle.session.specs.Print.{refusal-line, output-line}
 use Rattle.session.specs.Buffer.{buffer, append}
 use Rattle.session.specs.Transcript.{final-listing}
@@ -33,6 +33,11 @@ session phase h m = record { phase = phase; header = h; state = m }
 -- no line is read yet
 unfoldable pub new-session : Session
 new-session = session (Due Tasks) empty-header (state-of zero-config 0 0)
+
+unfoldable pub reads-events : Phase → Bool
+reads-events (Due due) = false
+reads-events Events = true
+reads-events Stopped = false
 
 abbrev pub handled : Session → ℕ → Handled
 handled s n = record { session = s; printed = n }
@@ -93,21 +98,21 @@ with-machine phase prints y h ns bs =
       prints = prints;
     }
 
--- ---- the header, and the opening that ends it
+-- ---- the opening
 
-unfoldable pub opened-effect : Opened → Header → List ℕ → List ℕ → LineEffect
-opened-effect o h ns bs =
-    if eqb (o .refusal) 0 then with-machine Events [] (o .machine) h ns bs
+-- nothing is done
+unfoldable pub silent : Session → List ℕ → List ℕ → LineEffect
+silent s ns bs = pools-kept (record { session = s; prints = [] }) ns bs
+
+-- the opening, and where it was accepted what is done next
+unfoldable pub opened-then : Opened → Header → List ℕ → List ℕ → (Session → List ℕ → List ℕ → LineEffect) → LineEffect
+opened-then o h ns bs next =
+    let d = with-machine Events [] (o .machine) h ns bs in
+    if eqb (o .refusal) 0 then next (d .session) (d .nodes) (d .buckets)
     else with-machine Stopped (refusal-line (o .refusal)) (o .machine) h ns bs
 
-unfoldable pub open-effect : Header → List ℕ → List ℕ → LineEffect
-open-effect h ns bs = opened-effect (opening (h .config) (node-part h ns) (bucket-part h bs)) h ns bs
-
--- what a line says where a header line is due
-unfoldable pub header-effect : HeaderStep → Session → List ℕ → List ℕ → LineEffect
-header-effect (Next due h) s ns bs = pools-kept (record { session = session (Due due) h (s .state); prints = [] }) ns bs
-header-effect (Complete h) s ns bs = open-effect h ns bs
-header-effect Missing s ns bs = pools-kept (stopped s 10) ns bs
+unfoldable pub open-then : Header → List ℕ → List ℕ → (Session → List ℕ → List ℕ → LineEffect) → LineEffect
+open-then h ns bs next = opened-then (opening (h .config) (node-part h ns) (bucket-part h bs)) h ns bs next
 
 -- ---- the events
 
@@ -115,36 +120,44 @@ header-effect Missing s ns bs = pools-kept (stopped s 10) ns bs
 unfoldable pub reply-effect : ℕ → Reply → Session → List ℕ → List ℕ → LineEffect
 reply-effect k r s ns bs = with-machine Events (output-line k (r .out)) (r .machine) (s .header) ns bs
 
-unfoldable pub event-effect : Session → EventLine → List ℕ → List ℕ → LineEffect
-event-effect s (Start k call tag) ns bs = reply-effect k (start (session-machine s ns bs) k call tag) s ns bs
-event-effect s (Step k) ns bs = reply-effect k (step (session-machine s ns bs) k) s ns bs
-event-effect s Outside ns bs = pools-kept (stopped s 10) ns bs
+unfoldable pub event-effect : EventLine → Session → List ℕ → List ℕ → LineEffect
+event-effect (Start k call tag) s ns bs = reply-effect k (start (session-machine s ns bs) k call tag) s ns bs
+event-effect (Step k) s ns bs = reply-effect k (step (session-machine s ns bs) k) s ns bs
+event-effect Outside s ns bs = pools-kept (stopped s 10) ns bs
+
+-- the final listing
+abbrev pub final-output : Session → List ℕ → List ℕ → List ℕ
+final-output s ns bs = final-listing (session-machine s ns bs) (list (session-machine s ns bs) (replicate 64 0) .says)
+
+unfoldable pub listing-effect : Session → List ℕ → List ℕ → LineEffect
+listing-effect s ns bs = pools-kept (prints-last s (final-output s ns bs)) ns bs
 
 -- ---- a line, by where the session stands
 
--- nothing is done once the session has stopped
-unfoldable pub silent : Session → SessionEffect
-silent s = record { session = s; prints = [] }
+-- what a line says where a header line is due, and what it asks for if it is an event's: "a line not of a header line's form .. is
+-- judged only after the opening"
+unfoldable pub header-effect : HeaderStep → EventLine → Session → List ℕ → List ℕ → LineEffect
+header-effect (Next due h) x s ns bs = pools-kept (record { session = session (Due due) h (s .state); prints = [] }) ns bs
+header-effect (Complete h) x s ns bs = open-then h ns bs silent
+header-effect (Absent h) x s ns bs = open-then h ns bs (event-effect x)
+header-effect Missing x s ns bs = pools-kept (stopped s 10) ns bs
 
 unfoldable pub phase-effect : Phase → Session → List ℕ → List ℕ → InputLine → LineEffect
-phase-effect (Due due) s ns bs l = header-effect (header-step due (s .header) l) s ns bs
-phase-effect Events s ns bs l = event-effect s (parse-event-line l) ns bs
-phase-effect Stopped s ns bs l = pools-kept (silent s) ns bs
+phase-effect (Due due) s ns bs l = header-effect (header-step due (s .header) l) (parse-event-line l) s ns bs
+phase-effect Events s ns bs l = event-effect (parse-event-line l) s ns bs
+phase-effect Stopped s ns bs l = silent s ns bs
 
 unfoldable pub line-effect : Session → List ℕ → List ℕ → InputLine → LineEffect
 line-effect s ns bs l = phase-effect (s .phase) s ns bs l
 
 -- ---- the end of an input whose lines are all closed
 
--- the final listing
-abbrev pub final-output : Session → List ℕ → List ℕ → List ℕ
-final-output s ns bs = final-listing (session-machine s ns bs) (list (session-machine s ns bs) (replicate 64 0) .says)
-
--- "Input without three full header lines is 10", else the final listing
+-- "Input without three full header lines is 10", else the final listing, after the opening where that is not made yet
 unfoldable pub phase-end : Phase → Session → List ℕ → List ℕ → LineEffect
-phase-end (Due due) s ns bs = pools-kept (stopped s 10) ns bs
-phase-end Events s ns bs = pools-kept (prints-last s (final-output s ns bs)) ns bs
-phase-end Stopped s ns bs = pools-kept (silent s) ns bs
+phase-end (Due due) s ns bs =
+    if optional due then open-then (s .header) ns bs listing-effect else pools-kept (stopped s 10) ns bs
+phase-end Events s ns bs = listing-effect s ns bs
+phase-end Stopped s ns bs = silent s ns bs
 
 unfoldable pub end-effect : Session → List ℕ → List ℕ → LineEffect
 end-effect s ns bs = phase-end (s .phase) s ns bs

@@ -4,7 +4,7 @@ pub mod partial_line;
 pub mod pools;
 
 ghost use mathlib.Core.Path.{_≡_};
-ghost use Rattle.session_state.specs.Handling.{session, new-session, handled, stopped, SessionHandled};
+ghost use Rattle.session_state.specs.Handling.{session, new-session, handled, stopped, reads-events, SessionHandled};
 use session::Header;
 use session::HeaderLine;
 use spec::State;
@@ -44,6 +44,17 @@ pub fn new_session() -> Session
         phase: Phase::Due(HeaderLine::Tasks),
         header,
         state: z,
+    }
+}
+
+// Whether events are read.
+pub fn reads_events(phase: Phase) -> bool
+    ensures { λ r. ⌜ r ≡ reads-events phase ⌝ }
+{
+    match phase {
+        Phase::Due(_) => false,
+        Phase::Events => true,
+        Phase::Stopped => false,
     }
 }
 

@@ -13,58 +13,61 @@ use Rattle.spec.specs.Lists.{if_then_else_}
 use Rattle.spec.specs.Machine.{Machine}
 use Rattle.spec.specs.Sound.{sound}
 use Rattle.spec.specs.Listed.{listed, size-of, head-of}
-use Rattle.spec.specs.Entries.{Opened, Written, list}
+use Rattle.spec.specs.Entries.{Written, opening, list}
 use Rattle.session.specs.declared.EventLine.{EventLine}
 use Rattle.session.specs.declared.EventLine.the-variants.{Start, Step, Outside}
 use Rattle.session.specs.declared.Header.{Header}
 use Rattle.session.specs.declared.HeaderStep.{HeaderStep}
-use Rattle.session.specs.declared.HeaderStep.the-variants.{Next, Complete, Missing}
+use Rattle.session.specs.declared.HeaderStep.the-variants.{Next, Complete, Absent, Missing}
+use Rattle.session.specs.Header.{optional}
 use Rattle.session.specs.Keys.{newline}
 use Rattle.session.specs.Grammar.{InputLine, closed-line, open-line}
-use Rattle.session.specs.Print.{refusal-line}
 use Rattle.session.specs.Transcript.{final-listing, transcript}
 use Rattle.session.specs.OutputLengths.{longest-line, longest-end, refusal-length, output-length, listing-length}
 use Rattle.session_state.specs.declared.Phase.{Phase}
 use Rattle.session_state.specs.declared.Phase.the-variants.{Due, Events, Stopped}
 use Rattle.session_state.specs.declared.Session.{Session}
 use Rattle.session_state.specs.PartialLines.{empty-line, line-bytes}
-use Rattle.session_state.specs.Handling.{LineEffect, new-session, session-machine, pools-kept, stopped, silent, with-machine, opened-effect, open-effect, header-effect, reply-effect, event-effect, phase-effect, line-effect, phase-end, end-effect}
+use Rattle.session_state.specs.Handling.{LineEffect, new-session, session-machine, pools-kept, stopped, node-part, bucket-part, with-machine, silent, open-then, reply-effect, event-effect, listing-effect, header-effect, phase-effect, line-effect, phase-end, end-effect}
 use Rattle.session_stream.specs.Stream.{Progress, begin, handled, kept, feed, feeds, stream-end, stream-output, streamed}
-use Rattle.session_stream.specs.PrintsTranscript.{stream-prints-transcript}
+use Rattle.session_stream.specs.PrintsTranscript.{opened-either, stream-prints-transcript}
 
 -- ---- a line
 
-opened-bound : (o : Opened) (h : Header) (ns bs : List ℕ) → length (opened-effect o h ns bs .prints) ≤ longest-line
-unfolding opened-effect with-machine
-opened-bound o h ns bs = go (eqb (o .refusal) 0)
-  where
-    at : Bool → LineEffect
-    at b = if b then with-machine Events [] (o .machine) h ns bs else with-machine Stopped (refusal-line (o .refusal)) (o .machine) h ns bs
+-- the opening, and what is done next
+open-bound : (most : ℕ) → 28 ≤ most → (next : Session → List ℕ → List ℕ → LineEffect)
+    → ((s : Session) (ns bs : List ℕ) → length (next s ns bs .prints) ≤ most) → (h : Header) (ns bs : List ℕ)
+    → length (open-then h ns bs next .prints) ≤ most
+unfolding open-then with-machine
+open-bound most room next each h ns bs =
+    let o = opening (h .config) (node-part h ns) (bucket-part h bs) in
+    opened-either (λ d. length (d .prints) ≤ most) o h ns bs next each (omega (arith, refusal-length (o .refusal)))
 
-    go : (b : Bool) → length (at b .prints) ≤ longest-line
-    go true = omega arith
-    go false = omega (arith, refusal-length (o .refusal))
+silent-bound : (s : Session) (ns bs : List ℕ) → length (silent s ns bs .prints) ≤ longest-line
+unfolding silent pools-kept
+silent-bound s ns bs = omega arith
 
-header-bound : (x : HeaderStep) (s : Session) (ns bs : List ℕ) → length (header-effect x s ns bs .prints) ≤ longest-line
-unfolding header-effect open-effect pools-kept stopped
-header-bound (Next due h) s ns bs = omega arith
-header-bound (Complete h) s ns bs = opened-bound _ h ns bs
-header-bound Missing s ns bs = omega (arith, refusal-length 10)
-
-event-bound : (s : Session) (x : EventLine) (ns bs : List ℕ) → length (event-effect s x ns bs .prints) ≤ longest-line
+event-bound : (x : EventLine) (s : Session) (ns bs : List ℕ) → length (event-effect x s ns bs .prints) ≤ longest-line
 unfolding event-effect reply-effect with-machine pools-kept stopped
-event-bound s (Start k call tag) ns bs = output-length k _
-event-bound s (Step k) ns bs = output-length k _
-event-bound s Outside ns bs = omega (arith, refusal-length 10)
+event-bound (Start k call tag) s ns bs = output-length k _
+event-bound (Step k) s ns bs = output-length k _
+event-bound Outside s ns bs = omega (arith, refusal-length 10)
+
+header-bound : (a : HeaderStep) (x : EventLine) (s : Session) (ns bs : List ℕ) → length (header-effect a x s ns bs .prints) ≤ longest-line
+unfolding header-effect pools-kept stopped
+header-bound (Next due h) x s ns bs = omega arith
+header-bound (Complete h) x s ns bs = open-bound longest-line (omega arith) silent silent-bound h ns bs
+header-bound (Absent h) x s ns bs = open-bound longest-line (omega arith) (event-effect x) (event-bound x) h ns bs
+header-bound Missing x s ns bs = omega (arith, refusal-length 10)
 
 pub line-bound : (s : Session) (ns bs : List ℕ) (l : InputLine) → length (line-effect s ns bs l .prints) ≤ longest-line
-unfolding line-effect phase-effect pools-kept silent
+unfolding line-effect phase-effect
 line-bound s ns bs l = go (s .phase)
   where
     go : (p : Phase) → length (phase-effect p s ns bs l .prints) ≤ longest-line
-    go (Due due) = header-bound _ s ns bs
-    go Events = event-bound s _ ns bs
-    go Stopped = omega arith
+    go (Due due) = header-bound _ _ s ns bs
+    go Events = event-bound _ s ns bs
+    go Stopped = silent-bound s ns bs
 
 -- ---- the bytes of an input
 
@@ -106,14 +109,22 @@ listing-bound y w = go (not (sound y)) (ltb 64 (length (listed y))) (not (leb 64
     go false false true e = omega (arith, refusal-length 9)
     go false false false e = listing-length (size-of y (head-of y)) (listed y) (ltb-false _ _ e)
 
+listing-effect-bound : (s : Session) (ns bs : List ℕ) → length (listing-effect s ns bs .prints) ≤ longest-end
+unfolding listing-effect pools-kept
+listing-effect-bound s ns bs = listing-bound (session-machine s ns bs) (replicate 64 0)
+
 closed-bound : (s : Session) (ns bs : List ℕ) → length (end-effect s ns bs .prints) ≤ longest-end
-unfolding end-effect phase-end pools-kept stopped silent
+unfolding end-effect phase-end pools-kept stopped
 closed-bound s ns bs = go (s .phase)
   where
+    due-end : (a : Bool) → length ((if a then open-then (s .header) ns bs listing-effect else pools-kept (stopped s 10) ns bs) .prints) ≤ longest-end
+    due-end true = open-bound longest-end (omega arith) listing-effect listing-effect-bound (s .header) ns bs
+    due-end false = omega (arith, refusal-length 10)
+
     go : (p : Phase) → length (phase-end p s ns bs .prints) ≤ longest-end
-    go (Due due) = omega (arith, refusal-length 10)
-    go Events = listing-bound (session-machine s ns bs) (replicate 64 0)
-    go Stopped = omega arith
+    go (Due due) = due-end (optional due)
+    go Events = listing-effect-bound s ns bs
+    go Stopped = omega (arith, silent-bound s ns bs)
 
 pub end-bound : (p : Progress) → length (stream-end p .prints) ≤ longest-end
 unfolding stream-end

@@ -11,17 +11,22 @@ use lib.Dec.{leb, eqb, ltb}
 use lib.ListN.{length, take, set, replicate, length-append, length-take, length-set}
 use lib.Seq.{length-take-le, take-all, take-append-le, take-suc-set}
 use Rattle.spec.specs.Lists.{if_then_else_}
+use Rattle.spec.specs.Entries.{Opened}
 use Rattle.session.specs.declared.Decimal.{Decimal}
 use Rattle.session.specs.declared.EventLine.{EventLine}
+use Rattle.session.specs.declared.EventLine.the-variants.{Outside}
+use Rattle.session.specs.declared.Header.{Header}
+use Rattle.session.specs.declared.HeaderStep.the-variants.{Absent, Missing}
 use Rattle.session.specs.Keys.{newline}
 use Rattle.session.specs.Grammar.{InputLine, closed-line, open-line, split-lines, input-lines, admissible, parse-header-line, parse-event-line}
-use Rattle.session.specs.Header.{header-key, number-step, header-step}
+use Rattle.session.specs.Header.{header-key, optional, number-step, header-step}
+use Rattle.session.specs.Print.{refusal-line}
 use Rattle.session.specs.Transcript.{transcript}
 use Rattle.session_state.specs.declared.Phase.{Phase}
 use Rattle.session_state.specs.declared.Phase.the-variants.{Due, Events, Stopped}
 use Rattle.session_state.specs.declared.Session.{Session}
 use Rattle.session_state.specs.PartialLines.{partial, empty-line, line-bytes, pushed}
-use Rattle.session_state.specs.Handling.{LineEffect, new-session, pools-kept, stopped, silent, header-effect, event-effect, phase-effect, line-effect, phase-end, end-effect, lines-output}
+use Rattle.session_state.specs.Handling.{LineEffect, new-session, pools-kept, stopped, with-machine, silent, opened-then, open-then, event-effect, header-effect, phase-effect, line-effect, phase-end, end-effect, lines-output}
 use Rattle.session_lines.specs.PrintsTranscript.{lines-print-transcript}
 use Rattle.session_state.specs.declared.partial_line.PartialLine.{PartialLine}
 use Rattle.session_stream.specs.Stream.{Progress, begin, handled, kept, feed, feeds, stream-end, stream-output, streamed}
@@ -68,8 +73,11 @@ module _ (l : List ℕ) where
   short-effect s ns bs = go (s .phase)
     where
       go : (p : Phase) → phase-effect p s ns bs (closed-line (take 41 l)) ≡ phase-effect p s ns bs (closed-line l)
-      go (Due due) = ap (λ (x : Decimal). header-effect (number-step due (s .header) x) s ns bs) (short-header (header-key due))
-      go Events = ap (λ (x : EventLine). event-effect s x ns bs) short-event
+      go (Due due) =
+          let x = parse-event-line (closed-line (take 41 l)) in
+          ap (λ (n : Decimal). header-effect (number-step due (s .header) n) x s ns bs) (short-header (header-key due))
+          ∙ ap (λ (y : EventLine). header-effect (header-step due (s .header) (closed-line l)) y s ns bs) short-event
+      go Events = ap (λ (x : EventLine). event-effect x s ns bs) short-event
       go Stopped = refl
 
 -- ---- a line that is not closed: it is outside the grammar, as a line that is too long, and the last one
@@ -90,19 +98,39 @@ unclosed-any l k s ns bs =
     let long = replicate {A = ℕ} 41 0 in
     sym (unclosed-too-long l long s ns bs (omega arith)) ∙ unclosed-too-long k long s ns bs (omega arith)
 
-unclosed-last : (l : List ℕ) (s : Session) (ns bs : List ℕ) → lines-output s ns bs (open-line l ∷ []) ≡ line-effect s ns bs (open-line l) .prints
-unfolding lines-output line-effect phase-effect header-step number-step header-effect pools-kept stopped silent event-effect parse-header-line parse-event-line admissible end-effect phase-end
-unclosed-last l s ns bs = go (s .phase) refl
+-- what holds of what is done after an opening that was accepted, and of a refusal, holds of the opening with what is done next
+pub opened-either : (P : LineEffect → Type 0) (o : Opened) (h : Header) (ns bs : List ℕ) (next : Session → List ℕ → List ℕ → LineEffect)
+    → ((s : Session) (ns' bs' : List ℕ) → P (next s ns' bs')) → P (with-machine Stopped (refusal-line (o .refusal)) (o .machine) h ns bs)
+    → P (opened-then o h ns bs next)
+unfolding opened-then
+opened-either P o h ns bs next accepted refused = go (eqb (o .refusal) 0)
   where
-    after : Phase → List ℕ
-    after p =
-        let d = phase-effect p s ns bs (open-line l) in
-        d .prints ++ end-effect (d .session) (d .nodes) (d .buckets) .prints
+    made : LineEffect
+    made = with-machine Events [] (o .machine) h ns bs
 
-    go : (p : Phase) → s .phase ≡ p → after p ≡ phase-effect p s ns bs (open-line l) .prints
-    go (Due due) e = append-nil _
-    go Events e = append-nil _
-    go Stopped e = ap (λ (q : Phase). phase-end q s ns bs .prints) e
+    go : (a : Bool)
+        → P (if a then next (made .session) (made .nodes) (made .buckets) else with-machine Stopped (refusal-line (o .refusal)) (o .machine) h ns bs)
+    go true = accepted (made .session) (made .nodes) (made .buckets)
+    go false = refused
+
+unclosed-stops : (l : List ℕ) (s : Session) (ns bs : List ℕ) → line-effect s ns bs (open-line l) .session .phase ≡ Stopped
+unfolding line-effect phase-effect header-step number-step header-effect open-then event-effect pools-kept stopped silent with-machine parse-header-line parse-event-line admissible
+unclosed-stops l s ns bs = go (s .phase) refl
+  where
+    header : (a : Bool) → header-effect (if a then Absent (s .header) else Missing) Outside s ns bs .session .phase ≡ Stopped
+    header true = opened-either (λ d. d .session .phase ≡ Stopped) _ (s .header) ns bs (event-effect Outside) (λ s' ns' bs'. refl) refl
+    header false = refl
+
+    go : (p : Phase) → s .phase ≡ p → phase-effect p s ns bs (open-line l) .session .phase ≡ Stopped
+    go (Due due) e = header (optional due)
+    go Events e = refl
+    go Stopped e = e
+
+unclosed-last : (l : List ℕ) (s : Session) (ns bs : List ℕ) → lines-output s ns bs (open-line l ∷ []) ≡ line-effect s ns bs (open-line l) .prints
+unfolding lines-output end-effect phase-end silent pools-kept
+unclosed-last l s ns bs =
+    let d = line-effect s ns bs (open-line l) in
+    ap (λ (p : Phase). d .prints ++ phase-end p (d .session) (d .nodes) (d .buckets) .prints) (unclosed-stops l s ns bs) ∙ append-nil (d .prints)
 
 -- ---- what is kept of a line, against the line so far
 

@@ -139,7 +139,10 @@ fn tasks_ok(s: State, ns: &[u32]) -> bool
 pub fn config_ok(g: Config) -> bool
     ensures { λ r. ⌜ r ≡ config-sound g ⌝ }
 {
-    let w: [bool; 1] = [sound_records::within(1, 8, g.tasks)];
+    let w: [bool; 2] = [
+        sound_records::within(1, 8, g.tasks),
+        sound_records::within(1, 2, g.version),
+    ];
     sound_records::all_true(&w)
 }
 

@@ -19,7 +19,7 @@ use Rattle.spec.specs.Lists.{if_then_else_}
 use Rattle.spec.specs.Numbers.{call-number}
 use Rattle.spec.specs.Machine.{Machine, idle, fresh-task, with-own, zero-config, state-of, task-of, set-task}
 use Rattle.spec.specs.Words.{number, filled, count, tags, apply}
-use Rattle.spec.specs.Sound.{within, task-count, bucket-count, sound}
+use Rattle.spec.specs.Sound.{within, version-known, task-count, bucket-count, sound}
 use Rattle.spec.specs.Listed.{listed}
 use Rattle.spec.specs.Lines.{Next, on, ends, Effect, effect}
 use Rattle.spec.specs.StepRefusals.{unsound-step, all-held}
@@ -49,12 +49,14 @@ fresh-machine g h b =
       buckets = 1 ∷ replicate (66 * b - 1) 0;
     }
 
--- "in this order: 1 T outside its bounds; 2 node slice ..; 3 bucket slice ..": of T and what the two slices hold
+-- "in this order: 1 T outside its bounds; 2 node slice ..; 3 bucket slice ..": of T and what the two slices hold. Paper 02, U3: "11,
+-- opening with another version, after 3"
 unfoldable pub opening : Config → List ℕ → List ℕ → Opened
 opening g ns bs =
     if not (within 1 8 (g .tasks)) then not-opened 1 ns bs
     else if not (pool-fits 34 64 (length ns)) then not-opened 2 ns bs
     else if not (pool-fits 66 1024 (length bs)) then not-opened 3 ns bs
+    else if not (version-known g) then not-opened 11 ns bs
     else record { refusal = 0; machine = fresh-machine g (length ns / 34) (length bs / 66) }
 
 -- ---- start and step

@@ -26,5 +26,6 @@ pub mod SpoiltRows
 pub mod SpoiltTaskRows
 pub mod StepRefusalRows
 pub mod EntryRows
+pub mod VersionRows
 pub mod OrderExamples
 pub mod HistoryRows

@@ -1,7 +1,8 @@
 -- "Listed tags": the tags in the set. Assumes nothing.
-use Prim.Native.Nat.{ℕ, _%_}
+use Prim.Native.Nat.{ℕ, _%_, _/_}
 use mathlib.Core.List.{List, []}
 use mathlib.Core.Bool.{Bool, _&&_}
+use lib.Dec.{eqb}
 use Rattle.spec.specs.Lists.{if_then_else_, member, filter, concat-map, union}
 use Rattle.spec.specs.declared.Config.{Config}
 use Rattle.spec.specs.Machine.{Machine}
@@ -18,10 +19,10 @@ pred-of y l = pred (y .nodes) (number l)
 unfoldable pub place-of : Machine → ℕ → ℕ → ℕ
 place-of y l i = place (y .nodes) (number l) i
 
--- what of a tag is taken mod a node's size, in a set opened so: the tag itself. Only tags go through it; a place's number, as line
--- 43 takes it, does not.
+-- what of a tag is taken mod a node's size, in a set opened so: the tag itself, and in paper 02, U3: "Version 2 uses tag div 10 wherever
+-- version 1 uses the tag before a mod". Only tags go through it; a place's number, as line 43 takes it, does not.
 unfoldable pub key : Config → ℕ → ℕ
-key g k = k
+key g k = if eqb (g .version) 2 then (k / 10) else k
 
 -- the number of a tag's place in a node of a size: the one definition that says "k mod size"
 unfoldable pub slot : Config → ℕ → ℕ → ℕ

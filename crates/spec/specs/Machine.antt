@@ -111,13 +111,17 @@ without-places c =
 
 -- ---- the whole state, and its tasks
 
--- what an opening is given besides the slices: "opening with T and two slices"
+-- what an opening is given besides the slices: "opening with T and two slices". Paper 02, U3: "A yard is opened for version 1 or 2";
+-- version 1 where nothing else is said
 abbrev pub config-of : ℕ → Config
-config-of t = record { tasks = t }
+config-of t = record { tasks = t; version = 1 }
+
+abbrev pub with-version : ℕ → Config → Config
+with-version v g = record { tasks = g .tasks; version = v }
 
 -- of "a state of all zeros"
 abbrev pub zero-config : Config
-zero-config = record { tasks = 0 }
+zero-config = record { tasks = 0; version = 0 }
 
 -- "The state holds T, H, B, the head node, the node and the bucket last taken, and a record for each of eight tasks": as an
 -- opening leaves it, with no task running

@@ -38,9 +38,14 @@ bucket-count y = y .state .buckets
 
 -- ---- T, H, B, the slices' lengths, the head and the records last taken
 
--- "T, H, B or a slice length is wrong": T, which is all that the state keeps of what it was opened with
+-- paper 02, U3: "version 1 or 2"
+abbrev pub version-known : Config → Bool
+version-known g = within 1 2 (g .version)
+
+-- what the state keeps of what it was opened with. "T, H, B or a slice length is wrong": T. Paper 02, U3: "its state keeps the version
+-- (another there is 8)"
 unfoldable pub config-sound : Config → Bool
-config-sound g = all-true (within 1 8 (g .tasks) ∷ [])
+config-sound g = all-true (within 1 8 (g .tasks) ∷ version-known g ∷ [])
 
 abbrev pub nodes-in-bounds : Machine → Bool
 nodes-in-bounds y = within 1 64 (node-count y)

@@ -57,9 +57,11 @@ pub struct Task {
     pub new_bucket: u32,
 }
 
-// What an opening is given besides the two slices, and what the state keeps of it: T, the number of tasks.
+// What an opening is given besides the two slices, and what the state keeps of it: T, the number of tasks, and the version of the tags,
+// 1 or 2.
 pub struct Config {
     pub tasks: u32,
+    pub version: u32,
 }
 
 // The state: what it was opened with, H, B, the head, the node and the bucket last taken, and eight tasks, those from T on idle.

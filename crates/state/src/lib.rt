@@ -4,7 +4,7 @@ use spec::Config;
 use spec::State;
 use spec::Task;
 ghost use mathlib.Core.Path.{_≡_};
-ghost use Rattle.spec.specs.Machine.{config-of, zero-config, idle, fresh-task, state-of};
+ghost use Rattle.spec.specs.Machine.{config-of, with-version, zero-config, idle, fresh-task, state-of};
 
 // ---- a task's record
 
@@ -52,18 +52,31 @@ pub fn fresh_task(call: u32, tag: u32, line: u32) -> Task
 
 // ---- the state
 
-// What an opening is given besides the slices.
+// What an opening is given besides the slices: T, and version 1.
 pub fn config(tasks: u32) -> Config
     ensures { λ r. ⌜ r ≡ config-of tasks ⌝ }
 {
-    Config { tasks }
+    Config { tasks, version: 1 }
+}
+
+// The same of another version.
+pub fn with_version(g: Config, version: u32) -> Config
+    ensures { λ r. ⌜ r ≡ with-version version g ⌝ }
+{
+    Config {
+        tasks: g.tasks,
+        version,
+    }
 }
 
 // That of a state of zeros.
 pub fn zero_config() -> Config
     ensures { λ r. ⌜ r ≡ zero-config ⌝ }
 {
-    Config { tasks: 0 }
+    Config {
+        tasks: 0,
+        version: 0,
+    }
 }
 
 // The state as an opening leaves it, with no task running: h nodes and b buckets.

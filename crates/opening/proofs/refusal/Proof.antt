@@ -36,18 +36,45 @@ returns-3 c =
       sym (c .before .fits3 .ensures) ∙ not-true _ (c .if3 .taken),
     )
 
+within-requires-2 : tie.Need-within-requires-2
+within-requires-2 c κs = search needs
+
 returns-4 : tie.Need-returns-4
 unfolding refusal-of
 returns-4 c =
-    let nodes-ok = c .before .before in
+    let buckets-ok = c .before .before in
+    let nodes-ok = buckets-ok .before .before in
     let tasks-ok = nodes-ok .before .before in
     rw (
       sym (tasks-ok .before .within .ensures) ∙ not-false _ (tasks-ok .if1 .left),
       sym (nodes-ok .before .fits2 .ensures) ∙ not-false _ (nodes-ok .if2 .left),
-      sym (c .before .fits3 .ensures) ∙ not-false _ (c .if3 .left),
+      sym (buckets-ok .before .fits3 .ensures) ∙ not-false _ (buckets-ok .if3 .left),
+      sym (c .before .within2 .ensures) ∙ not-true _ (c .if4 .taken),
+    )
+
+returns-5 : tie.Need-returns-5
+unfolding refusal-of
+returns-5 c =
+    let buckets-ok = c .before .before in
+    let nodes-ok = buckets-ok .before .before in
+    let tasks-ok = nodes-ok .before .before in
+    rw (
+      sym (tasks-ok .before .within .ensures) ∙ not-false _ (tasks-ok .if1 .left),
+      sym (nodes-ok .before .fits2 .ensures) ∙ not-false _ (nodes-ok .if2 .left),
+      sym (buckets-ok .before .fits3 .ensures) ∙ not-false _ (buckets-ok .if3 .left),
+      sym (c .before .within2 .ensures) ∙ not-false _ (c .if4 .left),
     )
 
 pub refusal-spec : {M : Type 1} → statement M
 refusal-spec =
     tie.close
-    (tie.spec within-requires returns fits-requires returns-2 fits-requires-2 returns-3 returns-4)
+    (tie.spec
+    within-requires
+    returns
+    fits-requires
+    returns-2
+    fits-requires-2
+    returns-3
+    within-requires-2
+    returns-4
+    returns-5)

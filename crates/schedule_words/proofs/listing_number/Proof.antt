@@ -16,7 +16,7 @@ enum-known-l-2 c = search needs
 
 add-result : tie.Need-add-result
 add-result c =
-    let z : listing-number (Refused (c .before .l2 .given .0 .0)) ≤ 265 = rw (c .before .l2 .given .1) at (c .before .before .before .pre) in omega arith
+    let z : listing-number (Refused (c .before .l2 .given .0 .0)) ≤ 267 = rw (c .before .l2 .given .1) at (c .before .before .before .pre) in omega arith
 
 returns : tie.Need-returns
 returns c = search needs

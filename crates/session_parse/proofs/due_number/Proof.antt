@@ -31,6 +31,15 @@ slice-aggregate-header-number-3 c = search needs
 header-number-requires-3 : tie.Need-header-number-requires-3
 header-number-requires-3 c κs = search needs
 
+enum-told-4 : tie.Need-enum-told-4
+enum-told-4 c = search needs
+
+slice-aggregate-header-number-4 : tie.Need-slice-aggregate-header-number-4
+slice-aggregate-header-number-4 c = search needs
+
+header-number-requires-4 : tie.Need-header-number-requires-4
+header-number-requires-4 c κs = search needs
+
 returns : tie.Need-returns
 unfolding header-key
 returns c = rw (c .before .before .enum-told .given .1) (c .header-number .ensures)
@@ -42,6 +51,10 @@ returns-2 c = rw (c .before .before .enum-told2 .given .1) (c .header-number2 .e
 returns-3 : tie.Need-returns-3
 unfolding header-key
 returns-3 c = rw (c .before .before .enum-told3 .given .1) (c .header-number3 .ensures)
+
+returns-4 : tie.Need-returns-4
+unfolding header-key
+returns-4 c = rw (c .before .before .enum-told4 .given .1) (c .header-number4 .ensures)
 
 pub due-number-spec : {M : Type 1} → statement M
 due-number-spec =
@@ -56,6 +69,10 @@ due-number-spec =
     enum-told-3
     slice-aggregate-header-number-3
     header-number-requires-3
+    enum-told-4
+    slice-aggregate-header-number-4
+    header-number-requires-4
     returns
     returns-2
-    returns-3)
+    returns-3
+    returns-4)

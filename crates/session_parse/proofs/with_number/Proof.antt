@@ -2,7 +2,7 @@
 use mathlib.Core.Path.{ap}
 use Rattle.spec.specs.declared.Config.{Config}
 use Rattle.session.specs.declared.HeaderLine.the-variants.{Nodes}
-use Rattle.session.specs.declared.HeaderStep.the-variants.{Next}
+use Rattle.session.specs.declared.HeaderStep.the-variants.{Next, Complete}
 use Rattle.session.specs.Header.{header, with-number}
 use borrow.Author.Needs.{needs}
 use Rattle.session_parse.proofs.with_number.Statement.{statement}
@@ -20,6 +20,12 @@ enum-told-2 c = search needs
 enum-told-3 : tie.Need-enum-told-3
 enum-told-3 c = search needs
 
+enum-told-4 : tie.Need-enum-told-4
+enum-told-4 c = search needs
+
+with-version-requires : tie.Need-with-version-requires
+with-version-requires c κs = search needs
+
 returns : tie.Need-returns
 unfolding with-number
 returns c =
@@ -34,6 +40,23 @@ returns-3 : tie.Need-returns-3
 unfolding with-number
 returns-3 c = rw (c .before .enum-told3 .given .1)
 
+returns-4 : tie.Need-returns-4
+unfolding with-number
+returns-4 c =
+    let h = c .before .before .before .args .h in
+    rw (c .before .enum-told4 .given .1) (ap (λ (g : Config). Complete (header g (h .nodes) (h .buckets))) (c .with-version .ensures))
+
 pub with-number-spec : {M : Type 1} → statement M
 with-number-spec =
-    tie.close (tie.spec enum-told config-requires enum-told-2 enum-told-3 returns returns-2 returns-3)
+    tie.close
+    (tie.spec
+    enum-told
+    config-requires
+    enum-told-2
+    enum-told-3
+    enum-told-4
+    with-version-requires
+    returns
+    returns-2
+    returns-3
+    returns-4)

@@ -10,6 +10,9 @@ use Rattle.soundness.proofs.config_ok.Tie as tie
 within-requires : tie.Need-within-requires
 within-requires c κs = search needs
 
+within-requires-2 : tie.Need-within-requires-2
+within-requires-2 c κs = search needs
+
 slice-aggregate-all-true : tie.Need-slice-aggregate-all-true
 slice-aggregate-all-true c = search needs
 
@@ -18,7 +21,11 @@ all-true-requires c κs = search needs
 
 returns : tie.Need-returns
 unfolding config-sound
-returns c = c .all-true .ensures ∙ ap all-true (same-list (c .before .before .within .ensures also no-more))
+returns c =
+    let version-tested = c .before .before in
+    let tasks-tested = version-tested .before in
+    c .all-true .ensures
+    ∙ ap all-true (same-list (tasks-tested .within .ensures also version-tested .within2 .ensures also no-more))
 
 pub config-ok-spec : {M : Type 1} → statement M
-config-ok-spec = tie.close (tie.spec within-requires slice-aggregate-all-true all-true-requires returns)
+config-ok-spec = tie.close (tie.spec within-requires within-requires-2 slice-aggregate-all-true all-true-requires returns)

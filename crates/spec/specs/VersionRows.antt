@@ -1,0 +1,156 @@
+-- Rows of sets of version 2 (paper 02, U3): tags whose first digits agree share a place at every size, lines 13, 16, 17, 33, 49 and the
+-- listing go by tag div 10, line 43 by the place's number; the opening's 11 comes after 3; another version in the state is 8. Assumes
+-- nothing.
+use Prim.Native.Nat.{ℕ}
+use mathlib.Core.Path.{_≡_, refl}
+use mathlib.Core.List.{List, [], _∷_, _++_, map}
+use Rattle.spec.specs.declared.Answer.the-variants.{Yes}
+use Rattle.spec.specs.declared.Call.the-variants.{Insert, Remove, Contains, Grow}
+use Rattle.spec.specs.declared.Config.{Config}
+use Rattle.spec.specs.declared.Output.the-variants.{At}
+use Rattle.spec.specs.declared.Task.{Task}
+use Rattle.spec.specs.Machine.{Machine, machine-of, config-of, with-version, idle}
+use Rattle.spec.specs.Listed.{slot, listed}
+use Rattle.spec.specs.Everything.{everything}
+use Rattle.spec.specs.Rows.{Case, observed, expected, stepping, calling, ended, counted, in-three, gaining, filling, first-grow}
+use Rattle.spec.specs.WholeRows.{call_tag_line_i_own_t_s_b_m_n_new-node_new-bucket_, config_H_B_head_last-node_last-bucket_tasks_}
+use Rattle.spec.specs.WholeRows.{node, bucket, pool, Row, told, stepped, goes, keeps, whole-rows}
+use Rattle.spec.specs.EntryRows.{opened, not-opened-by}
+use Rattle.spec.specs.SpoiltRows.{said, refusing, spoilt, sound-with-5, some-nodes, some-buckets}
+
+unfoldable pub version-2 : ℕ → Config
+version-2 t' = with-version 2 (config-of t')
+
+-- ---- places: 170 and 171 share one at every size; in version 1 they do not
+
+unfoldable pub slots : Config → ℕ → List ℕ
+slots g k = map (slot g k) (1 ∷ 2 ∷ 4 ∷ 8 ∷ 16 ∷ 32 ∷ [])
+
+pub shared-places :
+    slots (version-2 1) 170 ∷ slots (version-2 1) 171 ∷ slots (version-2 1) 9 ∷ slots (version-2 1) 4294967295 ∷ slots (config-of 1) 171 ∷ []
+    ≡ (0 ∷ 1 ∷ 1 ∷ 1 ∷ 1 ∷ 17 ∷ [])
+    ∷ (0 ∷ 1 ∷ 1 ∷ 1 ∷ 1 ∷ 17 ∷ [])
+    ∷ (0 ∷ 0 ∷ 0 ∷ 0 ∷ 0 ∷ 0 ∷ [])
+    ∷ (0 ∷ 1 ∷ 1 ∷ 1 ∷ 9 ∷ 25 ∷ [])
+    ∷ (0 ∷ 1 ∷ 3 ∷ 3 ∷ 11 ∷ 11 ∷ [])
+    ∷ []
+unfolding everything version-2 slots
+shared-places = refl
+
+-- ---- whole schedules
+
+unfoldable pub version-cases : List Case
+version-cases =
+    -- paper 01's whole case, in version 2
+    record {
+      config = version-2 1;
+      nodes = 3;
+      buckets = 4;
+      events = calling 0 Insert 17 3 ++ calling 0 Grow 0 7 ++ calling 0 Contains 17 5;
+      outs = in-three (counted Yes 3 1) ++ first-grow ++ At 12 ∷ At 13 ∷ At 15 ∷ At 16 ∷ At 18 ∷ ended Yes 5 ∷ [];
+      head = 1;
+      size = 2;
+      tags = 17 ∷ [];
+    }
+    ∷
+    -- the remove of 170 fills place 1, with 171 in it, so that 171 is found in place
+    record {
+      config = version-2 1;
+      nodes = 2;
+      buckets = 2;
+      events = calling 0 Insert 170 3 ++ calling 0 Insert 171 3 ++ calling 0 Grow 0 7 ++ calling 0 Remove 170 10 ++ calling 0 Contains 171 3;
+      outs =
+          gaining 0 2 ++ first-grow
+          ++ At 32 ∷ At 33 ∷ At 39 ∷ filling ++ At 36 ∷ counted Yes 10 1
+          ∷ At 12 ∷ At 13 ∷ At 18 ∷ ended Yes 3 ∷ [];
+      head = 1;
+      size = 2;
+      tags = 171 ∷ [];
+    }
+    ∷ []
+
+pub version-cases-hold : map observed version-cases ≡ map expected version-cases
+unfolding everything expected observed stepping calling in-three gaining filling first-grow version-2 version-cases
+version-cases-hold = refl
+
+-- ---- lines: node 0 has two places, with buckets 0 and 1; node 1 is head, has four, and places bucket 2 at place 1
+
+unfoldable pub crowded-with : ℕ → List ℕ → Task → Machine
+crowded-with lb last c =
+    machine-of (config (version-2 1) H 2 B 4 head 1 last-node 1 last-bucket lb tasks (c ∷ []))
+    (pool (node 2 0 (1 ∷ 2 ∷ []) ∷ node 4 1 (0 ∷ 3 ∷ []) ∷ []))
+    (pool (bucket 0 (20 ∷ 40 ∷ 45 ∷ []) ∷ bucket 0 (10 ∷ 30 ∷ 31 ∷ []) ∷ bucket 1 (10 ∷ 51 ∷ []) ∷ last ∷ []))
+
+unfoldable pub crowded : Task → Machine
+crowded c = crowded-with 2 (bucket 0 []) c
+
+unfoldable pub version-rows : List Row
+version-rows =
+    -- 51 has place 1 of node 1, 30 place 1 of node 0
+    keeps crowded
+    (call 3 tag 51 line 13 i 0 own 1 t 2 s 0 b 0 m 0 n 0 new-node 0 new-bucket 0)
+    (call 3 tag 51 line 18 i 0 own 2 t 2 s 0 b 3 m 0 n 0 new-node 0 new-bucket 0)
+    ∷ keeps crowded
+    (call 3 tag 30 line 16 i 0 own 3 t 2 s 1 b 0 m 0 n 0 new-node 0 new-bucket 0)
+    (call 3 tag 30 line 18 i 0 own 4 t 2 s 1 b 2 m 0 n 0 new-node 0 new-bucket 0)
+    ∷ keeps crowded
+    (call 3 tag 51 line 17 i 0 own 3 t 2 s 0 b 0 m 0 n 0 new-node 0 new-bucket 0)
+    (call 3 tag 51 line 18 i 0 own 4 t 2 s 0 b 3 m 0 n 0 new-node 0 new-bucket 0)
+    -- 50 has place 1 of node 1, which is filled, 30 place 3, which is empty
+    ∷ keeps crowded
+    (call 1 tag 50 line 33 i 0 own 1 t 2 s 0 b 0 m 0 n 0 new-node 0 new-bucket 0)
+    (call 1 tag 50 line 36 i 0 own 2 t 2 s 0 b 3 m 0 n 0 new-node 0 new-bucket 0)
+    ∷ keeps crowded
+    (call 1 tag 30 line 33 i 0 own 1 t 2 s 0 b 0 m 0 n 0 new-node 0 new-bucket 0)
+    (call 1 tag 30 line 39 i 3 own 2 t 2 s 0 b 0 m 0 n 0 new-node 0 new-bucket 0)
+    -- line 43 takes a place's number mod 2, and no tag's
+    ∷ keeps crowded
+    (call 1 tag 30 line 43 i 10 own 4 t 2 s 1 b 0 m 0 n 0 new-node 0 new-bucket 0)
+    (call 1 tag 30 line 44 i 10 own 5 t 2 s 1 b 0 m 1 n 0 new-node 0 new-bucket 0)
+    -- of bucket 1's tags 30 and 31 go to place 3, whole
+    ∷ goes crowded (crowded-with 3 (bucket 1 (30 ∷ 31 ∷ [])))
+    (call 1 tag 30 line 49 i 3 own 6 t 2 s 1 b 0 m 2 n 0 new-node 0 new-bucket 0)
+    (call 1 tag 30 line 50 i 3 own 7 t 2 s 1 b 0 m 2 n 0 new-node 0 new-bucket 4)
+    ∷ []
+
+pub version-rows-hold : map stepped version-rows ≡ map told version-rows
+unfolding everything whole-rows version-2 crowded-with crowded version-rows
+version-rows-hold = refl
+
+-- place 1 of the head, and both places of its predecessor for the others
+pub version-listed : listed (crowded idle) ≡ 10 ∷ 20 ∷ 30 ∷ 31 ∷ 40 ∷ 45 ∷ 51 ∷ []
+unfolding everything whole-rows version-2 crowded-with crowded
+version-listed = refl
+
+-- ---- openings: 1, 2 and 3 come before 11
+
+pub openings-by-version :
+    map (λ v. opened (with-version v (config-of 2)) 34 66 .refusal) (0 ∷ 1 ∷ 2 ∷ 3 ∷ []) ≡ 11 ∷ 0 ∷ 0 ∷ 11 ∷ []
+unfolding everything opened
+openings-by-version = refl
+
+pub eleven-last :
+    opened (with-version 3 (config-of 9)) 34 66 ∷ opened (with-version 3 (config-of 2)) 35 66 ∷ opened (with-version 3 (config-of 2)) 34 67
+    ∷ opened (with-version 3 (config-of 2)) 34 66 ∷ []
+    ≡ not-opened-by 1 34 66 ∷ not-opened-by 2 35 66 ∷ not-opened-by 3 34 67 ∷ not-opened-by 11 34 66 ∷ []
+unfolding everything opened not-opened-by
+eleven-last = refl
+
+-- a state of all zeros
+pub zero-version : opened (with-version 3 (config-of 2)) 34 66 .machine .state .config .version ≡ 0
+unfolding everything opened
+zero-version = refl
+
+-- ---- the version that a state keeps
+
+unfoldable pub versioned : ℕ → Machine
+versioned v =
+    machine-of (config (with-version v (config-of 2)) H 3 B 2 head 0 last-node 0 last-bucket 0 tasks []) (pool some-nodes) (pool some-buckets)
+
+pub versions-spoilt : said (versioned 0) ∷ said (versioned 3) ∷ [] ≡ spoilt (versioned 0) ∷ spoilt (versioned 3) ∷ []
+unfolding everything whole-rows said refusing spoilt some-nodes some-buckets versioned
+versions-spoilt = refl
+
+pub versions-sound : said (versioned 1) ∷ said (versioned 2) ∷ [] ≡ sound-with-5 (versioned 1) ∷ sound-with-5 (versioned 2) ∷ []
+unfolding everything whole-rows said refusing sound-with-5 some-nodes some-buckets versioned
+versions-sound = refl
