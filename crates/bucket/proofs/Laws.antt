@@ -11,7 +11,7 @@ use lib.Dec.{ltb, eqb}
 use lib.ListN.{length, getD, take, drop, set, length-take, length-drop, drop-of-length-le}
 use lib.Seq.{paste, paste-suc, drop-cons, getD-take, getD-drop}
 use Rattle.laws.specs.Tests.{and-left, and-right}
-use Rattle.spec.specs.Lists.{if_then_else_, member, ascending, add-tag, remove-tag}
+use Rattle.spec.specs.Lists.{if_then_else_, member, filter, ascending, add-tag, remove-tag}
 use Rattle.laws.specs.Ascending.{ascending-tail}
 use Rattle.bucket.specs.Bucket.{tags-in, rank, stands-at, found}
 
@@ -152,3 +152,23 @@ found-member x (y ∷ ys) h = go (ltb y x) (eqb y x) refl refl (found-member x y
         let n : y ≡ x → ⊥ = eqb-false y x q in
         let l : x < y = omega (arith, n) in
         found-here x y ys p ∙ q ∙ sym (absent x y ys l h)
+
+-- ---- of an ascending list the position is how many tags are below
+
+-- none of an ascending list's later tags is below a number that its first is not below
+none-below : (x y : ℕ) (ys : List ℕ) → x ≤ y → ascending (y ∷ ys) ≡ true → filter (λ k. ltb k x) ys ≡ []
+unfolding filter ascending
+none-below x y [] l h = refl
+none-below x y (z ∷ zs) l h =
+    let a : y < z = ltb-true y z (and-left (ltb y z) (ascending (z ∷ zs)) h) in
+    let m : x ≤ z = omega arith in
+    rw (le-ltb z x m) (none-below x z zs m (and-right (ltb y z) (ascending (z ∷ zs)) h))
+
+pub rank-counts-below : (x : ℕ) (ts : List ℕ) → ascending ts ≡ true → rank x ts ≡ length (filter (λ k. ltb k x) ts)
+unfolding rank filter
+rank-counts-below x [] h = refl
+rank-counts-below x (y ∷ ys) h = go (ltb y x) refl (rank-counts-below x ys (ascending-tail y ys h))
+  where
+    go : (b : Bool) → ltb y x ≡ b → rank x ys ≡ length (filter (λ k. ltb k x) ys) → rank x (y ∷ ys) ≡ length (filter (λ k. ltb k x) (y ∷ ys))
+    go true p ih = rw (p, ih)
+    go false p ih = rw (p, none-below x y ys (ltb-false y x p) h)

@@ -5,8 +5,9 @@ ghost use mathlib.Core.Path.{_≡_};
 ghost use mathlib.Core.Bool.{true, false};
 ghost use Prim.Native.Nat.{_+_, _%_, _≤_, _<_};
 ghost use lib.ListN.{length, drop};
+ghost use lib.Dec.{ltb};
 ghost use lib.Seq.{paste};
-ghost use Rattle.spec.specs.Lists.{add-tag, remove-tag};
+ghost use Rattle.spec.specs.Lists.{filter, ascending, add-tag, remove-tag};
 ghost use Rattle.spec.specs.Words.{bucket-of};
 ghost use Rattle.spec.specs.Listed.{key, slot};
 ghost use Rattle.bucket.specs.Bucket.{rank, stands-at, found, tags-in, added, removed, frozen-of, changed};
@@ -86,14 +87,17 @@ impl Bucket {
         }
     }
 
-    // The search: the position of the first tag that is not below this one, the count if there is none.
-    pub fn position(self, tag: u32) -> usize
-        ensures { λ r. ⌜ r ≡ rank tag (tags-in (self .words)) ⌝ }
+    // The search, counted in a byte: how many tags at the front are below this one. Paper 02, U4: "it ends at the count of that bucket's
+    // tags below the one sought, at most 64". The tags of a sound bucket ascend; what it gives of others is said too.
+    pub fn position(self, tag: u32) -> u8
+        ensures rank { λ r. ⌜ r ≡ rank tag (tags-in (self .words)) ⌝ }
+        ensures most { λ r. ⌜ r ≤ 64 ⌝ }
+        ensures below { λ r. ⌜ (ascending (tags-in (self .words)) ≡ true → r ≡ length (filter (λ k. ltb k tag) (tags-in (self .words)))) ⌝ }
     {
-        let n = self.count();
-        let mut i = 0;
+        let n = self.count() as u8;
+        let mut i: u8 = 0;
         while i < n {
-            if tag <= self.words[2 + i] {
+            if tag <= self.words[2 + i as usize] {
                 return i;
             }
             i += 1;
@@ -102,15 +106,15 @@ impl Bucket {
     }
 
     // The tag stands at position p.
-    fn stands_at(self, p: usize, tag: u32) -> bool
+    fn stands_at(self, p: u8, tag: u32) -> bool
         ensures { λ r. ⌜ r ≡ stands-at p tag (tags-in (self .words)) ⌝ }
     {
-        let n = self.count();
+        let n = self.count() as u8;
         if n <= p {
             return false;
         }
         let w = self.words;
-        w[2 + p] == tag
+        w[2 + p as usize] == tag
     }
 
     pub fn has(self, tag: u32) -> bool
@@ -164,7 +168,7 @@ impl Bucket {
         if MOST_TAGS <= n {
             return answered(self, Response::Full);
         }
-        let b = self.put(n, p, tag);
+        let b = self.put(n, p as usize, tag);
         answered(b, Response::Yes)
     }
 
@@ -178,7 +182,7 @@ impl Bucket {
         let p = self.position(tag);
         if self.stands_at(p, tag) {
             let n = self.count();
-            let b = self.cut(n, p, tag);
+            let b = self.cut(n, p as usize, tag);
             return answered(b, Response::Yes);
         }
         answered(self, Response::No)

@@ -24,7 +24,7 @@ tagsOf c = tags-in (c .before .before .before .before .args .t1 .words)
 
 -- the tag stands where the search ended if and only if the bucket has it
 has : (c : tie.After-stands-at) → found (tagOf c) (tagsOf c) ≡ c .stands-at .result
-has c = found-at _ _ _ _ (c .before .position .ensures) (c .stands-at .ensures)
+has c = found-at _ _ _ _ (c .before .position .ensures .0) (c .stands-at .ensures)
 
 absent : (c : tie.Else2) → found (tagOf (c .before)) (tagsOf (c .before)) ≡ false
 absent c = has (c .before) ∙ c .if2 .left
@@ -68,11 +68,14 @@ returns-3 c =
     let changeable = counted .before .before .before .before .if1 .left in
     rw (ne-eqb _ _ changeable, absent (counted .before), le-leb 64 _ (rw (counted .count .ensures .0) at (c .before .if3 .taken))) (c .answered3 .ensures)
 
+cast-put : tie.Need-cast-put
+cast-put c = search needs
+
 put-requires : tie.Need-put-requires
 put-requires c κs =
     let missed = c .before .before in
     let r = rank-le (tagOf (missed .before)) (tagsOf (missed .before)) in
-    (omega arith, omega arith, omega arith, missed .before .before .position .ensures, absent missed)
+    (omega arith, omega arith, omega arith, missed .before .before .position .ensures .0, absent missed)
 
 answered-requires-4 : tie.Need-answered-requires-4
 answered-requires-4 c κs = search needs
@@ -99,6 +102,7 @@ add-spec =
     count-requires
     answered-requires-3
     returns-3
+    cast-put
     put-requires
     answered-requires-4
     returns-4)

@@ -12,7 +12,7 @@ stands-at-requires : tie.Need-stands-at-requires
 stands-at-requires c κs = search needs
 
 returns : tie.Need-returns
-returns c = sym (found-at _ _ _ _ (c .before .position .ensures) (c .stands-at .ensures))
+returns c = sym (found-at _ _ _ _ (c .before .position .ensures .0) (c .stands-at .ensures))
 
 pub has-spec : {M : Type 1} → statement M
 has-spec = tie.close (tie.spec position-requires stands-at-requires returns)

@@ -6,7 +6,7 @@ use mathlib.Core.Path.{_≡_}
 use Prim.Native.Nat.{_≤_, _<_, _-_, _+_}
 use lib.ListN.{length, drop}
 use Rattle.bucket.specs.Bucket.{tags-in, rank}
-use Rattle.bucket.proofs.Laws.{tag-at, rank-here, rank-on, rank-end}
+use Rattle.bucket.proofs.Laws.{tag-at, rank-here, rank-on, rank-end, rank-counts-below}
 use Rattle.bucket.proofs.Bucket.position.Statement.{statement}
 use Rattle.bucket.proofs.Bucket.position.Tie as tie
 
@@ -19,11 +19,17 @@ abbrev μ-loop : tie.MeasureT-loop
 count-requires : tie.Need-count-requires Inv-loop μ-loop
 count-requires c κs = search needs
 
+cast-n : tie.Need-cast-n Inv-loop μ-loop
+cast-n c = search needs
+
 within : (c : tie.In-loop Inv-loop μ-loop) → c .before .loop .i < length (tags-in (c .before .before .before .args .t1 .words))
 within c = omega arith
 
 loop-holds : tie.Need-loop-holds Inv-loop μ-loop
 loop-holds c = (omega arith, omega arith)
+
+cast-if1 : tie.Need-cast-if1 Inv-loop μ-loop
+cast-if1 c = omega arith
 
 add-if1 : tie.Need-add-if1 Inv-loop μ-loop
 add-if1 c = omega arith
@@ -37,10 +43,11 @@ element-copy-out-if1 c = omega arith
 returns : tie.Need-returns Inv-loop μ-loop
 returns c =
     let w = c .before .before in
+    let tag = w .before .before .before .args .tag in
     let ws = w .before .before .before .args .t1 .words in
     let e = tag-at ws _ (within w) in
-    let r = rank-here (w .before .before .before .args .tag) (tags-in ws) (w .before .loop .i) (within w) (omega arith) in
-    omega arith
+    let r = rank-here tag (tags-in ws) (w .before .loop .i) (within w) (omega arith) in
+    (omega arith, (omega arith, λ up. omega (arith, rank-counts-below tag (tags-in ws) up)))
 
 add-i : tie.Need-add-i Inv-loop μ-loop
 add-i c = omega arith
@@ -58,8 +65,10 @@ loop-again c =
 
 returns-2 : tie.Need-returns-2 Inv-loop μ-loop
 returns-2 c =
-    let r = rank-end (c .before .before .before .args .tag) (tags-in (c .before .before .before .args .t1 .words)) (c .before .loop .i) (omega arith) in
-    omega arith
+    let tag = c .before .before .before .args .tag in
+    let ws = c .before .before .before .args .t1 .words in
+    let r = rank-end tag (tags-in ws) (c .before .loop .i) (omega arith) in
+    (omega arith, (omega arith, λ up. omega (arith, rank-counts-below tag (tags-in ws) up)))
 
 pub position-spec : {M : Type 1} → statement M
 position-spec =
@@ -68,7 +77,9 @@ position-spec =
     Inv-loop
     μ-loop
     count-requires
+    cast-n
     loop-holds
+    cast-if1
     add-if1
     mul-if1
     element-copy-out-if1

@@ -24,7 +24,7 @@ tagsOf c = tags-in (c .before .before .before .before .args .t1 .words)
 
 -- the tag stands where the search ended if and only if the bucket has it
 has : (c : tie.After-stands-at) → found (tagOf c) (tagsOf c) ≡ c .stands-at .result
-has c = found-at _ _ _ _ (c .before .position .ensures) (c .stands-at .ensures)
+has c = found-at _ _ _ _ (c .before .position .ensures .0) (c .stands-at .ensures)
 
 present : (c : tie.Then2) → found (tagOf (c .before)) (tagsOf (c .before)) ≡ true
 present c = has (c .before) ∙ c .if2 .taken
@@ -48,11 +48,14 @@ stands-at-requires c κs = search needs
 count-requires : tie.Need-count-requires
 count-requires c κs = search needs
 
+cast-cut : tie.Need-cast-cut
+cast-cut c = search needs
+
 cut-requires : tie.Need-cut-requires
 cut-requires c κs =
     let met = c .before in
     let r = rank-below (tagOf (met .before)) (tagsOf (met .before)) (present met) in
-    (omega arith, omega arith, omega arith, met .before .before .position .ensures, present met)
+    (omega arith, omega arith, omega arith, met .before .before .position .ensures .0, present met)
 
 answered-requires-2 : tie.Need-answered-requires-2
 answered-requires-2 c κs = search needs
@@ -84,6 +87,7 @@ remove-spec =
     position-requires
     stands-at-requires
     count-requires
+    cast-cut
     cut-requires
     answered-requires-2
     returns-2

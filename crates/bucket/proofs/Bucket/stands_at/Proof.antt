@@ -13,6 +13,9 @@ use Rattle.bucket.proofs.Bucket.stands_at.Tie as tie
 count-requires : tie.Need-count-requires
 count-requires c κs = search needs
 
+cast-n : tie.Need-cast-n
+cast-n c = search needs
+
 returns : tie.Need-returns
 unfolding stands-at
 returns c =
@@ -38,4 +41,4 @@ returns-2 c =
 
 pub stands-at-spec : {M : Type 1} → statement M
 stands-at-spec =
-    tie.close (tie.spec count-requires returns add-result mul-result array-read-result returns-2)
+    tie.close (tie.spec count-requires cast-n returns add-result mul-result array-read-result returns-2)
