@@ -1,0 +1,149 @@
+-- `reader::by_line::print_listed` meets its contract. The contract of `queries::list`: a count is at most 64, and so many of the words are the tags; and the line at the place. Assumes nothing.
+use mathlib.Core.Path.{sym, ap, _∙_}
+use mathlib.Core.List.{List}
+use Prim.Native.Nat.{ℕ}
+use lib.ListN.{replicate}
+use denote.Ref.{now}
+use lib.Seq.{length-take-le}
+use Rattle.session.specs.Buffer.{buffer, append}
+use Rattle.reader.proofs.Places.{counts-few, prints-counted, prints-refused, prints-none}
+use native.Mathlib.Omega.{arith}
+use borrow.Author.Needs.{needs}
+use Rattle.reader.proofs.by_line.print_listed.Statement.{statement}
+use Rattle.reader.proofs.by_line.print_listed.Tie as tie
+
+node-extent-requires : tie.Need-node-extent-requires
+node-extent-requires c κs = search needs
+
+bucket-extent-requires : tie.Need-bucket-extent-requires
+bucket-extent-requires c κs = search needs
+
+slice-aggregate-node-size : tie.Need-slice-aggregate-node-size
+slice-aggregate-node-size c =
+    let at-node-extent = c .before .before .before in
+    let entry = at-node-extent .before .before .before .before .before in
+    sym (length-take-le (at-node-extent .node-extent .result) (now (entry .args .ns)) (at-node-extent .node-extent .ensures .1))
+
+node-size-requires : tie.Need-node-size-requires
+node-size-requires c κs = search needs
+
+slice-aggregate-list : tie.Need-slice-aggregate-list
+slice-aggregate-list c =
+    let at-node-extent = c .before .before .before .before .before in
+    let entry = at-node-extent .before .before .before .before .before in
+    sym (length-take-le (at-node-extent .node-extent .result) (now (entry .args .ns)) (at-node-extent .node-extent .ensures .1))
+
+slice-aggregate-list-2 : tie.Need-slice-aggregate-list-2
+slice-aggregate-list-2 c =
+    let at-bucket-extent = c .before .before .before .before .before in
+    let entry = at-bucket-extent .before .before .before .before .before .before in
+    sym (length-take-le (at-bucket-extent .bucket-extent .result) (now (entry .args .bs)) (at-bucket-extent .bucket-extent .ensures .1))
+
+slice-aggregate-list-3 : tie.Need-slice-aggregate-list-3
+slice-aggregate-list-3 c = search needs
+
+list-requires : tie.Need-list-requires
+list-requires c κs = search needs
+
+enum-known-listed : tie.Need-enum-known-listed
+enum-known-listed c = search needs
+
+cast-e : tie.Need-cast-e
+cast-e c = search needs
+
+array-share-prefix-w : tie.Need-array-share-prefix-w
+array-share-prefix-w c =
+    let at-listed = c .before .before in
+    let l = at-listed .before .before .before .list in
+    omega (arith, counts-few _ _ (at-listed .listed .given .0 .0) (l .result) (l .ensures .0) (at-listed .listed .given .1), l .kept .1 .1 .1 .0)
+
+slice-aggregate-print-listed : tie.Need-slice-aggregate-print-listed
+slice-aggregate-print-listed c =
+    let at-listed = c .before .before .before in
+    let l = at-listed .before .before .before .list in
+    let n = at-listed .listed .given .0 .0 in
+    let few = counts-few _ _ n (l .result) (l .ensures .0) (at-listed .listed .given .1) in
+    sym (length-take-le n (l .last .1 .1 .1 .0) (omega (arith, few, l .kept .1 .1 .1 .0)))
+
+print-listed-requires : tie.Need-print-listed-requires
+print-listed-requires c κs = search needs
+
+enum-known-listed-2 : tie.Need-enum-known-listed-2
+enum-known-listed-2 c = search needs
+
+refusal-requires : tie.Need-refusal-requires
+refusal-requires c κs = search needs
+
+same-length : tie.Need-same-length
+same-length c = search needs
+
+returns : tie.Need-returns
+returns c =
+    let at-listed2 = c .before .before .before .before .before .before in
+    let at-list = at-listed2 .before .before .before in
+    let at-node-size = at-list .before .before .before .before in
+    let at-bucket-extent = at-node-size .before .before .before in
+    let at-node-extent = at-bucket-extent .before in
+    let call = at-node-extent .before .before .before .before .before .args in
+    let a = at-node-extent .node-extent in
+    let b = at-bucket-extent .bucket-extent in
+    let l = at-list .list in
+    prints-refused (call .r) (now (call .ns)) (now (call .bs)) (a .result) (b .result) (a .ensures .0) (b .ensures .0) (l .result) (l .ensures .0)
+    (at-listed2 .listed2 .given .0 .0) (call .k) _ _ (at-listed2 .listed2 .given .1) (c .before .before .before .before .if1 .taken) (c .before .before .refusal .ensures)
+
+same-length-2 : tie.Need-same-length-2
+same-length-2 c = search needs
+
+returns-2 : tie.Need-returns-2
+returns-2 c =
+    let at-listed = c .before .before .before .before .before .before in
+    let at-list = at-listed .before .before .before in
+    let at-node-size = at-list .before .before .before .before in
+    let at-bucket-extent = at-node-size .before .before .before in
+    let at-node-extent = at-bucket-extent .before in
+    let call = at-node-extent .before .before .before .before .before .args in
+    let a = at-node-extent .node-extent in
+    let b = at-bucket-extent .bucket-extent in
+    let l = at-list .list in
+    prints-counted (call .r) (now (call .ns)) (now (call .bs)) (a .result) (b .result) (a .ensures .0) (b .ensures .0) (l .result) (l .ensures .0)
+    (l .last .1 .1 .1 .0) (l .ensures .1) (at-listed .listed .given .0 .0) (call .k) (at-node-size .node-size .result) _ _
+    (at-listed .listed .given .1) (at-node-size .node-size .ensures) (c .before .before .print-listed .ensures)
+
+returns-3 : tie.Need-returns-3
+returns-3 c =
+    let at-listed2 = c .before .before in
+    let at-list = at-listed2 .before .before .before in
+    let at-node-size = at-list .before .before .before .before in
+    let at-bucket-extent = at-node-size .before .before .before in
+    let at-node-extent = at-bucket-extent .before in
+    let call = at-node-extent .before .before .before .before .before .args in
+    let a = at-node-extent .node-extent in
+    let b = at-bucket-extent .bucket-extent in
+    let l = at-list .list in
+    prints-none (call .r) (now (call .ns)) (now (call .bs)) (a .result) (b .result) (a .ensures .0) (b .ensures .0) (l .result) (l .ensures .0)
+    (at-listed2 .listed2 .given .0 .0) (call .k) _ (at-listed2 .listed2 .given .1) (c .if1 .left)
+
+pub print-listed-spec : {M : Type 1} → statement M
+print-listed-spec =
+    tie.close
+    (tie.spec
+    node-extent-requires
+    bucket-extent-requires
+    slice-aggregate-node-size
+    node-size-requires
+    slice-aggregate-list
+    slice-aggregate-list-2
+    slice-aggregate-list-3
+    list-requires
+    enum-known-listed
+    cast-e
+    array-share-prefix-w
+    slice-aggregate-print-listed
+    print-listed-requires
+    enum-known-listed-2
+    refusal-requires
+    same-length
+    returns
+    same-length-2
+    returns-2
+    returns-3)

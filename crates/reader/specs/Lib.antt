@@ -1,0 +1,3 @@
+pub mod Stream
+pub mod Follows
+pub mod GivesVerdict

@@ -1,0 +1,226 @@
+// One line of a recording: what is read of a header line, the opening, an event run afresh and its output line, a line of the listing;
+// and the end of the input.
+ghost use Rattle.session.specs.Grammar.{closed-line};
+ghost use Rattle.session.specs.Header.{header-step};
+ghost use Rattle.session.specs.Buffer.{buffer, append};
+ghost use Rattle.spec.specs.Schedule.{starts, steps};
+ghost use mathlib.Core.Path.{_≡_};
+ghost use lib.ListN.{drop};
+ghost use Rattle.recording.specs.Recording.{listing};
+ghost use Rattle.recording.specs.Reader.{run-event, read-listed, listing-end};
+ghost use Rattle.reader_state.specs.ListedLines.{first-bytes};
+ghost use Rattle.reader_state.specs.Standing.{with-part, put-back, opened, turn-line, header-line, read-line, read-end, ReadAs, EndedAs};
+use reader_state::Reader;
+use recording::ReaderPhase;
+use recording::Verdict;
+use session::EventLine;
+use session::Header;
+use session::HeaderLine;
+use session::HeaderStep;
+use spec::Call;
+use spec::Listing;
+
+// Opens the machine with the header's numbers on line n; where that is accepted the line after it has number next.
+fn open_machine(h: Header, n: u64, next: u64, ns: &mut [u32], bs: &mut [u32]) -> Reader
+    ensures { λ r. ⌜ ReadAs (opened h n next (now (ns .entry)) (now (bs .entry))) r (now (ns .exit)) (now (bs .exit)) ⌝ }
+{
+    let a = session_state::pools::node_extent(h.nodes, ns.len());
+    let b = session_state::pools::bucket_extent(h.buckets, bs.len());
+    let config = h.config;
+    let o = opening::open(config, &mut ns[..a], &mut bs[..b]);
+    let refusal = o.refusal;
+    let m = o.state;
+    if refusal == 0 {
+        return Reader {
+            phase: ReaderPhase::Event,
+            header: h,
+            state: m,
+            number: next,
+        };
+    }
+    let v = Verdict::Refusal(refusal);
+    Reader {
+        phase: ReaderPhase::Decided(v),
+        header: h,
+        state: m,
+        number: n,
+    }
+}
+
+// Starts a call for a task; its output line comes next.
+fn start_task(r: Reader, k: u32, call: Call, tag: u32, ns: &[u32], bs: &[u32]) -> Reader
+    ensures { λ s. ⌜ ReadAs (put-back (run-event (starts k call tag) (with-part r (now (ns .entry)) (now (bs .entry)))) (now (ns .entry)) (now (bs .entry))) s (now (ns .entry)) (now (bs .entry)) ⌝ }
+{
+    let header = r.header;
+    let a = session_state::pools::node_extent(header.nodes, ns.len());
+    let b = session_state::pools::bucket_extent(header.buckets, bs.len());
+    let before = r.state;
+    let d = lent::begin(before, k, call, tag, &ns[..a], &bs[..b]);
+    let answered = d.out;
+    let m = d.state;
+    let next = reader_state::next_number(r.number);
+    Reader {
+        phase: ReaderPhase::Printed(k, answered),
+        header,
+        state: m,
+        number: next,
+    }
+}
+
+// Steps a task by one line of Figure 2; its output line comes next.
+fn step_task(r: Reader, k: u32, ns: &mut [u32], bs: &mut [u32]) -> Reader
+    ensures { λ s. ⌜ ReadAs (put-back (run-event (steps k) (with-part r (now (ns .entry)) (now (bs .entry)))) (now (ns .entry)) (now (bs .entry))) s (now (ns .exit)) (now (bs .exit)) ⌝ }
+{
+    let header = r.header;
+    let a = session_state::pools::node_extent(header.nodes, ns.len());
+    let b = session_state::pools::bucket_extent(header.buckets, bs.len());
+    let before = r.state;
+    let d = lent::turn(before, k, &mut ns[..a], &mut bs[..b]);
+    let answered = d.out;
+    let m = d.state;
+    let next = reader_state::next_number(r.number);
+    Reader {
+        phase: ReaderPhase::Printed(k, answered),
+        header,
+        state: m,
+        number: next,
+    }
+}
+
+// Prints the line at place k of the listing, made anew; nothing past its end.
+fn print_listed(r: Reader, k: u32, ns: &[u32], bs: &[u32], buf: &mut [u8]) -> usize
+    ensures { λ n. ⌜ buffer (now (buf .exit)) n ≡ append (first-bytes (drop k (listing (with-part r (now (ns .entry)) (now (bs .entry)) .machine)))) (buffer (now (buf .entry)) 0) ⌝ }
+{
+    let header = r.header;
+    let a = session_state::pools::node_extent(header.nodes, ns.len());
+    let b = session_state::pools::bucket_extent(header.buckets, bs.len());
+    let m = r.state;
+    let head = m.head;
+    let size = session_state::pools::node_size(&ns[..a], head);
+    let mut w = [0u32; 64];
+    let listed = queries::list(m, &ns[..a], &bs[..b], &mut w);
+    match listed {
+        Listing::Count(n) => {
+            let e = n as usize;
+            reader_state::comparing::print_listed(buf, size, &w[..e], k)
+        }
+        Listing::Refused(n) => {
+            if k == 0 {
+                return session_bytes::refusal(buf, 0, n);
+            }
+            0
+        }
+    }
+}
+
+// The line at place k of the listing.
+fn listed_line(r: Reader, k: u32, ns: &[u32], bs: &[u32], line: &[u8]) -> Reader
+    ensures { λ s. ⌜ ReadAs (put-back (read-listed k (with-part r (now (ns .entry)) (now (bs .entry))) (closed-line (now (line .entry)))) (now (ns .entry)) (now (bs .entry))) s (now (ns .entry)) (now (bs .entry)) ⌝ }
+{
+    let mut w = [0u8; 73];
+    let n = print_listed(r, k, ns, bs, &mut w);
+    reader_state::comparing::compare_listed(r, k, &w[..n], line)
+}
+
+// The end of the input, where the line at place k of the listing comes next.
+fn listed_end(r: Reader, k: u32, ns: &[u32], bs: &[u32]) -> Verdict
+    ensures { λ v. ⌜ v ≡ listing-end (drop k (listing (with-part r (now (ns .entry)) (now (bs .entry)) .machine))) ⌝ }
+{
+    let mut w = [0u8; 73];
+    let n = print_listed(r, k, ns, bs, &mut w);
+    if n == 0 {
+        return Verdict::Same;
+    }
+    Verdict::Refusal(12)
+}
+
+// The line of an event, or the listing's first.
+fn turn_line(r: Reader, ns: &mut [u32], bs: &mut [u32], line: &[u8]) -> Reader
+    ensures { λ s. ⌜ ReadAs (turn-line r (now (ns .entry)) (now (bs .entry)) (closed-line (now (line .entry)))) s (now (ns .exit)) (now (bs .exit)) ⌝ }
+{
+    if session_parse::starts_with(line, b"size=") {
+        return listed_line(r, 0, ns, bs, line);
+    }
+    match session_parse::event_line(line) {
+        EventLine::Start(k, call, tag) => start_task(r, k, call, tag, ns, bs),
+        EventLine::Step(k) => step_task(r, k, ns, bs),
+        EventLine::Outside => reader_state::decided(Verdict::Refusal(10), r),
+    }
+}
+
+// A closed line where a header line is due. The line that completes the header brings the opening about, and so does one that
+// stands in the place of a header line that may be left out.
+fn header_line(r: Reader, due: HeaderLine, ns: &mut [u32], bs: &mut [u32], line: &[u8]) -> Reader
+    ensures { λ s. ⌜ ReadAs (header-line (header-step due (r .header) (closed-line (now (line .entry)))) r (now (ns .entry)) (now (bs .entry)) (closed-line (now (line .entry)))) s (now (ns .exit)) (now (bs .exit)) ⌝ }
+{
+    let n = r.number;
+    let header = r.header;
+    match session_parse::header_line(due, header, line) {
+        HeaderStep::Next(next, h) => {
+            let m = r.state;
+            let number = reader_state::next_number(n);
+            Reader {
+                phase: ReaderPhase::Due(next),
+                header: h,
+                state: m,
+                number,
+            }
+        }
+        HeaderStep::Complete(h) => {
+            let number = reader_state::next_number(n);
+            open_machine(h, n, number, ns, bs)
+        }
+        HeaderStep::Absent(h) => {
+            let s = open_machine(h, n, n, ns, bs);
+            let phase = s.phase;
+            if reader_state::awaits_event(phase) {
+                return turn_line(s, ns, bs, line);
+            }
+            s
+        }
+        HeaderStep::Missing => reader_state::decided(Verdict::Refusal(10), r),
+    }
+}
+
+// One closed line, without its closing byte 10.
+pub fn read_line(r: Reader, ns: &mut [u32], bs: &mut [u32], line: &[u8]) -> Reader
+    ensures { λ s. ⌜ ReadAs (read-line r (now (ns .entry)) (now (bs .entry)) (closed-line (now (line .entry)))) s (now (ns .exit)) (now (bs .exit)) ⌝ }
+{
+    let phase = r.phase;
+    match phase {
+        ReaderPhase::Due(due) => header_line(r, due, ns, bs, line),
+        ReaderPhase::Event => turn_line(r, ns, bs, line),
+        ReaderPhase::Printed(k, o) => reader_state::comparing::compare_output(r, k, o, line),
+        ReaderPhase::Listed(k) => listed_line(r, k, ns, bs, line),
+        ReaderPhase::Decided(_) => r,
+    }
+}
+
+// The end of the input, whose last line is closed or is not.
+pub fn read_end(closed: bool, r: Reader, ns: &mut [u32], bs: &mut [u32]) -> Verdict
+    ensures { λ v. ⌜ EndedAs (read-end closed r (now (ns .entry)) (now (bs .entry))) v (now (ns .exit)) (now (bs .exit)) ⌝ }
+{
+    let refusal = reader_state::missing(closed);
+    let phase = r.phase;
+    match phase {
+        ReaderPhase::Due(due) => {
+            if session_parse::optional(due) {
+                let header = r.header;
+                let n = r.number;
+                let s = open_machine(header, n, n, ns, bs);
+                let at = s.phase;
+                return reader_state::answer_at_end(at, refusal);
+            }
+            Verdict::Refusal(refusal)
+        }
+        ReaderPhase::Event => reader_state::answer_at_end(phase, refusal),
+        ReaderPhase::Printed(_, _) => reader_state::answer_at_end(phase, refusal),
+        ReaderPhase::Listed(k) => {
+            if closed {
+                return listed_end(r, k, ns, bs);
+            }
+            Verdict::Refusal(refusal)
+        }
+        ReaderPhase::Decided(_) => reader_state::answer_at_end(phase, refusal),
+    }
+}

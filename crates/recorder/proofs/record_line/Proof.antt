@@ -1,0 +1,82 @@
+-- `recorder::record_line` meets its contract. Each phase by the function of that phase. Assumes nothing.
+use Rattle.session_state.specs.declared.Phase.the-variants.{Due, Events, Stopped}
+use Rattle.session_lines.proofs.Laws.{does-nothing}
+use Rattle.recorder.specs.LentRecorder.{recorded-phase}
+use Rattle.recorder.proofs.Laws.{stands-at}
+use borrow.Author.Needs.{needs}
+use Rattle.recorder.proofs.record_line.Statement.{statement}
+use Rattle.recorder.proofs.record_line.Tie as tie
+
+enum-known-phase : tie.Need-enum-known-phase
+enum-known-phase c = search needs
+
+header-line-requires : tie.Need-header-line-requires
+header-line-requires c κs = search needs
+
+enum-told : tie.Need-enum-told
+enum-told c = search needs
+
+event-line-requires : tie.Need-event-line-requires
+event-line-requires c κs = search needs
+
+enum-told-2 : tie.Need-enum-told-2
+enum-told-2 c = search needs
+
+same-length : tie.Need-same-length
+same-length c = search needs
+
+same-length-2 : tie.Need-same-length-2
+same-length-2 c = search needs
+
+same-length-3 : tie.Need-same-length-3
+same-length-3 c = search needs
+
+returns : tie.Need-returns
+unfolding recorded-phase
+returns c =
+    let at-header-line = c .before .before .before .before .before .before in
+    let at-phase = at-header-line .before .before .before .before .before in
+    let entry = at-phase .before .before .before .before .before .before in
+    stands-at (Due (at-phase .phase .given .0 .0)) _ _ (entry .args .s) _ _ _ _ _ _ _ (at-phase .phase .given .1) (at-header-line .header-line .ensures)
+
+same-length-4 : tie.Need-same-length-4
+same-length-4 c = search needs
+
+same-length-5 : tie.Need-same-length-5
+same-length-5 c = search needs
+
+same-length-6 : tie.Need-same-length-6
+same-length-6 c = search needs
+
+returns-2 : tie.Need-returns-2
+unfolding recorded-phase
+returns-2 c =
+    let at-event-line = c .before .before .before .before .before .before in
+    let at-enum-told = at-event-line .before .before .before .before in
+    let entry = at-enum-told .before .before .before .before .before .before in
+    stands-at Events _ (entry .args .k) (entry .args .s) _ _ _ _ _ _ _ (at-enum-told .enum-told .given .1) (at-event-line .event-line .ensures)
+
+returns-3 : tie.Need-returns-3
+unfolding recorded-phase
+returns-3 c =
+    let entry = c .before .before .before .before .before .before in
+    stands-at Stopped _ (entry .args .k) (entry .args .s) _ _ _ _ _ _ _ (c .enum-told2 .given .1) (does-nothing _ _ _ _)
+
+pub record-line-spec : {M : Type 1} → statement M
+record-line-spec =
+    tie.close
+    (tie.spec
+    enum-known-phase
+    header-line-requires
+    enum-told
+    event-line-requires
+    enum-told-2
+    same-length
+    same-length-2
+    same-length-3
+    returns
+    same-length-4
+    same-length-5
+    same-length-6
+    returns-2
+    returns-3)

@@ -1,0 +1,109 @@
+-- `recorder::writing::event_line` meets its contract. The line and then what the session prints for it, or the end of the session's
+-- input. Assumes nothing.
+use mathlib.Core.Path.{sym, _∙_}
+use denote.Ref.{now}
+use Rattle.session.specs.BufferLaws.{append-within}
+use Rattle.session.specs.Grammar.{closed-line}
+use Rattle.session_stream.proofs.Laws.{rest-length}
+use Rattle.recording.specs.Recording.{close}
+use Rattle.recorder.proofs.Laws.{written-after, event-is, no-event}
+use native.Mathlib.Omega.{arith}
+use borrow.Author.Needs.{needs}
+use Rattle.recorder.proofs.writing.event_line.Statement.{statement}
+use Rattle.recorder.proofs.writing.event_line.Tie as tie
+
+is-event-requires : tie.Need-is-event-requires
+is-event-requires c κs = search needs
+
+closed-requires : tie.Need-closed-requires
+closed-requires c κs = search needs
+
+sub-handle-line : tie.Need-sub-handle-line
+sub-handle-line c =
+    let at-closed = c .before .before .before .before in
+    omega (arith, append-within _ _ _ _ (at-closed .closed .ensures), at-closed .closed .kept .0)
+
+part-handle-line-start : tie.Need-part-handle-line-start
+part-handle-line-start c =
+    let at-closed = c .before .before .before .before in
+    omega (arith, append-within _ _ _ _ (at-closed .closed .ensures), at-closed .closed .kept .0)
+
+part-handle-line-end : tie.Need-part-handle-line-end
+part-handle-line-end c = search needs
+
+handle-line-requires : tie.Need-handle-line-requires
+handle-line-requires c κs = search needs
+
+add-t17 : tie.Need-add-t17
+add-t17 c =
+    let at-handle-line = c .before .before .before .before .before .before .before .before in
+    let at-closed = at-handle-line .before .before .before .before .before .before in
+    let entry = at-closed .before .before .before .before .before .before .before .before in
+    let line-within = append-within _ _ _ _ (at-closed .closed .ensures) in
+    let rest-within = append-within _ _ _ _ (at-handle-line .handle-line .ensures .wrote) in
+    omega (arith, line-within, rest-within, at-closed .closed .kept .0, rest-length (at-closed .closed .last .0) (at-closed .closed .result), entry)
+
+same-length : tie.Need-same-length
+same-length c = search needs
+
+same-length-2 : tie.Need-same-length-2
+same-length-2 c = search needs
+
+same-length-3 : tie.Need-same-length-3
+same-length-3 c = search needs
+
+returns : tie.Need-returns
+returns c =
+    let at-handle-line = c .before .before .before .before .before .before .before .before in
+    let at-closed = at-handle-line .before .before .before .before .before .before in
+    let at-if1 = at-closed .before .before in
+    let at-is-event = at-if1 .before in
+    let entry = at-is-event .before .before .before .before .before in
+    let l = closed-line (now (entry .args .line)) in
+    let n = at-closed .closed in
+    let t = at-handle-line .handle-line in
+    event-is l (entry .args .s) _ _ _ _ _ _ _ (sym (at-is-event .is-event .ensures) ∙ at-if1 .if1 .taken)
+    (written-after (close (l .bytes)) (now (entry .args .out)) (n .last .0) (n .result) (omega (arith, append-within _ _ _ _ (n .ensures), n .kept .0))
+    (n .ensures) _ (t .result) _ _ _ (t .ensures))
+
+end-input-requires : tie.Need-end-input-requires
+end-input-requires c κs = search needs
+
+same-length-4 : tie.Need-same-length-4
+same-length-4 c = search needs
+
+same-length-5 : tie.Need-same-length-5
+same-length-5 c = search needs
+
+same-length-6 : tie.Need-same-length-6
+same-length-6 c = search needs
+
+returns-2 : tie.Need-returns-2
+returns-2 c =
+    let at-end-input = c .before .before .before .before .before .before in
+    let at-if1 = at-end-input .before .before .before .before in
+    let at-is-event = at-if1 .before in
+    let entry = at-is-event .before .before .before .before .before in
+    no-event (closed-line (now (entry .args .line))) (entry .args .s) _ _ _ _ _ _ _ (sym (at-is-event .is-event .ensures) ∙ at-if1 .if1 .left)
+    (at-end-input .end-input .ensures)
+
+pub event-line-spec : {M : Type 1} → statement M
+event-line-spec =
+    tie.close
+    (tie.spec
+    is-event-requires
+    closed-requires
+    sub-handle-line
+    part-handle-line-start
+    part-handle-line-end
+    handle-line-requires
+    add-t17
+    same-length
+    same-length-2
+    same-length-3
+    returns
+    end-input-requires
+    same-length-4
+    same-length-5
+    same-length-6
+    returns-2)

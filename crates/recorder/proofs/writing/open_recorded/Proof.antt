@@ -1,0 +1,76 @@
+-- `recorder::writing::open_recorded` meets its contract. The opening, and where events are read after it what is written then.
+-- Assumes nothing.
+use mathlib.Core.Path.{sym, _∙_}
+use denote.Ref.{now}
+use Rattle.session_lines.proofs.Laws.{opens-then, refuses-then}
+use Rattle.recorder.specs.LentRecorder.{recorded-opening}
+use borrow.Author.Needs.{needs}
+use Rattle.recorder.proofs.writing.open_recorded.Statement.{statement}
+use Rattle.recorder.proofs.writing.open_recorded.Tie as tie
+
+open-machine-requires : tie.Need-open-machine-requires
+open-machine-requires c κs = search needs
+
+reads-events-requires : tie.Need-reads-events-requires
+reads-events-requires c κs = search needs
+
+after-opening-requires : tie.Need-after-opening-requires
+after-opening-requires c κs = search needs
+
+same-length : tie.Need-same-length
+same-length c = search needs
+
+same-length-2 : tie.Need-same-length-2
+same-length-2 c = search needs
+
+same-length-3 : tie.Need-same-length-3
+same-length-3 c = search needs
+
+returns : tie.Need-returns
+unfolding recorded-opening
+returns c =
+    let at-after-opening = c .before .before .before .before .before .before in
+    let at-if1 = at-after-opening .before .before .before .before in
+    let at-reads-events = at-if1 .before in
+    let at-open-machine = at-reads-events .before .before .before .before .before .before .before .before in
+    let entry = at-open-machine .before .before .before .before .before .before .before .before in
+    let call = entry .args in
+    let t = at-open-machine .open-machine in
+    opens-then (call .h) (now (call .ns)) (now (call .bs)) (t .result) _ _ _ _ _ (t .ensures)
+    (sym (at-reads-events .reads-events .ensures) ∙ at-if1 .if1 .taken) _ _ _ _ (at-after-opening .after-opening .ensures)
+
+same-length-4 : tie.Need-same-length-4
+same-length-4 c = search needs
+
+same-length-5 : tie.Need-same-length-5
+same-length-5 c = search needs
+
+same-length-6 : tie.Need-same-length-6
+same-length-6 c = search needs
+
+returns-2 : tie.Need-returns-2
+unfolding recorded-opening
+returns-2 c =
+    let at-reads-events = c .before in
+    let at-open-machine = at-reads-events .before .before .before .before .before .before .before .before in
+    let entry = at-open-machine .before .before .before .before .before .before .before .before in
+    let call = entry .args in
+    let t = at-open-machine .open-machine in
+    refuses-then (call .h) (now (call .ns)) (now (call .bs)) (t .result) _ _ _ _ _ (t .ensures)
+    (sym (at-reads-events .reads-events .ensures) ∙ c .if1 .left)
+
+pub open-recorded-spec : {M : Type 1} → statement M
+open-recorded-spec =
+    tie.close
+    (tie.spec
+    open-machine-requires
+    reads-events-requires
+    after-opening-requires
+    same-length
+    same-length-2
+    same-length-3
+    returns
+    same-length-4
+    same-length-5
+    same-length-6
+    returns-2)

@@ -1,0 +1,147 @@
+-- The recorder over lent pools: what a line, a byte and the end of the input do, and what is written for them. These are the definitions
+-- that the code is held to; that they write the recording is shown in WritesRecording. Assumes nothing.
+use Prim.Native.Nat.{ℕ}
+use mathlib.Core.Path.{_≡_}
+use mathlib.Core.List.{List, [], _∷_, _++_}
+use mathlib.Core.Bool.{Bool, true, false}
+use lib.Dec.{eqb}
+use Rattle.spec.specs.Lists.{if_then_else_}
+use Rattle.session.specs.declared.Header.{Header}
+use Rattle.session.specs.declared.HeaderStep.{HeaderStep}
+use Rattle.session.specs.declared.HeaderStep.the-variants.{Next, Complete, Absent, Missing}
+use Rattle.session.specs.Buffer.{buffer, append, Written}
+use Rattle.session.specs.Grammar.{InputLine, closed-line, parse-event-line}
+use Rattle.session.specs.Header.{optional, header-step}
+use Rattle.session.specs.Keys.{newline}
+use Rattle.session.specs.Transcript.{is-event}
+use Rattle.session_state.specs.declared.Phase.{Phase}
+use Rattle.session_state.specs.declared.Phase.the-variants.{Due, Events, Stopped}
+use Rattle.session_state.specs.declared.Session.{Session}
+use Rattle.session_state.specs.declared.partial_line.PartialLine.{PartialLine}
+use Rattle.session_state.specs.Handling.{session, new-session, LineEffect, pools-kept, stopped, silent, open-then, line-effect, end-effect}
+use Rattle.session_state.specs.PartialLines.{partial, empty-line, line-bytes, pushed}
+use Rattle.recording.specs.Recording.{close}
+use Rattle.recorder_lines.specs.declared.KeptLines.{KeptLines}
+use Rattle.recorder.specs.declared.Recorder.{Recorder}
+use Rattle.recorder.specs.declared.Recorded.{Recorded}
+use Rattle.recorder_lines.specs.KeptLines.{no-lines, kept-bytes, kept-after}
+
+-- ---- what a line does to the session and its pools, and what is written for it in the place of what the session prints
+
+-- these bytes, and then what an effect prints
+unfoldable pub after-bytes : List ℕ → LineEffect → LineEffect
+after-bytes bytes d = record { session = d .session; nodes = d .nodes; buckets = d .buckets; prints = bytes ++ d .prints }
+
+-- "for each event its input line followed by its output line"; "an input line that gives 10 is left out, and the listing follows at
+-- once": what the session prints at the end of its input
+unfoldable pub recorded-event : InputLine → Session → List ℕ → List ℕ → LineEffect
+recorded-event l s ns bs =
+    if is-event (parse-event-line l) then after-bytes (close (l .bytes)) (line-effect s ns bs l) else end-effect s ns bs
+
+-- the first line after the kept ones: the header's own last line, or a line that is read as an event's
+unfoldable pub first-recorded : Bool → InputLine → Session → List ℕ → List ℕ → LineEffect
+first-recorded own l s ns bs = if own then after-bytes (close (l .bytes)) (silent s ns bs) else recorded-event l s ns bs
+
+-- "Only yards whose opening is accepted are recorded": then "the session's header lines", else the refusal
+unfoldable pub recorded-opening : Header → KeptLines → Bool → InputLine → List ℕ → List ℕ → LineEffect
+recorded-opening h k own l ns bs = open-then h ns bs (λ s n b. after-bytes (kept-bytes k) (first-recorded own l s n b))
+
+-- what a line says where a header line is due
+unfoldable pub recorded-header : HeaderStep → KeptLines → InputLine → Session → List ℕ → List ℕ → LineEffect
+recorded-header (Next due h) k l s ns bs = pools-kept (record { session = session (Due due) h (s .state); prints = [] }) ns bs
+recorded-header (Complete h) k l s ns bs = recorded-opening h k true l ns bs
+recorded-header (Absent h) k l s ns bs = recorded-opening h k false l ns bs
+recorded-header Missing k l s ns bs = pools-kept (stopped s 10) ns bs
+
+-- by where the session stands
+unfoldable pub recorded-phase : Phase → KeptLines → InputLine → Session → List ℕ → List ℕ → LineEffect
+recorded-phase (Due due) k l s ns bs = recorded-header (header-step due (s .header) l) k l s ns bs
+recorded-phase Events k l s ns bs = recorded-event l s ns bs
+recorded-phase Stopped k l s ns bs = silent s ns bs
+
+unfoldable pub recorded-line : InputLine → KeptLines → Session → List ℕ → List ℕ → LineEffect
+recorded-line l k s ns bs = recorded-phase (s .phase) k l s ns bs
+
+-- "closed by the final listing", where the opening is accepted; else the session's refusal
+unfoldable pub recorded-end : Phase → KeptLines → Session → List ℕ → List ℕ → LineEffect
+recorded-end (Due due) k s ns bs =
+    if optional due then open-then (s .header) ns bs (λ s' n b. after-bytes (kept-bytes k) (end-effect s' n b))
+    else pools-kept (stopped s 10) ns bs
+recorded-end Events k s ns bs = end-effect s ns bs
+recorded-end Stopped k s ns bs = silent s ns bs
+
+-- ---- the recorder
+
+abbrev pub recorder : Session → KeptLines → PartialLine → Recorder
+recorder s k h = record { session = s; kept = k; line = h }
+
+unfoldable pub new-recorder : Recorder
+new-recorder = recorder new-session no-lines empty-line
+
+abbrev pub recorded : Recorder → ℕ → Recorded
+recorded r n = record { recorder = r; written = n }
+
+-- where it stands, what the lent pools hold, and what is written so far
+pub record RecordEffect : Type 0 where
+  pub recorder : Recorder
+  pub nodes : List ℕ
+  pub buckets : List ℕ
+  pub writes : List ℕ
+
+abbrev pub effect : Recorder → List ℕ → List ℕ → List ℕ → RecordEffect
+effect r ns bs writes = record { recorder = r; nodes = ns; buckets = bs; writes = writes }
+
+abbrev pub begin : Recorder → List ℕ → List ℕ → RecordEffect
+begin r ns bs = effect r ns bs []
+
+-- the end of the input, also after a last line that is not closed: it gives 10 and is left out
+unfoldable pub record-end : Recorder → List ℕ → List ℕ → LineEffect
+record-end r ns bs = recorded-end (r .session .phase) (r .kept) (r .session) ns bs
+
+-- a line is closed: what it does, what is kept then, and no byte of the next line
+unfoldable pub record-closed : Recorder → List ℕ → List ℕ → RecordEffect
+record-closed r ns bs =
+    let line = line-bytes (r .line) in
+    let d = recorded-line (closed-line line) (r .kept) (r .session) ns bs in
+    let kept = kept-after (r .session .phase) (r .kept) line in
+    effect (recorder (d .session) kept (partial (r .line .bytes) 0)) (d .nodes) (d .buckets) (d .prints)
+
+-- a byte: "lines of at most 40 bytes, each closed by byte 10"
+unfoldable pub record-byte : Recorder → List ℕ → List ℕ → ℕ → RecordEffect
+record-byte r ns bs x =
+    if eqb x newline then record-closed r ns bs else begin (recorder (r .session) (r .kept) (pushed (r .line) x)) ns bs
+
+-- a byte more
+unfoldable pub then-byte : RecordEffect → ℕ → RecordEffect
+then-byte p x =
+    let d = record-byte (p .recorder) (p .nodes) (p .buckets) x in
+    effect (d .recorder) (d .nodes) (d .buckets) (p .writes ++ d .writes)
+
+unfoldable pub record-bytes : RecordEffect → List ℕ → RecordEffect
+record-bytes p [] = p
+record-bytes p (x ∷ xs) = record-bytes (then-byte p x) xs
+
+-- a whole input over lent pools, its end, and all that is written
+unfoldable pub input-recorded : List ℕ → List ℕ → List ℕ → RecordEffect
+input-recorded input ns bs = record-bytes (begin new-recorder ns bs) input
+
+abbrev pub end-of : RecordEffect → LineEffect
+end-of p = record-end (p .recorder) (p .nodes) (p .buckets)
+
+unfoldable pub all-written : RecordEffect → List ℕ
+all-written p = p .writes ++ end-of p .prints
+
+-- ---- what the code is held to: what it gives, what it leaves in the pools, and what it appended to the buffer that held `before`
+-- and then holds `after`
+
+pub record RecordedAs (d : RecordEffect) (r : Recorded) (ns bs before after : List ℕ) : Type 0 where
+  pub next : r .recorder ≡ d .recorder
+  pub nodes : ns ≡ d .nodes
+  pub buckets : bs ≡ d .buckets
+  pub wrote : buffer after (r .written) ≡ append (d .writes) (buffer before 0)
+
+-- a whole input over pools that held `ns` and `bs`
+pub record EndedAs (input ns bs before : List ℕ) (count : ℕ) (ns' bs' after : List ℕ) : Type 0 where
+  pub nodes : ns' ≡ end-of (input-recorded input ns bs) .nodes
+  pub buckets : bs' ≡ end-of (input-recorded input ns bs) .buckets
+  pub wrote : Written (all-written (input-recorded input ns bs)) before after count

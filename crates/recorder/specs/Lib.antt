@@ -1,0 +1,3 @@
+pub mod LentRecorder
+pub mod WritesRecording
+pub mod OutputBounds

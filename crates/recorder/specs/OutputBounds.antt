@@ -1,0 +1,261 @@
+-- How many bytes are written at most: `longest-pair` for each byte of an input, and once `longest-last`, the kept header lines and the
+-- final listing, whenever these come. So a caller can lend room for all of it: `bytes-bound`, `end-bound`, `output-bound`. Assumes nothing.
+use mathlib.Core.Path.{_≡_, refl, sym, ap, subst, _∙_}
+use mathlib.Core.List.{List, [], _∷_, _++_}
+use mathlib.Core.Bool.{Bool, true, false}
+use Prim.Native.Nat.{ℕ, _+_, _*_, _≤_}
+use native.Mathlib.Omega.{arith}
+use borrow.Author.Tests.{leb-true}
+use lib.Dec.{eqb, leb}
+use lib.ListN.{length, replicate, length-append, length-take, length-replicate}
+use Rattle.spec.specs.declared.State.{State}
+use Rattle.spec.specs.Lists.{if_then_else_}
+use Rattle.spec.specs.Entries.{Opened, opening}
+use Rattle.laws.specs.Tests.{and-right}
+use Rattle.session.specs.declared.EventLine.{EventLine}
+use Rattle.session.specs.declared.EventLine.the-variants.{Start, Step, Outside}
+use Rattle.session.specs.declared.Header.{Header}
+use Rattle.session.specs.declared.HeaderLine.{HeaderLine}
+use Rattle.session.specs.declared.HeaderStep.{HeaderStep}
+use Rattle.session.specs.declared.HeaderStep.the-variants.{Next, Complete, Absent, Missing}
+use Rattle.session.specs.Grammar.{InputLine, closed-line, admissible, parse-event-line}
+use Rattle.session.specs.Header.{optional, header-step}
+use Rattle.session.specs.Keys.{newline}
+use Rattle.session.specs.Print.{refusal-line}
+use Rattle.session.specs.OutputLengths.{longest-line, longest-end, refusal-length}
+use Rattle.session.specs.Transcript.{is-event}
+use Rattle.session_state.specs.declared.Phase.{Phase}
+use Rattle.session_state.specs.declared.Phase.the-variants.{Due, Events, Stopped}
+use Rattle.session_state.specs.declared.Session.{Session}
+use Rattle.session_state.specs.Handling.{session, new-session, LineEffect, pools-kept, stopped, silent, node-part, bucket-part, with-machine, opened-then, open-then, reply-effect, event-effect, listing-effect, phase-effect, line-effect, phase-end, end-effect}
+use Rattle.session_state.specs.PartialLines.{empty-line, line-bytes, pushed}
+use Rattle.session_stream.specs.Stream as stream
+use Rattle.session_stream.specs.OutputBounds as session-bounds
+use Rattle.recording.specs.Recording.{close}
+use Rattle.recording.specs.Recorder.{longest-header, recorder-output}
+use Rattle.recording_laws.specs.HeaderLaws.{TakenLine, HeaderKnown, goes-on, last-taken, left-out, missing, header-known}
+use Rattle.recording_laws.specs.ShortLines.{outside-event}
+use Rattle.recorder_lines.specs.declared.KeptLines.{KeptLines}
+use Rattle.recorder.specs.declared.Recorder.{Recorder}
+use Rattle.recorder_lines.specs.KeptLines.{no-lines, kept-bytes, keep-line, kept-after}
+use Rattle.recorder_lines.specs.KeptBytes.{keep-length}
+use Rattle.recorder.specs.LentRecorder.{after-bytes, recorded-event, first-recorded, recorded-opening, recorded-header, recorded-phase, recorded-line, recorded-end, new-recorder, RecordEffect, begin, record-end, record-closed, record-byte, then-byte, record-bytes, input-recorded, end-of, all-written}
+use Rattle.recorder.specs.WritesRecording.{writes-recording}
+
+-- an event's line, closed, and its output line
+abbrev pub longest-pair : ℕ
+longest-pair = 114
+
+-- the kept header lines, and the final listing
+abbrev pub longest-last : ℕ
+longest-last = 1775
+
+-- ---- a line: what it has written, and what may still come once
+
+unfoldable left : Phase → ℕ
+left (Due due) = longest-last
+left Events = longest-end
+left Stopped = 0
+
+left-most : (p : Phase) → left p ≤ longest-last
+unfolding left
+left-most (Due due) = omega arith
+left-most Events = omega arith
+left-most Stopped = omega arith
+
+abbrev Spends : LineEffect → ℕ → Type 0
+Spends d most = length (d .prints) + left (d .session .phase) ≤ most
+
+-- the bytes of an event's line
+event-short : (l : InputLine) → is-event (parse-event-line l) ≡ true → length (close (l .bytes)) ≤ 41
+unfolding is-event admissible
+event-short l e = go (admissible l) refl
+  where
+    go : (b : Bool) → admissible l ≡ b → length (close (l .bytes)) ≤ 41
+    go true a =
+        let f : length (l .bytes) ≤ 40 = leb-true _ _ (and-right (l .closed) (leb (length (l .bytes)) 40) a) in
+        simp length-append (omega arith)
+    go false a =
+        let z : false ≡ true = ap is-event (sym (outside-event l a)) ∙ e in
+        let w : _≡_ {A = ℕ} 0 1 = cc in
+        absurd (omega arith)
+
+end-effect-bound : (s : Session) (ns bs : List ℕ) → length (end-effect s ns bs .prints) ≤ longest-end
+unfolding stream.stream-end empty-line
+end-effect-bound s ns bs = session-bounds.end-bound (stream.begin s empty-line ns bs)
+
+module _ (h : Header) (m : State) (ns bs : List ℕ) where
+  abbrev s : Session
+  s = session Events h m
+
+  event-goes-on : (x : EventLine) → is-event x ≡ true → left (event-effect x s ns bs .session .phase) ≡ longest-end
+  unfolding is-event event-effect reply-effect with-machine left
+  event-goes-on (Start k call tag) e = refl
+  event-goes-on (Step k) e = refl
+  event-goes-on Outside e = let w : _≡_ {A = ℕ} 0 1 = cc in absurd (omega arith)
+
+  end-spends : Spends (end-effect s ns bs) longest-end
+  unfolding end-effect phase-end listing-effect pools-kept left
+  end-spends = omega (arith, end-effect-bound s ns bs)
+
+  event-spends : (l : InputLine) → Spends (recorded-event l s ns bs) (longest-end + longest-pair)
+  unfolding recorded-event after-bytes line-effect phase-effect
+  event-spends l = go (is-event (parse-event-line l)) refl
+    where
+      go : (b : Bool) → is-event (parse-event-line l) ≡ b
+          → Spends (if b then after-bytes (close (l .bytes)) (line-effect s ns bs l) else end-effect s ns bs) (longest-end + longest-pair)
+      go true e =
+          let d = event-effect (parse-event-line l) s ns bs in
+          let line : length (close (l .bytes)) ≤ 41 = event-short l e in
+          let printed : length (d .prints) ≤ longest-line = session-bounds.line-bound s ns bs l in
+          let on : left (d .session .phase) ≡ longest-end = event-goes-on (parse-event-line l) e in
+          let both : length (close (l .bytes) ++ d .prints) ≡ length (close (l .bytes)) + length (d .prints) = length-append (close (l .bytes)) (d .prints) in
+          let all : length (close (l .bytes) ++ d .prints) + left (d .session .phase) ≤ longest-end + longest-pair = omega arith in
+          all
+      go false e = omega (arith, end-spends)
+
+-- the opening, and what is done next where it is accepted
+module _ (h : Header) (k : KeptLines) (room : length (k .bytes) ≡ longest-header) (next : Session → List ℕ → List ℕ → LineEffect) (most : ℕ)
+    (each : (m : State) (ns bs : List ℕ) → Spends (next (session Events h m) ns bs) most) where
+  kept-short : length (kept-bytes k) ≤ longest-header
+  kept-short = omega (arith, length-take (k .len) (k .bytes), room)
+
+  open-spends : (ns bs : List ℕ) → Spends (open-then h ns bs (λ s n b. after-bytes (kept-bytes k) (next s n b))) (longest-header + most)
+  unfolding open-then opened-then with-machine after-bytes left
+  open-spends ns bs = go (eqb (o .refusal) 0)
+    where
+      o : Opened
+      o = opening (h .config) (node-part h ns) (bucket-part h bs)
+
+      made : LineEffect
+      made = with-machine Events [] (o .machine) h ns bs
+
+      go : (a : Bool) → Spends (if a then after-bytes (kept-bytes k) (next (made .session) (made .nodes) (made .buckets))
+          else with-machine Stopped (refusal-line (o .refusal)) (o .machine) h ns bs) (longest-header + most)
+      go true = simp length-append (omega (arith, kept-short, each (o .machine .state) (made .nodes) (made .buckets)))
+      go false = omega (arith, refusal-length (o .refusal))
+
+-- the header's last line
+own-spends : (h : Header) (l : InputLine) → TakenLine l → (m : State) (ns bs : List ℕ)
+    → Spends (first-recorded true l (session Events h m) ns bs) (longest-end + longest-pair)
+unfolding first-recorded after-bytes silent pools-kept left
+own-spends h l t m ns bs = simp length-append (omega (arith, t .short))
+
+-- a line where a header line is due
+header-spends : (due : HeaderLine) (h : Header) (l : InputLine) (x : HeaderStep) → HeaderKnown due h l x → (k : KeptLines) (s : Session) (ns bs : List ℕ)
+    → length (k .bytes) ≡ longest-header → Spends (recorded-header x k l s ns bs) (longest-last + longest-pair)
+unfolding recorded-header recorded-opening first-recorded pools-kept stopped left
+header-spends due h l x (goes-on t e) k s ns bs room = omega arith
+header-spends due h l x (last-taken {h' = h'} t) k s ns bs room =
+    omega (arith, open-spends h' k room (first-recorded true l) (longest-end + longest-pair) (own-spends h' l t) ns bs)
+header-spends due h l x (left-out e) k s ns bs room =
+    omega (arith, open-spends h k room (first-recorded false l) (longest-end + longest-pair) (λ m n b. event-spends h m n b l) ns bs)
+header-spends due h l x (missing e) k s ns bs room = omega (arith, refusal-length 10)
+
+line-spends : (p : Phase) (k : KeptLines) (l : InputLine) (s : Session) (ns bs : List ℕ) → s .phase ≡ p → length (k .bytes) ≡ longest-header
+    → Spends (recorded-phase p k l s ns bs) (left p + longest-pair)
+unfolding recorded-phase silent pools-kept left
+line-spends (Due due) k l s ns bs e room = header-spends due (s .header) l _ (header-known due (s .header) l) k s ns bs room
+line-spends Events k l s ns bs e room =
+    let same : session Events (s .header) (s .state) ≡ s = ap (λ (q : Phase). session q (s .header) (s .state)) (sym e) in
+    subst (λ (t : Session). Spends (recorded-event l t ns bs) (longest-end + longest-pair)) same (event-spends (s .header) (s .state) ns bs l)
+line-spends Stopped k l s ns bs e room = omega (arith, ap left e)
+
+-- ---- the bytes of an input
+
+abbrev Room : RecordEffect → Type 0
+Room p = length (p .recorder .kept .bytes) ≡ longest-header
+
+abbrev phase-of : RecordEffect → Phase
+phase-of p = p .recorder .session .phase
+
+kept-room : (p : Phase) (k : KeptLines) (line : List ℕ) → length (kept-after p k line .bytes) ≡ length (k .bytes)
+unfolding kept-after
+kept-room (Due due) k line = keep-length k line
+kept-room Events k line = refl
+kept-room Stopped k line = refl
+
+-- a byte spends no more, and what is kept has room again
+record ByteSpends (p q : RecordEffect) : Type 0 where
+  room : Room q
+  spends : length (q .writes) + left (phase-of q) ≤ length (p .writes) + left (phase-of p) + longest-pair
+
+byte-spends : (p : RecordEffect) (x : ℕ) → Room p → ByteSpends p (then-byte p x)
+unfolding then-byte record-byte record-closed recorded-line
+byte-spends p x room = go (eqb x newline) refl
+  where
+    r : Recorder
+    r = p .recorder
+
+    line : List ℕ
+    line = line-bytes (r .line)
+
+    go : (b : Bool) → eqb x newline ≡ b → ByteSpends p (then-byte p x)
+    go true e =
+        let d = line-spends (r .session .phase) (r .kept) (closed-line line) (r .session) (p .nodes) (p .buckets) refl room in
+        rw e
+        (record {
+          room = kept-room (r .session .phase) (r .kept) line ∙ room;
+          spends = simp length-append (omega arith);
+        })
+    go false e = rw e (record { room = room; spends = simp length-append (omega arith) })
+
+bytes-spend : (p : RecordEffect) (xs : List ℕ) → Room p
+    → length (record-bytes p xs .writes) + left (phase-of (record-bytes p xs)) ≤ length (p .writes) + left (phase-of p) + longest-pair * length xs
+unfolding record-bytes
+bytes-spend p [] room = omega arith
+bytes-spend p (x ∷ xs) room =
+    let f = byte-spends p x room in
+    omega (arith, f .spends, bytes-spend (then-byte p x) xs (f .room))
+
+room-after : (p : RecordEffect) (xs : List ℕ) → Room p → Room (record-bytes p xs)
+unfolding record-bytes
+room-after p [] room = room
+room-after p (x ∷ xs) room = room-after (then-byte p x) xs (byte-spends p x room .room)
+
+-- what a read of the input can have written
+pub bytes-bound : (r : Recorder) (ns bs xs : List ℕ) → length (r .kept .bytes) ≡ longest-header
+    → length (record-bytes (begin r ns bs) xs .writes) ≤ longest-pair * length xs + longest-last
+bytes-bound r ns bs xs room = omega (arith, bytes-spend (begin r ns bs) xs room, left-most (r .session .phase))
+
+-- ---- the end of the input
+
+phase-end-bound : (p : Phase) (k : KeptLines) (s : Session) (ns bs : List ℕ) → length (k .bytes) ≡ longest-header
+    → length (recorded-end p k s ns bs .prints) ≤ left p
+unfolding recorded-end silent pools-kept stopped left
+phase-end-bound (Due due) k s ns bs room = go (optional due)
+  where
+    h : Header
+    h = s .header
+
+    go : (a : Bool)
+        → length ((if a then open-then h ns bs (λ s' n b. after-bytes (kept-bytes k) (end-effect s' n b)) else pools-kept (stopped s 10) ns bs) .prints)
+        ≤ longest-last
+    go true = omega (arith, open-spends h k room end-effect longest-end (end-spends h) ns bs)
+    go false = omega (arith, refusal-length 10)
+phase-end-bound Events k s ns bs room = end-effect-bound s ns bs
+phase-end-bound Stopped k s ns bs room = omega arith
+
+pub end-bound : (r : Recorder) (ns bs : List ℕ) → length (r .kept .bytes) ≡ longest-header → length (record-end r ns bs .prints) ≤ longest-last
+unfolding record-end
+end-bound r ns bs room =
+    omega (arith, phase-end-bound (r .session .phase) (r .kept) (r .session) ns bs room, left-most (r .session .phase))
+
+-- ---- all of it
+
+all-bound : (input ns bs : List ℕ) → length (all-written (input-recorded input ns bs)) ≤ longest-pair * length input + longest-last
+unfolding all-written input-recorded record-end new-recorder new-session no-lines left
+all-bound input ns bs =
+    let p = record-bytes (begin new-recorder ns bs) input in
+    let f = bytes-spend (begin new-recorder ns bs) input refl in
+    let g = phase-end-bound (phase-of p) (p .recorder .kept) (p .recorder .session) (p .nodes) (p .buckets) (room-after (begin new-recorder ns bs) input refl) in
+    simp length-append (omega (arith, f, g))
+
+pub output-bound : (input : List ℕ) → length (recorder-output input) ≤ longest-pair * length input + longest-last
+output-bound input =
+    let ns = replicate {A = ℕ} 2176 0 in
+    let bs = replicate {A = ℕ} 13200 0 in
+    let ln : 2176 ≤ length ns = omega (arith, length-replicate {A = ℕ} 2176 0) in
+    let lb : 13200 ≤ length bs = omega (arith, length-replicate {A = ℕ} 13200 0) in
+    let e = ap length (writes-recording ns bs ln lb input) in
+    omega (arith, all-bound input ns bs)

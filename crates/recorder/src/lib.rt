@@ -1,0 +1,153 @@
+// A recorder: what it reads is a session's input, what it writes is the session's recording, and where there is none the session's
+// refusal. `record_line` takes one closed line, `record_byte` one byte, `record_bytes` a slice of them, `record_end` the end of the input,
+// and `record` a whole input. The machine is that of session_lines, and so are the reading and printing of lines.
+mod writing;
+
+ghost use mathlib.Core.Path.{_≡_};
+ghost use Prim.Native.Nat.{_≤_};
+ghost use lib.ListN.{length};
+ghost use Rattle.session.specs.Buffer.{Written};
+ghost use Rattle.session.specs.Grammar.{closed-line};
+ghost use Rattle.session_state.specs.Handling.{LineHandled};
+ghost use Rattle.session_stream.specs.Stream.{EndedBy};
+ghost use Rattle.recording.specs.Recorder.{recorder-output};
+ghost use Rattle.recorder.specs.LentRecorder.{recorded-line, recorder, new-recorder, recorded, record-end, record-byte, begin, record-bytes, RecordedAs, EndedAs};
+use recorder_lines::KeptLines;
+use session_state::Handled;
+use session_state::Phase;
+use session_state::Session;
+use session_state::partial_line::PartialLine;
+
+// A recorder between two bytes: its session, the header's lines kept for the opening, and the line that is not closed yet.
+pub struct Recorder {
+    pub session: Session,
+    pub kept: KeptLines,
+    pub line: PartialLine,
+}
+
+// The recorder after some bytes or a line, and how many bytes were written for them.
+pub struct Recorded {
+    pub recorder: Recorder,
+    pub written: usize,
+}
+
+// A recorder of which no byte is read yet.
+pub fn new_recorder() -> Recorder
+    ensures { λ r. ⌜ r ≡ new-recorder ⌝ }
+{
+    let session = session_state::new_session();
+    let kept = recorder_lines::no_lines();
+    let line = session_state::partial_line::empty_line();
+    Recorder {
+        session,
+        kept,
+        line,
+    }
+}
+
+// A recorder of these parts, and how many bytes were written.
+fn made(session: Session, kept: KeptLines, line: PartialLine, written: usize) -> Recorded
+    ensures { λ r. ⌜ r ≡ recorded (recorder session kept line) written ⌝ }
+{
+    let recorder = Recorder {
+        session,
+        kept,
+        line,
+    };
+    Recorded { recorder, written }
+}
+
+// One closed line, without its closing byte 10: the session after it, and how many bytes are written for it, from the buffer's first byte on.
+// `k` are the header's lines so far; `recorder_lines::kept_after` gives those after the line.
+pub fn record_line(
+    s: Session,
+    k: KeptLines,
+    ns: &mut [u32],
+    bs: &mut [u32],
+    line: &[u8],
+    out: &mut [u8],
+) -> Handled
+    ensures { λ r. ⌜ LineHandled (recorded-line (closed-line (now (line .entry))) k s (now (ns .entry)) (now (bs .entry))) r (now (ns .exit)) (now (bs .exit)) (now (out .entry)) (now (out .exit)) ⌝ }
+{
+    let phase = s.phase;
+    match phase {
+        Phase::Due(due) => writing::header_line(s, k, due, ns, bs, line, out),
+        Phase::Events => writing::event_line(s, ns, bs, line, out),
+        Phase::Stopped => Handled {
+            session: s,
+            printed: 0,
+        },
+    }
+}
+
+// The end of the input. What is written for it stands from the buffer's first byte on, and its length is given. A last line that is not
+// closed is left out, and to the listing it is as a line that is too long.
+pub fn record_end(r: Recorder, ns: &mut [u32], bs: &mut [u32], out: &mut [u8]) -> usize
+    ensures { λ n. ⌜ EndedBy (record-end r (now (ns .entry)) (now (bs .entry))) n (now (ns .exit)) (now (bs .exit)) (now (out .entry)) (now (out .exit)) ⌝ }
+{
+    let s = r.session;
+    let k = r.kept;
+    let long = [0u8; 41];
+    let t = record_line(s, k, ns, bs, &long, out);
+    t.printed
+}
+
+// One byte of the input. What is written for it stands from the buffer's first byte on.
+pub fn record_byte(r: Recorder, x: u8, ns: &mut [u32], bs: &mut [u32], out: &mut [u8]) -> Recorded
+    ensures { λ d. ⌜ RecordedAs (record-byte r (now (ns .entry)) (now (bs .entry)) x) d (now (ns .exit)) (now (bs .exit)) (now (out .entry)) (now (out .exit)) ⌝ }
+{
+    let s = r.session;
+    let k = r.kept;
+    let h = r.line;
+    if session_state::partial_line::closes(x) {
+        let n = session_state::partial_line::line_length(h);
+        let b = h.bytes;
+        let phase = s.phase;
+        let kept = recorder_lines::kept_after(phase, k, &b[..n]);
+        let t = record_line(s, k, ns, bs, &b[..n], out);
+        let session = t.session;
+        let line = PartialLine { bytes: b, len: 0 };
+        return made(session, kept, line, t.printed);
+    }
+    let line = session_state::partial_line::push(h, x);
+    made(s, k, line, 0)
+}
+
+// Some bytes of the input, one after the other. What is written for them stands from the buffer's first byte on.
+pub fn record_bytes(
+    r: Recorder,
+    input: &[u8],
+    ns: &mut [u32],
+    bs: &mut [u32],
+    out: &mut [u8],
+) -> Recorded
+    ensures { λ d. ⌜ RecordedAs (record-bytes (begin r (now (ns .entry)) (now (bs .entry))) (now (input .entry))) d (now (ns .exit)) (now (bs .exit)) (now (out .entry)) (now (out .exit)) ⌝ }
+{
+    let mut recorder = r;
+    let mut at = 0;
+    let mut i = 0;
+    while i < input.len() {
+        let f = record_byte(recorder, input[i], ns, bs, &mut out[at..]);
+        recorder = f.recorder;
+        at += f.written;
+        i += 1;
+    }
+    Recorded {
+        recorder,
+        written: at,
+    }
+}
+
+// A whole input, as a slice, over lent pools. What is written for it stands from the buffer's first byte on, as far as there is room, and
+// its length is given. With 2,176 node words and 13,200 bucket words or more it is the input's recording, or the session's refusal.
+pub fn record(input: &[u8], ns: &mut [u32], bs: &mut [u32], out: &mut [u8]) -> usize
+    ensures all { λ n. ⌜ EndedAs (now (input .entry)) (now (ns .entry)) (now (bs .entry)) (now (out .entry)) n (now (ns .exit)) (now (bs .exit)) (now (out .exit)) ⌝ }
+    ensures whole { λ n. ⌜ (2176 ≤ length (now (ns .entry)) → 13200 ≤ length (now (bs .entry)) → Written (recorder-output (now (input .entry))) (now (out .entry)) (now (out .exit)) n) ⌝ }
+{
+    let r = new_recorder();
+    let f = record_bytes(r, input, ns, bs, out);
+    let at = f.written;
+    let recorder = f.recorder;
+    let e = record_end(recorder, ns, bs, &mut out[at..]);
+    at + e
+}

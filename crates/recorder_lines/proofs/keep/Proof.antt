@@ -1,0 +1,21 @@
+-- `recorder_lines::keep` meets its contract. The closed line, appended to the bytes kept. Assumes nothing.
+use mathlib.Core.Path.{ap}
+use Rattle.recorder_lines.specs.KeptLines.{kept-in, keep-line}
+use borrow.Author.Needs.{needs}
+use Rattle.recorder_lines.proofs.keep.Statement.{statement}
+use Rattle.recorder_lines.proofs.keep.Tie as tie
+
+slice-aggregate-closed : tie.Need-slice-aggregate-closed
+slice-aggregate-closed c = search needs
+
+closed-requires : tie.Need-closed-requires
+closed-requires c κs = search needs
+
+returns : tie.Need-returns
+unfolding keep-line
+returns c =
+    let at-closed = c .before in
+    ap kept-in (at-closed .closed .ensures)
+
+pub keep-spec : {M : Type 1} → statement M
+keep-spec = tie.close (tie.spec slice-aggregate-closed closed-requires returns)
