@@ -20,7 +20,7 @@ use Rattle.laws.specs.SameTags.{rising-same}
 use Rattle.linear.specs.ListedTags.{in-set-abs}
 use Rattle.linear.specs.Simulates.{Simulates}
 use Rattle.spec.specs.Linearizable.{after, NoEight}
-use Rattle.spec.specs.ContainsSteps.{Progress, progress, no-progress, Throughout, WithinFive, ContainsWithinFive}
+use Rattle.spec.specs.ContainsSteps.{Progress, progress, no-progress, Throughout, Exact, ContainsExact}
 use Rattle.linear.specs.LookupPace.{ContainsPaced, none-paced, event-paced}
 use Rattle.linear.specs.Events.{Before, event-next}
 use Rattle.spec.specs.Entries.{list, opening}
@@ -37,7 +37,7 @@ pub record AtEnd (y : Machine) (H : List Ended) : Type 0 where
 
 pub run-simulated : (n : ℕ) (last : ℕ → Started) (H : List Ended) (y : Machine) → Before n last H y
     → (r : ℕ → Progress) → ((q : ℕ) → ContainsPaced r y q) → (es : List Event)
-    → AtEnd (run y es .machine) (history-from n last H es (run y es .outs)) × NoEight (run y es .outs) × Throughout WithinFive r es (run y es .outs)
+    → AtEnd (run y es .machine) (history-from n last H es (run y es .outs)) × NoEight (run y es .outs) × Throughout Exact r es (run y es .outs)
 unfolding run history-from
 run-simulated n last H y s r paced [] = (record { configuration = s .configuration; reach = s .reach; sim = s .sim; ended = s .ended }, tt, tt)
 run-simulated n last H y s r paced (e ∷ es) =
@@ -81,6 +81,6 @@ module _ (g : Config) (ns bs : List ℕ) (ok : opening g ns bs .refusal ≡ 0) (
   schedule-runs = rw (eq-eqb (opening g ns bs .refusal) 0 ok)
 
   pub schedule-simulated : AtEnd (schedule g ns bs es .machine) (history es (schedule g ns bs es .outs)) × NoEight (schedule g ns bs es .outs)
-      × ContainsWithinFive es (schedule g ns bs es .outs)
+      × ContainsExact es (schedule g ns bs es .outs)
   unfolding history
   schedule-simulated = rw schedule-runs (run-simulated 0 none-started [] (opening g ns bs .machine) (opening-before g ns bs ok) no-progress (none-paced _) es)

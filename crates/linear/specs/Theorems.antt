@@ -4,12 +4,13 @@
 --   linearizable           demand 3: one order of all ended inserts, removes and contains that respects real time, in which a plain set of
 --                          at most 64 tags gives exactly their answers, and which ends with exactly the tags that a list then writes
 --   never-8, list-never-8  no start, step or list is refused with 8: memory that an opening made never counts as spoilt
---   contains-within-five   a contains ends at the latest with its fifth own step: none goes on past it
+--   contains-exact         a contains ends with exactly three own steps if its line 13 answered 18 (a filled place), with exactly five if it
+--                          answered 15 (an empty one), has done line 13 once, and does not go on past them
 --   sound-after            the words stay in order
 --
 -- The types are those of spec's Linearizable and ContainsSteps. The first two hold because the words simulate a heap without records and
--- reuse (Schedules), and every run of that heap has such an order (the crate model, Linearization); within five holds of the words alone
--- (LookupPace). Assumes nothing.
+-- reuse (Schedules), and every run of that heap has such an order (the crate model, Linearization); three or five holds of the words alone
+-- (LookupPace, which also has `line-13-tells`: the answer of line 13 says whether the place was filled). Assumes nothing.
 use mathlib.Core.Path.{_≡_, ap}
 use mathlib.Core.Bool.{true}
 use mathlib.Core.List.{List}
@@ -23,7 +24,7 @@ use Rattle.spec.specs.Sound.{sound}
 use Rattle.spec.specs.Entries.{Written, list, opening}
 use Rattle.spec.specs.Schedule.{Event, schedule}
 use Rattle.spec.specs.Linearizable.{Linearizable, NoEight}
-use Rattle.spec.specs.ContainsSteps.{ContainsWithinFive}
+use Rattle.spec.specs.ContainsSteps.{ContainsExact}
 use Rattle.model.specs.Linearization.{invariant}
 use Rattle.linear.specs.Schedules.{ends-listed, list-written, list-short, schedule-simulated}
 
@@ -50,8 +51,8 @@ module _ (g : Config) (ns bs : List ℕ) (ok : opening g ns bs .refusal ≡ 0) (
       go (yes h) = let q = ap (λ (r : Written). r .says) (list-written _ _ (schedule-simulated g ns bs ok es .0) w h) in let z : _≡_ {A = ℕ} 0 1 = cc in omega arith
       go (no h) = let q = ap (λ (r : Written). r .says) (list-short _ _ (schedule-simulated g ns bs ok es .0) w (omega arith)) in let z : _≡_ {A = ℕ} 8 9 = cc in omega arith
 
-  pub contains-within-five : ContainsWithinFive es (schedule g ns bs es .outs)
-  contains-within-five = schedule-simulated g ns bs ok es .2
+  pub contains-exact : ContainsExact es (schedule g ns bs es .outs)
+  contains-exact = schedule-simulated g ns bs ok es .2
 
   pub sound-after : sound (schedule g ns bs es .machine) ≡ true
   sound-after = schedule-simulated g ns bs ok es .0 .sim .sound-now

@@ -11,8 +11,9 @@ ghost use Rattle.spec.specs.Lists.{concat-map};
 ghost use Rattle.spec.specs.Numbers.{output-words};
 ghost use Rattle.spec.specs.Machine.{config-of, with-version, machine-of};
 ghost use Rattle.spec.specs.Words.{overwrite};
-ghost use Rattle.spec.specs.Schedule.{event, run};
+ghost use Rattle.spec.specs.Schedule.{event, run, schedule};
 ghost use Rattle.spec.specs.Linearizable.{Linearizable};
+ghost use Rattle.spec.specs.ContainsSteps.{ContainsExact};
 ghost use Rattle.lines.specs.Reply.{moved-reply};
 ghost use Rattle.schedule_words.specs.Events.{event-of, events-of};
 ghost use Rattle.schedule.specs.Encoding.{decoded, run-words, result-of, c-result, c-result-of};
@@ -83,6 +84,8 @@ pub fn run(
     ensures words { λ r. ⌜ result-of r (now (ns .exit)) (now (bs .exit)) (now (outs .exit)) (now (tags .exit))
         ≡ run-words g (now (ns .entry)) (now (bs .entry)) (now (events .entry)) (now (outs .entry)) (now (tags .entry)) ⌝ }
     ensures linearizable { λ r. ⌜ (r .refusal ≡ 0 → Linearizable g (now (ns .entry)) (now (bs .entry)) (decoded (now (events .entry)) (now (outs .entry)))) ⌝ }
+    ensures exact { λ r. ⌜ (r .refusal ≡ 0 → ContainsExact (decoded (now (events .entry)) (now (outs .entry)))
+        (schedule g (now (ns .entry)) (now (bs .entry)) (decoded (now (events .entry)) (now (outs .entry))) .outs)) ⌝ }
 {
     let o = opening::open(g, ns, bs);
     let refusal = o.refusal;

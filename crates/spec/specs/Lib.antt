@@ -15,6 +15,7 @@ pub mod Linearizable
 pub mod Everything
 pub mod Rows
 pub mod ContainsSteps
+pub mod ContainsExamples
 pub mod OurCases
 pub mod WholeRows
 pub mod LineRows
