@@ -102,6 +102,8 @@ pub struct State {
     pub head: u32,
     pub last_node: u32,
     pub last_bucket: u32,
+    /// The task that a dispatcher chose last. No entry here moves it.
+    pub chosen: u32,
     pub task: [Task; MAX_TASKS],
 }
 
@@ -154,6 +156,7 @@ pub fn open(
         version,
         nodes: node_count,
         buckets: bucket_count,
+        chosen: tasks - 1,
         ..State::default()
     })
 }

@@ -327,7 +327,7 @@ fn opening_bounds() {
         if result.is_err() {
             assert!(nodes.iter().chain(&buckets).all(|&word| word == 3));
         }
-        result.map_or_else(|refusal| refusal as u32, |_| 0)
+        result.map_or_else(|refusal| refusal as u32, |state| state.chosen + 1 - tasks)
     };
     let opened = |tasks, nodes, buckets| opened_for(1, tasks, nodes, buckets);
     assert_eq!((opened(0, 0, 0), opened(9, 34, 66)), (1, 1));

@@ -91,6 +91,9 @@ fn bad_numbers_of_the_state() {
         |m| m.state.head = 4,
         |m| m.state.last_node = 4,
         |m| m.state.last_bucket = 4,
+        |m| m.state.chosen = 2,
+        |m| m.state.chosen = u32::MAX,
+        |m| m.state.tasks = 1,
         |m| m.state.head = 2,
     ]);
 }

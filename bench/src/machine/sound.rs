@@ -24,6 +24,7 @@ fn bounds_sound(state: &State, node_words: usize, bucket_words: usize) -> bool {
         && state.head < state.nodes
         && state.last_node < state.nodes
         && state.last_bucket < state.buckets
+        && state.chosen < state.tasks
 }
 
 // These three read their few words to the end: without an exit in the loop it is vectorised.

@@ -24,37 +24,40 @@ fn load(s: &mut [u32], m: &[u32], from: usize) {
     }
 }
 
-fn alike(s: &[u32], m: &[u32], from: usize) -> bool {
+// Whether the words of s from `at` on are those of m from `from` on, up to the end of s or to `end`.
+fn alike(s: &[u32], at: usize, end: usize, m: &[u32], from: usize) -> bool {
     let a = from % SPAN;
-    let mut i: usize = 0;
-    while i < s.len() {
-        if s[i] != get(m, a + i % SPAN) {
+    let mut i = at;
+    let mut j: usize = 0;
+    while i < s.len() && i < end {
+        if s[i] != get(m, a + j % SPAN) {
             return false;
         }
         i += 1;
+        j += 1;
     }
     true
 }
 
-// Whether state, reply and lent words are alike.
-fn replies_alike(m: &[u32]) -> bool {
-    if m.len() < FIRST_END {
-        return false;
-    }
-    alike(&m[FIRST..FIRST_END], m, 0)
-}
-
+// State, reply and lent words, then both pools.
 fn difference(m: &[u32], ns: &[u32], bs: &[u32]) -> u32 {
-    if replies_alike(m) && alike(ns, m, NODES) && alike(bs, m, BUCKETS) {
+    if alike(m, FIRST, FIRST_END, m, 0)
+        && alike(ns, 0, SPAN, m, NODES)
+        && alike(bs, 0, SPAN, m, BUCKETS)
+    {
         return 0;
     }
     1
 }
 
-fn compared(m: &mut [u32], ns: &mut [u32], bs: &mut [u32]) {
+fn load_all(m: &mut [u32], ns: &mut [u32], bs: &mut [u32]) {
     load(ns, m, NODES);
     load(bs, m, BUCKETS);
     copy(m, 0, FIRST, FIRST_END - FIRST);
+}
+
+fn compared(m: &mut [u32], ns: &mut [u32], bs: &mut [u32]) {
+    load_all(m, ns, bs);
     first::act(m, ns, bs);
     reference::act(m);
     put(m, DIFFERS, difference(m, ns, bs));
@@ -64,7 +67,7 @@ fn compared(m: &mut [u32], ns: &mut [u32], bs: &mut [u32]) {
 pub fn call(m: &mut [u32], ns: &mut [u32], bs: &mut [u32]) {
     let n = get(m, NODE_WORDS) as usize;
     let b = get(m, BUCKET_WORDS) as usize;
-    if 8 < get(m, WHAT) {
+    if 9 < get(m, WHAT) {
         return;
     }
     if n <= ns.len() {

@@ -3,18 +3,22 @@ use crate::script::fitting;
 use crate::script::move_memory;
 use crate::script::number;
 use crate::vars::EXCURSION;
+use crate::vars::LEFT;
 use crate::vars::SEED;
-use crate::vars::TURNS;
 use reference_words::words::BUCKET_WORDS;
 use reference_words::words::BUCKETS;
+use reference_words::words::CHOSEN;
 use reference_words::words::NODE_WORDS;
 use reference_words::words::NODES;
 use reference_words::words::NOWHERE;
+use reference_words::words::STATE_END;
 use reference_words::words::VERSION;
 use reference_words::words::WHAT;
 use reference_words::words::either;
 use reference_words::words::field_at;
 use reference_words::words::get;
+use reference_words::words::less_1;
+use reference_words::words::plus;
 use reference_words::words::put;
 use reference_words::words::put_words;
 use reference_words::words::rest;
@@ -77,19 +81,20 @@ fn odd_value(x: u32) -> u32 {
     )
 }
 
-// A word to be spoilt: of the state half of the time, with the version one time in 16, or of the nodes, or of the buckets.
+// A word to be spoilt: of the state half of the time, with the version and the last one chosen one time in 16 each, or of the nodes, or of the buckets.
 fn odd_word(m: &[u32], x: u32) -> usize {
     let y = next(x);
     match below(x, 16) {
         0 | 1 | 2 | 3 => NODES + below(y, get(m, NODE_WORDS)) as usize,
         4 | 5 | 6 | 7 => BUCKETS + below(y, get(m, BUCKET_WORDS)) as usize,
         8 => VERSION,
-        _ => below(y, 111) as usize,
+        9 => CHOSEN,
+        _ => below(y, STATE_END as u32) as usize,
     }
 }
 
-// One turn in 40 begins an excursion: memory is kept, a word is spoilt, in one of three excursions another a turn later, and at the end of eleven
-// turns memory is put back. Turns left of it after this one:
+// One call in 40 begins an excursion: memory is kept, a word is spoilt, in one of three excursions another a call later, and at the end of eleven
+// calls memory is put back. Calls left of it after this one:
 fn excursion(m: &[u32], x: u32, opens: bool) -> u32 {
     let left = get(m, EXCURSION);
     if opens {
@@ -101,7 +106,7 @@ fn excursion(m: &[u32], x: u32, opens: bool) -> u32 {
     left - 1
 }
 
-// The word that is spoilt at this turn.
+// The word that is spoilt before this call.
 fn spoilt_at(m: &[u32], x: u32, left: u32) -> usize {
     if left == 11 || (left == 10 && below(x, 3) == 0) {
         return odd_word(m, next(x));
@@ -151,12 +156,15 @@ fn call_for(m: &[u32], x: u32) -> u32 {
     either(r < number(m, b'L'), 3, 1)
 }
 
-// The call of a turn: mostly a step of a running task or a start of an idle one, now and then a list (6) or a show (7).
+// What is asked: mostly a step of a running task, a start of an idle one, or a turn (9), now and then a list (6) or a show (7).
 fn what_for(m: &[u32], k: u32, x: u32) -> u32 {
     let d = below(x, 64);
     let y = next(x);
     if d < 2 {
         return 6 + d;
+    }
+    if d < plus(2, number(m, b'U')) {
+        return 9;
     }
     if (task_word(m, k, 0) != 0) == (below(y, 16) != 0) {
         return 0;
@@ -196,17 +204,13 @@ fn draw(m: &mut [u32], x: u32, opens: bool) {
     event(m, x)
 }
 
-fn less_1(x: u32) -> u32 {
-    if x == 0 { 0 } else { x - 1 }
-}
-
-// One turn, with so many left.
-pub fn turn(m: &mut [u32], left: u32) {
+// One call, with so many left.
+pub fn random(m: &mut [u32], left: u32) {
     let x = next(get(m, SEED));
     let y = next(next(next(x)));
     let opens = rest(left, number(m, b'W')) == 0;
     put(m, SEED, next(next(next(next(y)))));
-    put(m, TURNS, less_1(left));
+    put(m, LEFT, less_1(left));
     spoil(m, x, opens);
     draw(m, y, opens);
 }

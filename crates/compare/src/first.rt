@@ -40,6 +40,11 @@ fn start(m: &mut [u32], ns: &[u32], bs: &[u32]) {
     flat::put_stepped(m, r);
 }
 
+fn turn(m: &mut [u32], ns: &mut [u32], bs: &mut [u32]) {
+    let r = dispatch::turn(flat::state_of(m), ns, bs);
+    flat::put_turned(m, r);
+}
+
 fn open(m: &mut [u32], ns: &mut [u32], bs: &mut [u32]) {
     let g = Config {
         tasks: get(m, ASKED_K),
@@ -77,6 +82,7 @@ pub fn act(m: &mut [u32], ns: &mut [u32], bs: &mut [u32]) {
         6 => list(m, ns, bs, FIRST + LENT),
         7 => show(m, ns, bs),
         8 => open(m, ns, bs),
+        9 => turn(m, ns, bs),
         _ => start(m, ns, bs),
     }
 }

@@ -39,7 +39,7 @@ fn run(text: &[u8], m: &mut [u32], ns: &mut [u32], bs: &mut [u32]) {
     let mut left: u32 = 10000000;
     while 0 < left {
         script::next(text, m);
-        if 9 < get(m, WHAT) {
+        if 10 < get(m, WHAT) {
             return;
         }
         both::call(m, ns, bs);
@@ -69,7 +69,7 @@ fn main() {
     let mut ns = node_words();
     let mut bs = bucket_words();
     let mut m = memory();
-    clear(&mut m, END, vars::FIRST);
+    clear(&mut m, END, vars::KEPT);
     run(script_in(&space, n), &mut m, &mut ns, &mut bs);
     report::print(&m);
 }

@@ -1,4 +1,4 @@
-// What is counted and printed, by the version of the schedule: each output's kind, line, answer or refusal, and the differences found.
+// What is counted and printed, by the script's V: each output's kind, line, answer or refusal, the turns of each task, and the differences found.
 use crate::script::number;
 use crate::vars::CALLS;
 use crate::vars::COUNTS;
@@ -12,20 +12,21 @@ use reference_words::words::REPLY;
 use reference_words::words::WHAT;
 use reference_words::words::either;
 use reference_words::words::get;
+use reference_words::words::less_1;
 use reference_words::words::plus;
 use reference_words::words::put;
 
-// The counts of version 2 stand after the 400 of version 1.
 fn more(m: &mut [u32], i: usize, by: u32) {
-    let at = COUNTS + either(number(m, b'V') == 2, 400, 0) as usize + i % 400;
+    let at = COUNTS + (number(m, b'V') % 4) as usize * 800 + i % 800;
     put(m, at, plus(get(m, at), by));
 }
 
-// Where an output is counted: a list and a show that are not refused apart.
-fn row_of(m: &[u32]) -> u32 {
-    plus(get(m, REPLY), either(get(m, EXCURSION) == 0, 0, 3))
+// Word x of a row of counts, six rows later in spoilt memory.
+fn in_row(m: &[u32], r: u32, x: u32) -> usize {
+    (plus(r, either(get(m, EXCURSION) == 0, 0, 6)) as usize) * 64 + x as usize % 64
 }
 
+// Where an output is counted: a list and a show that are not refused apart.
 fn place(m: &[u32]) -> usize {
     let what = get(m, WHAT);
     if get(m, REPLY) == 0 {
@@ -36,12 +37,15 @@ fn place(m: &[u32]) -> usize {
             return SHOWS;
         }
     }
-    (row_of(m) as usize) * 64 + get(m, REPLY + 1) as usize % 64
+    in_row(m, get(m, REPLY), get(m, REPLY + 1))
 }
 
-// After a random turn.
+// After a random call. A turn that chose a task is counted once more, by its task.
 fn count(m: &mut [u32]) {
+    let of = get(m, REPLY + 4);
+    let turns = either(get(m, REPLY) == 2, 5, 4);
     more(m, place(m), 1);
+    more(m, in_row(m, turns, less_1(of)), either(of == 0, 0, 1));
     more(m, CALLS, 1);
     more(m, DIFFERENCES, get(m, DIFFERS));
 }
@@ -51,29 +55,32 @@ fn label(kind: u32) {
     match kind {
         1 => text(b" end="),
         2 => text(b" refuse="),
+        3 => text(b" running="),
         _ => text(b" "),
     }
 }
 
-// How many tags an ended insert or remove left in its bucket.
-fn tags_left(plus_1: u32) {
+// A number that only some replies have.
+fn optional(name: &[u8], plus_1: u32) {
     if 0 < plus_1 {
-        text(b":");
+        text(name);
         decimal(plus_1 - 1);
     }
 }
 
+// The task of a turn comes first, and last how many tags an ended insert or remove left in its bucket.
 fn outcome(m: &[u32]) {
+    optional(b" turn=", get(m, REPLY + 4));
     label(get(m, REPLY));
     decimal(get(m, REPLY + 1));
-    tags_left(get(m, REPLY + 3));
+    optional(b":", get(m, REPLY + 3));
     if get(m, DIFFERS) != 0 {
         text(b" DIFFERS");
     }
 }
 
 pub fn after(m: &mut [u32]) {
-    if 8 < get(m, WHAT) {
+    if 9 < get(m, WHAT) {
         return;
     }
     if get(m, DRAWN) == 0 {
@@ -101,7 +108,7 @@ fn cell(i: u32, n: u32) {
 
 // The counts from place a on, those that are not 0, each as number:count with the number counted from a.
 fn row(name: &[u8], m: &[u32], a: usize) {
-    let first = COUNTS + a % 800;
+    let first = COUNTS + a % 3200;
     text(name);
     let mut i: u32 = 0;
     while i < 64 {
@@ -112,7 +119,7 @@ fn row(name: &[u8], m: &[u32], a: usize) {
 
 fn line(name: &[u8], m: &[u32], i: usize) {
     text(name);
-    decimal(get(m, COUNTS + i % 800));
+    decimal(get(m, COUNTS + i % 3200));
 }
 
 fn print_rows(m: &[u32], from: u32) {
@@ -124,17 +131,20 @@ fn print_rows(m: &[u32], from: u32) {
         a + 64,
     );
     row(b"\nrefused", m, a + 128);
-    row(b"\nin spoilt memory: at line", m, a + 192);
-    row(b"\nended", m, a + 256);
-    row(b"\nrefused", m, a + 320);
+    line(b"\nturns with nothing running ", m, a + 192);
+    row(b"\nturns accepted, by task", m, a + 256);
+    row(b"\nturns refused by 7, by task", m, a + 320);
 }
 
 // The counts of a version. Each schedule has one opening, which is counted at line 0.
-fn print_version(m: &[u32], from: u32) {
+fn print_version(name: &[u8], m: &[u32], from: u32) {
     let a = from as usize;
-    line(b"schedules ", m, a);
+    text(name);
+    line(b"openings ", m, a);
     line(b", calls ", m, a + CALLS);
     print_rows(m, from);
+    text(b"\nin spoilt memory:");
+    print_rows(m, plus(from, 384));
     line(b"\nlists ", m, a + LISTS);
     line(b"\nshows ", m, a + SHOWS);
     line(b"\ndifferences ", m, a + DIFFERENCES);
@@ -142,8 +152,7 @@ fn print_version(m: &[u32], from: u32) {
 }
 
 pub fn print(m: &[u32]) {
-    text(b"version 1: ");
-    print_version(m, 0);
-    text(b"version 2: ");
-    print_version(m, 400);
+    print_version(b"version 1: ", m, 800);
+    print_version(b"version 2: ", m, 1600);
+    print_version(b"task 0 of eight always refused by 7: ", m, 2400);
 }

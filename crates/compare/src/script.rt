@@ -3,10 +3,11 @@
 //
 //   n b        so many node words, so many bucket words from now on
 //   t          the tag of the starts that follow
-//   V          the version of the openings that follow
+//   V          the version of the openings that follow, and where the random calls that follow are counted
 //   o          an opening with so many tasks
 //   i r c g h  a start of insert, remove, contains, grow or shrink for this task
 //   s          a step of this task
+//   u          a turn
 //   l v        a list into so many words, a show of this bucket
 //   = @ &      the number of a word of the state, of the nodes, of the buckets
 //   ,          the value that this word gets; another value goes to the word after it
@@ -14,26 +15,26 @@
 //   ; .        goes to the first line of the script; goes back from there
 //   #          a comment, to the end of the line
 //   X          the pseudo-random number that others follow
-//   x          so many turns of random schedules (draw.rt): of W turns each for T tasks; of 100 starts R are resizes; of 100 others D are removes and those up
-//              to L contains; G tags, multiples of 7; of 128 steps of a contains at line 15 Z go to another task
+//   x          so many calls of random schedules (draw.rt): of W calls each for T tasks; of 64 calls U are turns; of 100 starts R are resizes; of 100 others
+//              D are removes and those up to L contains; G tags, multiples of 7; of 128 steps of a contains at line 15 Z go to another task
 use crate::draw;
 use crate::vars::BACK;
 use crate::vars::DRAWN;
 use crate::vars::KEPT;
+use crate::vars::LEFT;
 use crate::vars::NAMED;
 use crate::vars::NEXT;
 use crate::vars::NUMBER;
 use crate::vars::NUMBERS;
 use crate::vars::QUIET;
 use crate::vars::SEED;
-use crate::vars::TURNS;
 use reference_words::words::BUCKET_WORDS;
 use reference_words::words::BUCKETS;
+use reference_words::words::CHOSEN;
 use reference_words::words::NODE_WORDS;
 use reference_words::words::NODES;
 use reference_words::words::NOWHERE;
 use reference_words::words::RECORDS;
-use reference_words::words::STATE_END;
 use reference_words::words::WHAT;
 use reference_words::words::copy;
 use reference_words::words::either;
@@ -55,7 +56,7 @@ fn longer(x: u32, b: u8) -> u32 {
     (((x as u64) * 10 + (b - 48) as u64) % 4294967296) as u32
 }
 
-// The call that a byte means, 9 for none.
+// The call that a byte means, 10 for none.
 fn what(b: u8) -> u32 {
     match b {
         b's' => 0,
@@ -67,7 +68,8 @@ fn what(b: u8) -> u32 {
         b'l' => 6,
         b'v' => 7,
         b'o' => 8,
-        _ => 9,
+        b'u' => 9,
+        _ => 10,
     }
 }
 
@@ -96,7 +98,7 @@ pub fn move_memory(m: &mut [u32], keeps: bool, restores: bool) {
 
 // A value as a state can have it in a word: `running` is 0 or 1, and own steps are below 65,536.
 pub fn fitting(at: usize, v: u32) -> u32 {
-    if at < RECORDS || STATE_END <= at {
+    if at < RECORDS || CHOSEN <= at {
         return v;
     }
     match (at - RECORDS) % 13 {
@@ -204,23 +206,23 @@ fn echo(m: &[u32], b: u8) {
     }
 }
 
-// The next call of the text, or the end (10).
+// The next call of the text, or the end (11).
 fn play(text: &[u8], m: &mut [u32]) {
     let at = get(m, NEXT) as usize;
     if text.len() <= at {
-        return put(m, WHAT, 10);
+        return put(m, WHAT, 11);
     }
     let b = text[at];
     echo(m, b);
     read(m, b)
 }
 
-// The next call: random turns first.
+// The next call: random calls first.
 pub fn next(text: &[u8], m: &mut [u32]) {
-    let left = get(m, TURNS);
+    let left = get(m, LEFT);
     put(m, DRAWN, left);
     if left == 0 {
         return play(text, m);
     }
-    draw::turn(m, left)
+    draw::random(m, left)
 }

@@ -1,3 +1,5 @@
 pub mod Unchanged
 pub mod Tables
 pub mod Refusals
+pub mod TurnOutcome
+pub mod Turns

@@ -71,6 +71,7 @@ fn state(s: State) {
     field(b" head=", s.head);
     field(b" last_node=", s.last_node);
     field(b" last_bucket=", s.last_bucket);
+    field(b" chosen=", s.chosen);
     text(b"\n");
 }
 

@@ -1,16 +1,15 @@
 -- Taking: the first link that is not marked, and what is taken in a sound machine. Assumes nothing.
 use mathlib.Core.Path.{_≡_, refl, sym, ap, _∙_}
 use mathlib.Core.List.{List, [], _∷_, _++_, map}
-use mathlib.Core.Logic.{inl, inr}
 use mathlib.Core.Bool.{Bool, true, false, _||_, _&&_}
-use Prim.Native.Nat.{ℕ, zero, suc, _+_, _-_, _%_, _<_, _≤_}
+use Prim.Native.Nat.{ℕ, suc, _+_, _-_, _%_, _<_, _≤_}
 use native.Mathlib.Numerals.{add-one}
 use native.Mathlib.Omega.{arith}
 use borrow.Author.Tests.{lt-ltb, le-ltb, le-leb, lt-leb, leb-true}
 use lib.Dec.{ltb, leb}
 use lib.ListN.{length, getD}
 use Rattle.laws.specs.Tests.{same-test, and2, all2}
-use Rattle.laws.specs.Lists.{member-append, member-cons, member-here, member-there, no-member}
+use Rattle.laws.specs.Lists.{member-append, member-here, member-there, range-low, range-has}
 use Rattle.laws.specs.Ascending.{member-filter}
 use Rattle.laws.specs.Soundness.{sound-facts}
 use Rattle.laws.specs.Links.{filled-link}
@@ -50,23 +49,6 @@ module _ (ls : List ℕ) (n last : ℕ) where
     free-here e = rw (step, e)
 
 -- ---- numbers and links
-
-range-low : (x i n : ℕ) → member x (range i n) ≡ true → (i ≤ x) × (x < i + n)
-unfolding range
-range-low x i zero e = absurd (no-member x e)
-range-low x i (suc n) e = elim (member-cons x i (range (suc i) n) e) [
-  | inl h ↦ (omega arith, omega arith)
-  | inr h ↦ (let q = range-low x (suc i) n h in (omega arith, omega arith))
-]
-
-range-has : (x i n : ℕ) → i ≤ x → x < i + n → member x (range i n) ≡ true
-unfolding range
-range-has x i zero h l = absurd (omega arith)
-range-has x i (suc n) h l = go (x - i) refl (range-has x (suc i) n)
-  where
-    go : (d : ℕ) → x - i ≡ d → (suc i ≤ x → x < suc i + n → member x (range (suc i) n) ≡ true) → member x (i ∷ range (suc i) n) ≡ true
-    go zero e ih = member-here x i (range (suc i) n) (omega arith)
-    go (suc d) e ih = member-there x i (range (suc i) n) (ih (omega arith) (omega arith))
 
 -- the same members
 pub exactly-alike : {m : List Bool} (xs ys : List ℕ) → ((k : ℕ) → member k xs ≡ member k ys) → Exactly m xs → Exactly m ys

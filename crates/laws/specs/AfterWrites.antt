@@ -17,12 +17,13 @@ use Rattle.laws.specs.Tests.{At, hit, miss}
 use Rattle.laws.specs.NodeWords.{sp-size, cp-size, cp-pred, cp-place, sp-pred, nn-length, sp-place, nn-size, nn-pred, nn-place}
 use Rattle.laws.specs.BucketWords.{fr-changeable, fr-count, fr-tags, fr-word, bk-length, bk-changeable, bk-count, bk-tags, bk-same, bk-words}
 
--- ---- the state: what it was opened with, H, B and the tasks stay with every write; z is what the write leaves of y
+-- ---- the state: what it was opened with, H, B, the last one chosen and the tasks stay with every write; z is what the write leaves of y
 
 pub record SameState (y z : Machine) : Type 0 where
   pub config≡ : z .state .config ≡ y .state .config
   pub H≡ : node-count z ≡ node-count y
   pub B≡ : bucket-count z ≡ bucket-count y
+  pub chosen≡ : z .state .chosen ≡ y .state .chosen
   pub task≡ : z .state .task ≡ y .state .task
   pub nodes-length≡ : length (z .nodes) ≡ length (y .nodes)
   pub buckets-length≡ : length (z .buckets) ≡ length (y .buckets)
@@ -32,10 +33,11 @@ pub record Kept : Type 0 where
   pub config : Config
   pub nodes : ℕ
   pub buckets : ℕ
+  pub chosen : ℕ
   pub task : List Task
 
 abbrev pub kept : State → Kept
-kept s = record { config = s .config; nodes = s .nodes; buckets = s .buckets; task = s .task }
+kept s = record { config = s .config; nodes = s .nodes; buckets = s .buckets; chosen = s .chosen; task = s .task }
 
 -- one maker: that part is the same, and so are the pools' lengths
 pub same-but : (y z : Machine) → kept (z .state) ≡ kept (y .state) → length (z .nodes) ≡ length (y .nodes) → length (z .buckets) ≡ length (y .buckets)
@@ -44,6 +46,7 @@ same-but y z e n b = record {
   config≡ = ap (λ (k : Kept). k .config) e;
   H≡ = ap (λ (k : Kept). k .nodes) e;
   B≡ = ap (λ (k : Kept). k .buckets) e;
+  chosen≡ = ap (λ (k : Kept). k .chosen) e;
   task≡ = ap (λ (k : Kept). k .task) e;
   nodes-length≡ = n;
   buckets-length≡ = b;
@@ -107,17 +110,20 @@ pub record AfterBucket (y : Machine) (k : ℕ) (ks : List ℕ) (z : Machine) : T
 
 -- ---- on the machine
 
--- no write changes T, H, B or a task, in whatever machine
-pub apply-task : (w : Write) (y : Machine) → apply w y .state .task ≡ y .state .task
+-- no write changes that part, in whatever machine
+pub apply-kept : (w : Write) (y : Machine) → kept (apply w y .state) ≡ kept (y .state)
 unfolding apply with-state with-head with-nodes with-buckets with-last-node with-last-bucket state-head state-last-node state-last-bucket
-apply-task nothing y = refl
-apply-task (set-head k) y = refl
-apply-task (set-place k i l) y = refl
-apply-task (clear-pred k) y = refl
-apply-task (freeze k) y = refl
-apply-task (put-tags k ks) y = refl
-apply-task (new-node k sz p) y = refl
-apply-task (new-bucket k ks) y = refl
+apply-kept nothing y = refl
+apply-kept (set-head k) y = refl
+apply-kept (set-place k i l) y = refl
+apply-kept (clear-pred k) y = refl
+apply-kept (freeze k) y = refl
+apply-kept (put-tags k ks) y = refl
+apply-kept (new-node k sz p) y = refl
+apply-kept (new-bucket k ks) y = refl
+
+pub apply-task : (w : Write) (y : Machine) → apply w y .state .task ≡ y .state .task
+apply-task w y = ap (λ (k : Kept). k .task) (apply-kept w y)
 
 module _ (y : Machine) where
   pub after-head : (k : ℕ) → AfterHead y k (apply (set-head k) y)

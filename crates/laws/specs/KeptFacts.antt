@@ -77,6 +77,7 @@ module _ (y z : Machine) (same : SameState y z) (sized : (j : ℕ) → ¬ (size 
     last-node = rw (same .H≡) ln;
     last-bucket = rw (same .B≡) lb;
     head-sized = hs;
+    chosen = rw (same .chosen≡, same .config≡) (f .chosen);
     node = λ k q. ns k (rw (same .H≡) at q);
     bucket = λ k q. bs k (rw (same .B≡) at q);
     task = λ k. subst (λ (c : Task). TaskFacts z k c) (ap (λ (ts : List Task). getD ts k idle) (sym (same .task≡))) (task-kept k (getD (y .state .task) k idle) (f .task k));

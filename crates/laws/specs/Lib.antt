@@ -29,4 +29,5 @@ pub mod CallLines
 pub mod EffectSound
 pub mod LinesKeep
 pub mod EntriesKeep
+pub mod LastChosen
 pub mod OpeningSound

@@ -1,5 +1,5 @@
 -- Members of a list, tests that pass at each element, words that are 0. Assumes nothing.
-use Prim.Native.Nat.{ℕ, zero, suc, _+_, _<_}
+use Prim.Native.Nat.{ℕ, zero, suc, _+_, _-_, _<_, _≤_}
 use mathlib.Core.Path.{_≡_, refl}
 use mathlib.Core.Logic.{_⊎_, inl, inr}
 use mathlib.Core.Bool.{Bool, true, false, _||_}
@@ -8,7 +8,7 @@ use native.Mathlib.Omega.{arith}
 use borrow.Author.Tests.{eqb-true, eq-eqb}
 use lib.Dec.{eqb}
 use lib.ListN.{getD, take}
-use Rattle.spec.specs.Lists.{member, every}
+use Rattle.spec.specs.Lists.{member, every, range}
 use Rattle.spec.specs.Sound.{zeros}
 use Rattle.laws.specs.Tests.{tf, and-left, and-right, and-i, or-e, or-l, or-r}
 
@@ -36,6 +36,24 @@ member-append n (x ∷ l) m = go (eqb n x) (member-append n l m)
     go : (b : Bool) → member n (l ++ m) ≡ (member n l || member n m) → (b || member n (l ++ m)) ≡ ((b || member n l) || member n m)
     go true ih = refl
     go false ih = ih
+
+-- i, i + 1, .., n numbers in all
+pub range-low : (x i n : ℕ) → member x (range i n) ≡ true → (i ≤ x) × (x < i + n)
+unfolding range
+range-low x i zero e = absurd (no-member x e)
+range-low x i (suc n) e = elim (member-cons x i (range (suc i) n) e) [
+  | inl h ↦ (omega arith, omega arith)
+  | inr h ↦ (let q = range-low x (suc i) n h in (omega arith, omega arith))
+]
+
+pub range-has : (x i n : ℕ) → i ≤ x → x < i + n → member x (range i n) ≡ true
+unfolding range
+range-has x i zero h l = absurd (omega arith)
+range-has x i (suc n) h l = go (x - i) refl (range-has x (suc i) n)
+  where
+    go : (d : ℕ) → x - i ≡ d → (suc i ≤ x → x < suc i + n → member x (range (suc i) n) ≡ true) → member x (i ∷ range (suc i) n) ≡ true
+    go zero e ih = member-here x i (range (suc i) n) (omega arith)
+    go (suc d) e ih = member-there x i (range (suc i) n) (ih (omega arith) (omega arith))
 
 module _ {A : Type 0} (f : A → Bool) where
   pub every-head : (x : A) (l : List A) → every f (x ∷ l) ≡ true → f x ≡ true

@@ -99,6 +99,7 @@ module _ (g : Config) (h b : ℕ) (config-ok : ConfigFacts g) (h-low : 1 ≤ h) 
     last-node = h-low;
     last-bucket = b-low;
     head-sized = λ e. omega arith;
+    chosen = let t = config-ok .T-low in omega arith;
     node = λ k q. fresh-node k;
     bucket = λ k q. fresh-bucket k;
     task = λ k. is-idle (fresh-task-sound k);

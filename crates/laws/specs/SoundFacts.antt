@@ -66,6 +66,7 @@ pub record SoundFacts (y : Machine) : Type 0 where
   pub last-node : y .state .«last_node» < node-count y
   pub last-bucket : y .state .«last_bucket» < bucket-count y
   pub head-sized : ¬ (size (y .nodes) (y .state .head) ≡ 0)
+  pub chosen : y .state .chosen < task-count y
   pub node : (k : ℕ) → k < node-count y → NodeFacts y k
   pub bucket : (k : ℕ) → k < bucket-count y → BucketFacts y k
   -- also for k past the list: task-of then gives idle

@@ -76,6 +76,7 @@ module _ (y : Machine) where
         last-node = ltb-true _ _ (n 6);
         last-bucket = ltb-true _ _ (n 7);
         head-sized = filled-true _ (n 8);
+        chosen = ltb-true _ _ (n 9);
         node = λ k q. node-facts y k (nodes-at y (node-count y) (y .nodes) (p .1) k q);
         bucket = λ k q. bucket-facts y fits k q (buckets-at (bucket-count y) (y .buckets) (p .2) k q);
         task = λ k. let z : 0 + k ≡ k = omega arith in task-facts y k (getD (y .state .task) k idle) (rw z at (tasks-at y 0 (y .state .task) (p .3) k));
@@ -86,7 +87,7 @@ module _ (y : Machine) where
   facts-sound f = all4 _ _ _ _
       (all-pass (facts-config _ (f .config) also facts-within 1 64 _ (f .H-low) (f .H-high) also facts-within 1 1024 _ (f .B-low) (f .B-high)
       also eq-eqb _ _ (f .nodes-length) also eq-eqb _ _ (f .buckets-length) also lt-ltb _ _ (f .head) also lt-ltb _ _ (f .last-node) also lt-ltb _ _ (f .last-bucket)
-      also true-filled _ (f .head-sized) also no-more))
+      also true-filled _ (f .head-sized) also lt-ltb _ _ (f .chosen) also no-more))
       (at-nodes y (node-count y) (y .nodes) (λ k q. facts-node y k (f .node k q)))
       (at-buckets (bucket-count y) (y .buckets) (λ k q. facts-bucket y (f .buckets-length) k q (f .bucket k q)))
       (at-tasks y 0 (y .state .task) (λ k. let z : 0 + k ≡ k = omega arith in rw z (facts-task y k (getD (y .state .task) k idle) (f .task k))))

@@ -38,15 +38,15 @@ pub data Taking (Held : ℕ → Type 0) (n last l : ℕ) : Type 0 where
   takes : (k : ℕ) → l ≡ link k → k < n → FirstFree Held n last k → Taking Held n last l
 
 module _ {Held : ℕ → Type 0} {n last l : ℕ} where
-  taking-none : Taking Held n last l → (l ≡ 0) ↔ ((k : ℕ) → k < n → Held k)
+  pub taking-none : Taking Held n last l → (l ≡ 0) ↔ ((k : ℕ) → k < n → Held k)
   taking-none (none-free z all) = (λ e. all, λ h. z)
   taking-none (takes k z h first) = (λ e. absurd (omega arith), λ all. absurd (first .not-held (all k h)))
 
-  taking-some : Taking Held n last l → ¬ (l ≡ 0) → (k : ℕ) × (l ≡ link k) × (k < n) × FirstFree Held n last k
+  pub taking-some : Taking Held n last l → ¬ (l ≡ 0) → (k : ℕ) × (l ≡ link k) × (k < n) × FirstFree Held n last k
   taking-some (none-free z all) e = absurd (e z)
   taking-some (takes k z h first) e = (k, z, h, first)
 
-  taking-this : Taking Held n last l → (k : ℕ) → l ≡ link k → FirstFree Held n last k
+  pub taking-this : Taking Held n last l → (k : ℕ) → l ≡ link k → FirstFree Held n last k
   taking-this (none-free z all) k e = absurd (omega arith)
   taking-this (takes j z h first) k e = let q : j ≡ k = omega arith in rw q at first
 
@@ -74,25 +74,25 @@ search-first held at (suc m) i = go (bool? (member (at i) held)) (search-first h
         (λ e p q. elim (ℕ-discrete e i) [ yes r ↦ rw r t | no d ↦ all e (omega arith) q ])
     go (inr t) ih = found i (le-refl i) (omega arith) (if-false (member (at i) held) _ (at i) t) t (λ e p q. absurd (omega arith))
 
+-- every record stands somewhere on the round
+pub on-round : (n last : ℕ) → last < n → (k : ℕ) → k < n → (d : ℕ) × (1 ≤ d) × (d ≤ n) × ((last + d) % n ≡ k)
+on-round n last below k h = go (decLt last k)
+  where
+    go : Dec (last < k) → (d : ℕ) × (1 ≤ d) × (d ≤ n) × ((last + d) % n ≡ k)
+    go (yes p) = let e : last + (k - last) ≡ k = omega arith in (k - last, omega arith, omega arith, rw e (mod-eq-of-lt h))
+    go (no m) = let e : last + (k + n - last) ≡ k + n = omega arith in (k + n - last, omega arith, omega arith, rw e (add-mod-right k n ∙ mod-eq-of-lt h))
+
 module _ (Held : ℕ → Type 0) (held : List ℕ) (n last : ℕ) (some-n : 1 ≤ n) (last-below : last < n)
     (means : (k : ℕ) → member (link k) held ≡ true → Held k) (back : (k : ℕ) → Held k → member (link k) held ≡ true) where
   abbrev around : ℕ → ℕ
   around j = link ((last + j) % n)
 
-  -- every record stands somewhere on the round
-  on-round : (k : ℕ) → k < n → (d : ℕ) × (1 ≤ d) × (d ≤ n) × ((last + d) % n ≡ k)
-  on-round k h = go (decLt last k)
-    where
-      go : Dec (last < k) → (d : ℕ) × (1 ≤ d) × (d ≤ n) × ((last + d) % n ≡ k)
-      go (yes p) = let e : last + (k - last) ≡ k = omega arith in (k - last, omega arith, omega arith, rw e (mod-eq-of-lt h))
-      go (no m) = let e : last + (k + n - last) ≡ k + n = omega arith in (k + n - last, omega arith, omega arith, rw e (add-mod-right k n ∙ mod-eq-of-lt h))
-
-  taking : Taking Held n last (first-free held (cyclic-order n last))
+  pub taking : Taking Held n last (first-free held (cyclic-order n last))
   unfolding cyclic-order
   taking = go (search-first held around n 1)
     where
       go : Search held around 1 n (first-free held (map around (range 1 n))) → Taking Held n last (first-free held (map around (range 1 n)))
-      go (nowhere z all) = none-free z (λ k h. let d = on-round k h in rw (d .3) at (means ((last + d .0) % n) (all (d .0) (d .1) (omega arith))))
+      go (nowhere z all) = none-free z (λ k h. let d = on-round n last last-below k h in rw (d .3) at (means ((last + d .0) % n) (all (d .0) (d .1) (omega arith))))
       go (found d p q z free all) = takes ((last + d) % n) z (mod-lt (last + d) (omega arith))
           (record {
             distance = d;

@@ -51,6 +51,7 @@ module _ (y : Machine) (k : ℕ) (c : Task) where
     last-node = f .last-node;
     last-bucket = f .last-bucket;
     head-sized = f .head-sized;
+    chosen = f .chosen;
     node = λ j h. record {
       size-ok = f .node j h .size-ok;
       pred-ok = link-put (pred (y .nodes) j) (f .node j h .pred-ok);

@@ -1,5 +1,5 @@
-// The state lent by `&mut`, above the core that passes it by value: a start or a step moves the lent state on. `turn` and `begin`
-// lend a local state, so that a caller has the same with the state by value.
+// The state lent by `&mut`, above the core that passes it by value: a start or a step moves the lent state on. `step_local` and
+// `start_local` lend a local state, so that a caller has the same with the state by value.
 use lines::Stepped;
 use spec::Call;
 use spec::Output;
@@ -21,8 +21,8 @@ pub fn step(s: &mut State, k: u32, ns: &mut [u32], bs: &mut [u32]) -> Output
     lent_parts::out_of(d)
 }
 
-// A turn of the main loop: it lends its state to a step, and has it back.
-pub fn turn(s: State, k: u32, ns: &mut [u32], bs: &mut [u32]) -> Stepped
+// The main loop lends its state to a step, and has it back.
+pub fn step_local(s: State, k: u32, ns: &mut [u32], bs: &mut [u32]) -> Stepped
     ensures { λ r. ⌜ reply-of r (now (ns .exit)) (now (bs .exit)) ≡ step (machine-of s (now (ns .entry)) (now (bs .entry))) k ⌝ }
 {
     let mut t = s;
@@ -43,7 +43,7 @@ pub fn start(s: &mut State, k: u32, call: Call, tag: u32, ns: &[u32], bs: &[u32]
 }
 
 // The main loop lends its state to a start, and has it back.
-pub fn begin(s: State, k: u32, call: Call, tag: u32, ns: &[u32], bs: &[u32]) -> Stepped
+pub fn start_local(s: State, k: u32, call: Call, tag: u32, ns: &[u32], bs: &[u32]) -> Stepped
     ensures { λ r. ⌜ reply-of r (now (ns .entry)) (now (bs .entry)) ≡ start (machine-of s (now (ns .entry)) (now (bs .entry))) k call tag ⌝ }
 {
     let mut t = s;

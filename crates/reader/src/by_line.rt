@@ -55,7 +55,7 @@ fn start_task(r: Reader, k: u32, call: Call, tag: u32, ns: &[u32], bs: &[u32]) -
     let a = session_state::pools::node_extent(header.nodes, ns.len());
     let b = session_state::pools::bucket_extent(header.buckets, bs.len());
     let before = r.state;
-    let d = lent::begin(before, k, call, tag, &ns[..a], &bs[..b]);
+    let d = lent::start_local(before, k, call, tag, &ns[..a], &bs[..b]);
     let answered = d.out;
     let m = d.state;
     let next = reader_state::next_number(r.number);
@@ -75,7 +75,7 @@ fn step_task(r: Reader, k: u32, ns: &mut [u32], bs: &mut [u32]) -> Reader
     let a = session_state::pools::node_extent(header.nodes, ns.len());
     let b = session_state::pools::bucket_extent(header.buckets, bs.len());
     let before = r.state;
-    let d = lent::turn(before, k, &mut ns[..a], &mut bs[..b]);
+    let d = lent::step_local(before, k, &mut ns[..a], &mut bs[..b]);
     let answered = d.out;
     let m = d.state;
     let next = reader_state::next_number(r.number);

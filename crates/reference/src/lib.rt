@@ -1,4 +1,4 @@
-// A second implementation of the yard set of paper 01, with requests U1 to U3 of paper 02, to be compared word by word with the first.
+// A second implementation of the yard set of paper 01, with requests U1 to U3 and U7 of paper 02, to be compared word by word with the first.
 // Its shape: state, pools, what is asked and the reply are words of one memory (reference_words::words has their addresses). The paper's lines are
 // the rows of a table of letters (reference_words::table); a letter stands for something that a line can see, a number (sight.rt). A call first
 // works out what it gives and what every word becomes, from unchanged memory, then stores (stores.rt). Spoilt memory is found word by word, held
@@ -23,6 +23,7 @@ use reference_words::words::B;
 use reference_words::words::BEFORE;
 use reference_words::words::BUCKET_WORDS;
 use reference_words::words::BUCKETS;
+use reference_words::words::CHOSEN;
 use reference_words::words::FREE;
 use reference_words::words::LINE;
 use reference_words::words::MADE;
@@ -40,6 +41,7 @@ use reference_words::words::copy;
 use reference_words::words::either;
 use reference_words::words::field_at;
 use reference_words::words::get;
+use reference_words::words::less_1;
 use reference_words::words::node;
 use reference_words::words::plus;
 use reference_words::words::put;
@@ -83,6 +85,7 @@ fn opening_refusal(w: &[u32]) -> u32 {
 }
 
 // "Opening zeroes both pools, puts changeable empty bucket 0 into node 0 of size 1, makes it head, and sets both "last taken" to 0; no task runs."
+// Of the last one chosen "an opening sets T − 1".
 fn write_opening(w: &mut [u32]) {
     put_words(
         w,
@@ -98,13 +101,14 @@ fn write_opening(w: &mut [u32]) {
     clear(w, BUCKETS, BUCKETS + get(w, BUCKET_WORDS) as usize);
     put_words(w, NODES, &[1, 0, 1]);
     put(w, BUCKETS, 1);
+    put(w, CHOSEN, less_1(get(w, ASKED_K)));
 }
 
 // "A refused opening gives a state of all zeros."
 fn open(w: &mut [u32]) {
     let why = opening_refusal(w);
     clear(w, T, STATE_END);
-    put_words(w, REPLY, &[either(why == 0, 0, 2), why, 0, 0]);
+    put_words(w, REPLY, &[either(why == 0, 0, 2), why, 0, 0, 0]);
     if why == 0 {
         write_opening(w);
     }
@@ -228,7 +232,7 @@ fn tags_afterwards(w: &[u32]) -> u32 {
 }
 
 // The reply. Kind 0: the task is at line `value` (an opening: 0; a list or a show: the count). 1: the call ended with answer `value` (1 yes, 2 no,
-// 3 full, 4 done, 5 lost, 6 limit), own steps and tags afterwards. 2: refused with number `value`.
+// 3 full, 4 done, 5 lost, 6 limit), own steps and tags afterwards. 2: refused with number `value`. 3: nothing runs, of a turn.
 fn accept(w: &mut [u32]) {
     let end = ends(w);
     put_words(
@@ -239,6 +243,7 @@ fn accept(w: &mut [u32]) {
             value(w),
             either(end, sight::own_after(w), 0),
             either(end, tags_afterwards(w), 0),
+            0,
         ],
     );
     stores::store(w);
@@ -250,17 +255,52 @@ fn enter(w: &mut [u32]) {
     if why == 0 {
         return accept(w);
     }
-    put_words(w, REPLY, &[2, why, 0, 0]);
+    put_words(w, REPLY, &[2, why, 0, 0, 0]);
+}
+
+// "going round from the last one chosen, .. and passing idle tasks": the first running task after it, itself tried as the last. An idle one where
+// nothing runs: there are at most eight to try.
+fn next_running(w: &[u32]) -> u32 {
+    let mut k = get(w, CHOSEN);
+    let mut tried: u32 = 0;
+    while tried < 8 {
+        let next = rest(plus(k, 1), get(w, T));
+        k = next;
+        if get(w, field_at(k, 0)) != 0 {
+            return k;
+        }
+        tried += 1;
+    }
+    k
+}
+
+// A turn is a step of that task. "A step refused by lack of records uses up its turn: the last one chosen, kept in the state, moves and no other word
+// does." With 6 an idle task was left: "If nothing runs it says idle and changes nothing." With 8 nothing was chosen.
+fn turn(w: &mut [u32]) {
+    let k = next_running(w);
+    put_words(w, WHAT, &[0, k]);
+    enter(w);
+    let why = get(w, WHY);
+    match why {
+        0 | 7 => {
+            put(w, CHOSEN, k);
+            put(w, REPLY + 4, plus(k, 1));
+        }
+        6 => put_words(w, REPLY, &[3, 0]),
+        _ => (),
+    }
 }
 
 // What WHAT asks: a step of task ASKED_K (0), the start of a call of it with ASKED_TAG (1 insert, 2 remove, 3 contains, 4 grow, 5 shrink), a list
-// into so many words (6), a show of this bucket (7), an opening with so many tasks, ASKED_TAG the version (8); nothing for other numbers.
+// into so many words (6), a show of this bucket (7), an opening with so many tasks, ASKED_TAG the version (8), a turn (9); nothing for other numbers.
 pub fn act(w: &mut [u32]) {
     let what = get(w, WHAT);
     if what < 8 {
         return enter(w);
     }
-    if what == 8 {
-        open(w);
+    match what {
+        8 => open(w),
+        9 => turn(w),
+        _ => (),
     }
 }

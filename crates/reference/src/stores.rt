@@ -32,6 +32,7 @@ use reference_words::words::either;
 use reference_words::words::field_at;
 use reference_words::words::get;
 use reference_words::words::head;
+use reference_words::words::less_1;
 use reference_words::words::node_at;
 use reference_words::words::plus;
 use reference_words::words::put;
@@ -115,18 +116,14 @@ fn word_at(w: &[u32]) -> usize {
     }
 }
 
+// The number of the record in a place is 1 less.
 fn word_stored(w: &[u32], old: u32) -> u32 {
     let line = get(w, LINE);
     match line {
-        28 => either(head(w) == get(w, AT_T), number(get(w, NEW_NODE)), old),
+        28 => either(head(w) == get(w, AT_T), less_1(get(w, NEW_NODE)), old),
         50 => either(old == 0, get(w, NEW_BUCKET), old),
         _ => 0,
     }
-}
-
-// The number of the record in a place.
-fn number(place: u32) -> u32 {
-    if place == 0 { 0 } else { place - 1 }
 }
 
 fn last_at(w: &[u32]) -> usize {
@@ -181,7 +178,7 @@ fn store_pools(w: &mut [u32]) {
     let v = word_stored(w, get(w, one));
     put(w, one, v);
     copy(w, MADE, record_at(w), record_words(w));
-    put(w, last_at(w), number(get(w, FREE)));
+    put(w, last_at(w), less_1(get(w, FREE)));
 }
 
 // The task's record is made first, from memory as it was.

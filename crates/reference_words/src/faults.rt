@@ -4,6 +4,7 @@ use super::table::entry;
 use super::words::B;
 use super::words::BUCKET_WORDS;
 use super::words::BUCKETS;
+use super::words::CHOSEN;
 use super::words::H;
 use super::words::HEAD;
 use super::words::LAST_BUCKET;
@@ -43,13 +44,14 @@ fn bad_node(w: &[u32], place: u32) -> bool {
 }
 
 // "a record number is past its pool", of the head and of both last taken; "A yard is opened for version 1 or 2 and its state keeps the version
-// (another there is 8)".
+// (another there is 8)"; of the last one chosen "T or more is 8".
 fn bad_header_word(w: &[u32], at: usize) -> bool {
     match at {
         VERSION => outside(get(w, VERSION), 1, 2),
         HEAD => get(w, H) <= get(w, HEAD) || bad_node(w, head(w)),
         LAST_NODE => get(w, H) <= get(w, LAST_NODE),
         LAST_BUCKET => get(w, B) <= get(w, LAST_BUCKET),
+        CHOSEN => get(w, T) <= get(w, CHOSEN),
         _ => false,
     }
 }
@@ -112,7 +114,7 @@ fn bad_bucket_word(w: &[u32], k: usize, j: usize, x: u32) -> bool {
 
 fn bad_word(w: &[u32], at: usize) -> bool {
     let x = get(w, at);
-    if at < RECORDS {
+    if at < RECORDS || at == CHOSEN {
         return bad_header_word(w, at);
     }
     if at < NODES {

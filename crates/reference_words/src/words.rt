@@ -18,11 +18,15 @@ pub const LAST_BUCKET: usize = 6;
 
 pub const RECORDS: usize = 7;
 
-pub const STATE_END: usize = 111;
-// The reply: kind, value, own steps, a bucket's tags plus 1. Then words that are lent to a list, and the lengths of the two slices that are lent.
+// The task chosen last, after the tasks.
+pub const CHOSEN: usize = 111;
+
+pub const STATE_END: usize = 112;
+// The reply: kind, value, own steps, a bucket's tags plus 1, the task of a turn plus 1. Then words that are lent to a list, and the lengths of the two
+// slices that are lent.
 pub const REPLY: usize = 120;
 
-pub const LENT: usize = 124;
+pub const LENT: usize = 125;
 
 pub const NODE_WORDS: usize = 198;
 
@@ -193,6 +197,11 @@ pub fn either(yes: bool, a: u32, b: u32) -> u32 {
 // A sum of numbers below a million, as sizes, places and counts are.
 pub fn plus(x: u32, y: u32) -> u32 {
     x % 1000000 + y % 1000000
+}
+
+// x - 1, and 0 for 0.
+pub fn less_1(x: u32) -> u32 {
+    if x == 0 { 0 } else { x - 1 }
 }
 
 // "Buckets in a node: 1, 2, 4, 8, 16 or 32."

@@ -27,7 +27,7 @@ fn start_task(
     let a = session_state::pools::node_extent(header.nodes, ns.len());
     let b = session_state::pools::bucket_extent(header.buckets, bs.len());
     let before = s.state;
-    let d = lent::begin(before, k, call, tag, &ns[..a], &bs[..b]);
+    let d = lent::start_local(before, k, call, tag, &ns[..a], &bs[..b]);
     let answered = d.out;
     let m = d.state;
     let c = session_print::output(out, 0, k, answered);
@@ -42,7 +42,7 @@ fn step_task(s: Session, k: u32, ns: &mut [u32], bs: &mut [u32], out: &mut [u8])
     let a = session_state::pools::node_extent(header.nodes, ns.len());
     let b = session_state::pools::bucket_extent(header.buckets, bs.len());
     let before = s.state;
-    let d = lent::turn(before, k, &mut ns[..a], &mut bs[..b]);
+    let d = lent::step_local(before, k, &mut ns[..a], &mut bs[..b]);
     let answered = d.out;
     let m = d.state;
     let c = session_print::output(out, 0, k, answered);

@@ -155,7 +155,7 @@ fn numbers_ok(s: State, ns: &[u32], bs: &[u32]) -> bool
     let b = s.buckets;
     let node_words = pool::NODE_WORDS * (h as usize);
     let bucket_words = pool::BUCKET_WORDS * (b as usize);
-    let w: [bool; 9] = [
+    let w: [bool; 10] = [
         config_ok(g),
         sound_records::within(1, pool::MOST_NODES, h),
         sound_records::within(1, pool::MOST_BUCKETS, b),
@@ -165,6 +165,7 @@ fn numbers_ok(s: State, ns: &[u32], bs: &[u32]) -> bool
         s.last_node < h,
         s.last_bucket < b,
         pool::size_at(ns, s.head) != 0,
+        s.chosen < g.tasks,
     ];
     sound_records::all_true(&w)
 }

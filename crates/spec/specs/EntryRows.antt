@@ -44,6 +44,11 @@ pub openings-refused :
 unfolding everything opened not-opened-by
 openings-refused = refl
 
+-- paper 02, U7: "an opening sets T − 1", so that task 0 is first; a refused one gives zeros
+pub opened-chosen : map (λ k. opened (config-of k) 34 66 .machine .state .chosen) (1 ∷ 2 ∷ 8 ∷ 9 ∷ []) ≡ 0 ∷ 1 ∷ 7 ∷ 0 ∷ []
+unfolding everything opened
+opened-chosen = refl
+
 -- ---- starts: a small yard with these tasks
 
 unfoldable pub small : List Task → Machine

@@ -1,6 +1,6 @@
 -- The machine: the state with both pools, and its parts replaced one at a time (antt has no record update). A State and a Task
 -- are built here and nowhere else, so that a later field is added in this file alone. Assumes nothing.
-use Prim.Native.Nat.{ℕ}
+use Prim.Native.Nat.{ℕ, _-_}
 use mathlib.Core.List.{List}
 use mathlib.Core.Bool.{true, false}
 use lib.ListN.{getD, set, replicate}
@@ -20,16 +20,19 @@ machine-of s ns bs = record { state = s; nodes = ns; buckets = bs }
 -- ---- parts of the state and the pools
 
 unfoldable pub state-head : ℕ → State → State
-state-head v s = record { config = s .config; nodes = s .nodes; buckets = s .buckets; head = v; «last_node» = s .«last_node»; «last_bucket» = s .«last_bucket»; task = s .task }
+state-head v s = record { config = s .config; nodes = s .nodes; buckets = s .buckets; head = v; «last_node» = s .«last_node»; «last_bucket» = s .«last_bucket»; chosen = s .chosen; task = s .task }
 
 unfoldable pub state-last-node : ℕ → State → State
-state-last-node v s = record { config = s .config; nodes = s .nodes; buckets = s .buckets; head = s .head; «last_node» = v; «last_bucket» = s .«last_bucket»; task = s .task }
+state-last-node v s = record { config = s .config; nodes = s .nodes; buckets = s .buckets; head = s .head; «last_node» = v; «last_bucket» = s .«last_bucket»; chosen = s .chosen; task = s .task }
 
 unfoldable pub state-last-bucket : ℕ → State → State
-state-last-bucket v s = record { config = s .config; nodes = s .nodes; buckets = s .buckets; head = s .head; «last_node» = s .«last_node»; «last_bucket» = v; task = s .task }
+state-last-bucket v s = record { config = s .config; nodes = s .nodes; buckets = s .buckets; head = s .head; «last_node» = s .«last_node»; «last_bucket» = v; chosen = s .chosen; task = s .task }
+
+unfoldable pub state-chosen : ℕ → State → State
+state-chosen v s = record { config = s .config; nodes = s .nodes; buckets = s .buckets; head = s .head; «last_node» = s .«last_node»; «last_bucket» = s .«last_bucket»; chosen = v; task = s .task }
 
 unfoldable pub state-task : List Task → State → State
-state-task v s = record { config = s .config; nodes = s .nodes; buckets = s .buckets; head = s .head; «last_node» = s .«last_node»; «last_bucket» = s .«last_bucket»; task = v }
+state-task v s = record { config = s .config; nodes = s .nodes; buckets = s .buckets; head = s .head; «last_node» = s .«last_node»; «last_bucket» = s .«last_bucket»; chosen = s .chosen; task = v }
 
 unfoldable pub with-state : State → Machine → Machine
 with-state s y = record { state = s; nodes = y .nodes; buckets = y .buckets }
@@ -48,6 +51,9 @@ with-last-node k y = with-state (state-last-node k (y .state)) y
 
 unfoldable pub with-last-bucket : ℕ → Machine → Machine
 with-last-bucket k y = with-state (state-last-bucket k (y .state)) y
+
+unfoldable pub with-chosen : ℕ → Machine → Machine
+with-chosen k y = with-state (state-chosen k (y .state)) y
 
 unfoldable pub with-task : List Task → Machine → Machine
 with-task ts y = with-state (state-task ts (y .state)) y
@@ -124,10 +130,10 @@ abbrev pub zero-config : Config
 zero-config = record { tasks = 0; version = 0 }
 
 -- "The state holds T, H, B, the head node, the node and the bucket last taken, and a record for each of eight tasks": as an
--- opening leaves it, with no task running
+-- opening leaves it, with no task running. Paper 02, U7: "the last one chosen, kept in the state": "an opening sets T − 1"; of no tasks, 0
 unfoldable pub state-of : Config → ℕ → ℕ → State
 state-of g h b =
-    record { config = g; nodes = h; buckets = b; head = 0; «last_node» = 0; «last_bucket» = 0; task = replicate 8 idle }
+    record { config = g; nodes = h; buckets = b; head = 0; «last_node» = 0; «last_bucket» = 0; chosen = g .tasks - 1; task = replicate 8 idle }
 
 -- task k's record, idle past the end; task k's record replaced
 unfoldable pub task-of : Machine → ℕ → Task

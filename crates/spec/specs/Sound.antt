@@ -36,7 +36,7 @@ node-count y = y .state .nodes
 abbrev pub bucket-count : Machine → ℕ
 bucket-count y = y .state .buckets
 
--- ---- T, H, B, the slices' lengths, the head and the records last taken
+-- ---- T, H, B, the slices' lengths, the head, the records last taken and the task last chosen
 
 -- paper 02, U3: "version 1 or 2"
 abbrev pub version-known : Config → Bool
@@ -73,6 +73,10 @@ last-bucket-in-pool y = ltb (y .state .«last_bucket») (bucket-count y)
 abbrev pub head-used : Machine → Bool
 head-used y = not (eqb (size (y .nodes) (y .state .head)) 0)
 
+-- paper 02, U7: the last one chosen; "T or more is 8"
+abbrev pub chosen-below-T : Machine → Bool
+chosen-below-T y = ltb (y .state .chosen) (task-count y)
+
 unfoldable pub sound-numbers : Machine → Bool
 sound-numbers y =
     all-true
@@ -85,6 +89,7 @@ sound-numbers y =
     ∷ last-node-in-pool y
     ∷ last-bucket-in-pool y
     ∷ head-used y
+    ∷ chosen-below-T y
     ∷ [])
 
 -- ---- links

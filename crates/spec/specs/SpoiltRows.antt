@@ -9,7 +9,7 @@ use Rattle.spec.specs.declared.Call.the-variants.{Insert}
 use Rattle.spec.specs.declared.Listing.the-variants.{Refused}
 use Rattle.spec.specs.declared.Output.the-variants.{Refuse}
 use Rattle.spec.specs.Lists.{range}
-use Rattle.spec.specs.Machine.{Machine, machine-of, config-of}
+use Rattle.spec.specs.Machine.{Machine, machine-of, config-of, with-chosen}
 use Rattle.spec.specs.Entries.{Reply, Written, start, step, list, show}
 use Rattle.spec.specs.Everything.{everything}
 use Rattle.spec.specs.WholeRows.{config_H_B_head_last-node_last-bucket_tasks_, node, bucket, pool, whole-rows}
@@ -52,16 +52,17 @@ unfoldable pub numbered : ℕ → ℕ → ℕ → ℕ → Machine
 numbered t' k ln lb =
     machine-of (config (config-of t') H 3 B 2 head k last-node ln last-bucket lb tasks []) (pool some-nodes) (pool some-buckets)
 
--- T 0 and 9; the head, the node and the bucket last taken past their pools
+-- T 0 and 9; the head, the node and the bucket last taken past their pools; the last one chosen T
 unfoldable pub spoilt-numbers : List Machine
-spoilt-numbers = numbered 0 0 0 0 ∷ numbered 9 0 0 0 ∷ numbered 2 3 0 0 ∷ numbered 2 0 3 0 ∷ numbered 2 0 0 2 ∷ []
+spoilt-numbers =
+    numbered 0 0 0 0 ∷ numbered 9 0 0 0 ∷ numbered 2 3 0 0 ∷ numbered 2 0 3 0 ∷ numbered 2 0 0 2 ∷ with-chosen 2 (numbered 2 0 0 0) ∷ []
 
 pub numbers-spoilt : map said spoilt-numbers ≡ map spoilt spoilt-numbers
 unfolding everything whole-rows said refusing spoilt some-nodes some-buckets numbered spoilt-numbers
 numbers-spoilt = refl
 
 unfoldable pub right-numbers : List Machine
-right-numbers = numbered 1 0 0 0 ∷ numbered 8 0 0 0 ∷ numbered 2 1 2 1 ∷ []
+right-numbers = numbered 1 0 0 0 ∷ numbered 8 0 0 0 ∷ numbered 2 1 2 1 ∷ with-chosen 0 (numbered 2 0 0 0) ∷ []
 
 pub numbers-sound : map said right-numbers ≡ map sound-with-5 right-numbers
 unfolding everything whole-rows said refusing sound-with-5 some-nodes some-buckets numbered right-numbers

@@ -64,7 +64,8 @@ pub struct Config {
     pub version: u32,
 }
 
-// The state: what it was opened with, H, B, the head, the node and the bucket last taken, and eight tasks, those from T on idle.
+// The state: what it was opened with, H, B, the head, the node and the bucket last taken, the task that a dispatcher chose last, and
+// eight tasks, those from T on idle.
 pub struct State {
     pub config: Config,
     pub nodes: u32,
@@ -72,5 +73,6 @@ pub struct State {
     pub head: u32,
     pub last_node: u32,
     pub last_bucket: u32,
+    pub chosen: u32,
     pub task: [Task; 8],
 }

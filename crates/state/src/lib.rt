@@ -4,6 +4,7 @@ use spec::Config;
 use spec::State;
 use spec::Task;
 ghost use mathlib.Core.Path.{_≡_};
+ghost use Prim.Native.Nat.{_-_};
 ghost use Rattle.spec.specs.Machine.{config-of, with-version, zero-config, idle, fresh-task, state-of};
 
 // ---- a task's record
@@ -79,11 +80,22 @@ pub fn zero_config() -> Config
     }
 }
 
+// The task before which task 0 comes, going round: T − 1; 0 if there is none.
+fn last_task(tasks: u32) -> u32
+    ensures { λ r. ⌜ r ≡ tasks - 1 ⌝ }
+{
+    if tasks == 0 {
+        return 0;
+    }
+    tasks - 1
+}
+
 // The state as an opening leaves it, with no task running: h nodes and b buckets.
 pub fn fresh_state(g: Config, h: u32, b: u32) -> State
     ensures { λ r. ⌜ r ≡ state-of g h b ⌝ }
 {
     let c = idle();
+    let chosen = last_task(g.tasks);
     State {
         config: g,
         nodes: h,
@@ -91,6 +103,7 @@ pub fn fresh_state(g: Config, h: u32, b: u32) -> State
         head: 0,
         last_node: 0,
         last_bucket: 0,
+        chosen,
         task: [c; 8],
     }
 }

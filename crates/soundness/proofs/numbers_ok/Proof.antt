@@ -43,7 +43,7 @@ all-true-requires c κs = search needs
 returns : tie.Need-returns
 unfolding sound-numbers
 returns c =
-    let at-head = c .before .before in
+    let at-head = c .before .before .before .before in
     let at-B = at-head .before .before .before .before in
     let at-H = at-B .before in
     let at-config = at-H .before in
@@ -57,6 +57,7 @@ returns c =
     also refl
     also refl
     also ap (λ (z : ℕ). not (eqb z 0)) (at-head .size-at .ensures)
+    also refl
     also no-more))
 
 pub numbers-ok-spec : {M : Type 1} → statement M

@@ -21,9 +21,6 @@ loop-holds c = search needs
 task-at-requires-2 : tie.Need-task-at-requires-2 Inv-loop μ-loop
 task-at-requires-2 c κs = search needs
 
-cast-ts : tie.Need-cast-ts Inv-loop μ-loop
-cast-ts c = search needs
-
 mul-ts : tie.Need-mul-ts Inv-loop μ-loop
 mul-ts c = search needs
 
@@ -38,9 +35,6 @@ loop-less c = search needs
 
 loop-again : tie.Need-loop-again Inv-loop μ-loop
 loop-again c = search needs
-
-config-of-requires : tie.Need-config-of-requires Inv-loop μ-loop
-config-of-requires c κs = search needs
 
 get-requires : tie.Need-get-requires Inv-loop μ-loop
 get-requires c κs = search needs
@@ -57,6 +51,15 @@ get-requires-4 c κs = search needs
 get-requires-5 : tie.Need-get-requires-5 Inv-loop μ-loop
 get-requires-5 c κs = search needs
 
+get-requires-6 : tie.Need-get-requires-6 Inv-loop μ-loop
+get-requires-6 c κs = search needs
+
+get-requires-7 : tie.Need-get-requires-7 Inv-loop μ-loop
+get-requires-7 c κs = search needs
+
+get-requires-8 : tie.Need-get-requires-8 Inv-loop μ-loop
+get-requires-8 c κs = search needs
+
 returns : tie.Need-returns Inv-loop μ-loop
 returns c = search needs
 
@@ -69,16 +72,17 @@ state-of-spec =
     task-at-requires
     loop-holds
     task-at-requires-2
-    cast-ts
     mul-ts
     array-set-from-ts
     add-k
     loop-less
     loop-again
-    config-of-requires
     get-requires
     get-requires-2
     get-requires-3
     get-requires-4
     get-requires-5
+    get-requires-6
+    get-requires-7
+    get-requires-8
     returns)

@@ -1,4 +1,4 @@
--- `reader::by_line::step_task` meets its contract. The contract of `lent::turn` over the reader's part of the pools, put back into the whole of them. Assumes nothing.
+-- `reader::by_line::step_task` meets its contract. The contract of `lent::step_local` over the reader's part of the pools, put back into the whole of them. Assumes nothing.
 use mathlib.Core.Path.{sym}
 use denote.Ref.{now}
 use lib.Seq.{length-take-le}
@@ -15,26 +15,26 @@ node-extent-requires c κs = search needs
 bucket-extent-requires : tie.Need-bucket-extent-requires
 bucket-extent-requires c κs = search needs
 
-slice-relend-prefix-turn : tie.Need-slice-relend-prefix-turn
-slice-relend-prefix-turn c = search needs
+slice-relend-prefix-step-local : tie.Need-slice-relend-prefix-step-local
+slice-relend-prefix-step-local c = search needs
 
-slice-aggregate-turn : tie.Need-slice-aggregate-turn
-slice-aggregate-turn c =
+slice-aggregate-step-local : tie.Need-slice-aggregate-step-local
+slice-aggregate-step-local c =
     let at-node-extent = c .before .before .before in
     let entry = at-node-extent .before .before .before .before in
     sym (length-take-le (at-node-extent .node-extent .result) (now (entry .args .ns)) (at-node-extent .node-extent .ensures .1))
 
-slice-relend-prefix-turn-2 : tie.Need-slice-relend-prefix-turn-2
-slice-relend-prefix-turn-2 c = search needs
+slice-relend-prefix-step-local-2 : tie.Need-slice-relend-prefix-step-local-2
+slice-relend-prefix-step-local-2 c = search needs
 
-slice-aggregate-turn-2 : tie.Need-slice-aggregate-turn-2
-slice-aggregate-turn-2 c =
+slice-aggregate-step-local-2 : tie.Need-slice-aggregate-step-local-2
+slice-aggregate-step-local-2 c =
     let at-bucket-extent = c .before .before .before in
     let entry = at-bucket-extent .before .before .before .before .before in
     sym (length-take-le (at-bucket-extent .bucket-extent .result) (now (entry .args .bs)) (at-bucket-extent .bucket-extent .ensures .1))
 
-turn-requires : tie.Need-turn-requires
-turn-requires c κs = search needs
+step-local-requires : tie.Need-step-local-requires
+step-local-requires c κs = search needs
 
 next-number-requires : tie.Need-next-number-requires
 next-number-requires c κs = search needs
@@ -48,14 +48,14 @@ same-length-2 c = search needs
 returns : tie.Need-returns
 unfolding event task-in
 returns c =
-    let at-turn = c .before .before .before .before .before .before in
-    let at-bucket-extent = at-turn .before .before .before .before in
+    let at-step-local = c .before .before .before .before .before .before in
+    let at-bucket-extent = at-step-local .before .before .before .before in
     let at-node-extent = at-bucket-extent .before in
     let call = at-node-extent .before .before .before .before .args in
     let a = at-node-extent .node-extent in
     let b = at-bucket-extent .bucket-extent in
     runs (call .r) (now (call .ns)) (now (call .bs)) (a .result) (b .result) (a .ensures .0) (b .ensures .0)
-    (steps (call .k)) (at-turn .turn .result) _ _ _ (at-turn .turn .ensures) (c .next-number .ensures)
+    (steps (call .k)) (at-step-local .step-local .result) _ _ _ (at-step-local .step-local .ensures) (c .next-number .ensures)
 
 pub step-task-spec : {M : Type 1} → statement M
 step-task-spec =
@@ -63,11 +63,11 @@ step-task-spec =
     (tie.spec
     node-extent-requires
     bucket-extent-requires
-    slice-relend-prefix-turn
-    slice-aggregate-turn
-    slice-relend-prefix-turn-2
-    slice-aggregate-turn-2
-    turn-requires
+    slice-relend-prefix-step-local
+    slice-aggregate-step-local
+    slice-relend-prefix-step-local-2
+    slice-aggregate-step-local-2
+    step-local-requires
     next-number-requires
     same-length
     same-length-2

@@ -16,21 +16,21 @@ node-extent-requires c κs = search needs
 bucket-extent-requires : tie.Need-bucket-extent-requires
 bucket-extent-requires c κs = search needs
 
-slice-aggregate-begin : tie.Need-slice-aggregate-begin
-slice-aggregate-begin c =
+slice-aggregate-start-local : tie.Need-slice-aggregate-start-local
+slice-aggregate-start-local c =
     let at-node-extent = c .before .before .before in
     let entry = at-node-extent .before .before .before .before .before in
     sym (length-take-le (at-node-extent .node-extent .result) (now (entry .args .ns)) (at-node-extent .node-extent .ensures .1))
 
-slice-aggregate-begin-2 : tie.Need-slice-aggregate-begin-2
-slice-aggregate-begin-2 c =
+slice-aggregate-start-local-2 : tie.Need-slice-aggregate-start-local-2
+slice-aggregate-start-local-2 c =
     let at-bucket-extent = c .before .before .before in
     let entry = at-bucket-extent .before .before .before .before .before .before in
     sym
     (length-take-le (at-bucket-extent .bucket-extent .result) (now (entry .args .bs)) (at-bucket-extent .bucket-extent .ensures .1))
 
-begin-requires : tie.Need-begin-requires
-begin-requires c κs = search needs
+start-local-requires : tie.Need-start-local-requires
+start-local-requires c κs = search needs
 
 output-requires : tie.Need-output-requires
 output-requires c κs = search needs
@@ -44,8 +44,8 @@ same-length c = search needs
 returns : tie.Need-returns
 returns c =
     let at-output = c .before .before .before in
-    let at-begin = at-output .before .before .before in
-    let at-bucket-extent = at-begin .before .before .before .before in
+    let at-start = at-output .before .before .before in
+    let at-bucket-extent = at-start .before .before .before .before in
     let at-node-extent = at-bucket-extent .before in
     let entry = at-node-extent .before .before .before .before .before in
     let call = entry .args in
@@ -53,7 +53,7 @@ returns c =
     let b = at-bucket-extent .bucket-extent in
     line-as _ _ _ _ _ _ _ (c .after-line .ensures)
     (replies-reading (call .s) (now (call .ns)) (now (call .bs)) (a .result) (b .result) (a .ensures .0) (b .ensures .0) (call .k)
-    (λ y. start y (call .k) (call .call) (call .tag)) (at-begin .begin .result) _ _ _ (at-begin .begin .ensures) (at-output .output .ensures))
+    (λ y. start y (call .k) (call .call) (call .tag)) (at-start .start-local .result) _ _ _ (at-start .start-local .ensures) (at-output .output .ensures))
 
 pub start-task-spec : {M : Type 1} → statement M
 start-task-spec =
@@ -61,9 +61,9 @@ start-task-spec =
     (tie.spec
     node-extent-requires
     bucket-extent-requires
-    slice-aggregate-begin
-    slice-aggregate-begin-2
-    begin-requires
+    slice-aggregate-start-local
+    slice-aggregate-start-local-2
+    start-local-requires
     output-requires
     after-line-requires
     same-length

@@ -16,27 +16,27 @@ node-extent-requires c κs = search needs
 bucket-extent-requires : tie.Need-bucket-extent-requires
 bucket-extent-requires c κs = search needs
 
-slice-relend-prefix-turn : tie.Need-slice-relend-prefix-turn
-slice-relend-prefix-turn c = search needs
+slice-relend-prefix-step-local : tie.Need-slice-relend-prefix-step-local
+slice-relend-prefix-step-local c = search needs
 
-slice-aggregate-turn : tie.Need-slice-aggregate-turn
-slice-aggregate-turn c =
+slice-aggregate-step-local : tie.Need-slice-aggregate-step-local
+slice-aggregate-step-local c =
     let at-node-extent = c .before .before .before in
     let entry = at-node-extent .before .before .before .before .before in
     sym (length-take-le (at-node-extent .node-extent .result) (now (entry .args .ns)) (at-node-extent .node-extent .ensures .1))
 
-slice-relend-prefix-turn-2 : tie.Need-slice-relend-prefix-turn-2
-slice-relend-prefix-turn-2 c = search needs
+slice-relend-prefix-step-local-2 : tie.Need-slice-relend-prefix-step-local-2
+slice-relend-prefix-step-local-2 c = search needs
 
-slice-aggregate-turn-2 : tie.Need-slice-aggregate-turn-2
-slice-aggregate-turn-2 c =
+slice-aggregate-step-local-2 : tie.Need-slice-aggregate-step-local-2
+slice-aggregate-step-local-2 c =
     let at-bucket-extent = c .before .before .before in
     let entry = at-bucket-extent .before .before .before .before .before .before in
     sym
     (length-take-le (at-bucket-extent .bucket-extent .result) (now (entry .args .bs)) (at-bucket-extent .bucket-extent .ensures .1))
 
-turn-requires : tie.Need-turn-requires
-turn-requires c κs = search needs
+step-local-requires : tie.Need-step-local-requires
+step-local-requires c κs = search needs
 
 output-requires : tie.Need-output-requires
 output-requires c κs = search needs
@@ -56,8 +56,8 @@ same-length-3 c = search needs
 returns : tie.Need-returns
 returns c =
     let at-output = c .before .before .before in
-    let at-turn = at-output .before .before .before .before .before .before .before in
-    let at-bucket-extent = at-turn .before .before .before .before in
+    let at-step = at-output .before .before .before .before .before .before .before in
+    let at-bucket-extent = at-step .before .before .before .before in
     let at-node-extent = at-bucket-extent .before in
     let entry = at-node-extent .before .before .before .before .before in
     let call = entry .args in
@@ -65,7 +65,7 @@ returns c =
     let b = at-bucket-extent .bucket-extent in
     line-as _ _ _ _ _ _ _ (c .after-line .ensures)
     (replies (call .s) (now (call .ns)) (now (call .bs)) (a .result) (b .result) (a .ensures .0) (b .ensures .0) (call .k)
-    (λ y. step y (call .k)) (at-turn .turn .result) _ _ _ _ _ (at-turn .turn .ensures) (at-output .output .ensures))
+    (λ y. step y (call .k)) (at-step .step-local .result) _ _ _ _ _ (at-step .step-local .ensures) (at-output .output .ensures))
 
 pub step-task-spec : {M : Type 1} → statement M
 step-task-spec =
@@ -73,11 +73,11 @@ step-task-spec =
     (tie.spec
     node-extent-requires
     bucket-extent-requires
-    slice-relend-prefix-turn
-    slice-aggregate-turn
-    slice-relend-prefix-turn-2
-    slice-aggregate-turn-2
-    turn-requires
+    slice-relend-prefix-step-local
+    slice-aggregate-step-local
+    slice-relend-prefix-step-local-2
+    slice-aggregate-step-local-2
+    step-local-requires
     output-requires
     after-line-requires
     same-length

@@ -1,4 +1,4 @@
--- `lent::turn` meets its contract: a walk of its MIR by hand, since the borrow checker covers no function that makes a reference to a
+-- `lent::step_local` meets its contract: a walk of its MIR by hand, since the borrow checker covers no function that makes a reference to a
 -- struct. The local state is lent to `step` for a lifetime that the walk makes; the lifetime is ended and the state taken back at its
 -- last value, and the answer and that state are put together. Assumes nothing.
 use mathlib.Core.Path.{_≡_, refl, _∙_}
@@ -63,12 +63,12 @@ use Rattle.lent_parts.proofs.stepped as stepped
 use Rattle.lent_parts.proofs.stepped.Symbol as stepped-def
 use Rattle.lent_parts.proofs.stepped.Symbol.{name as #lent-parts·stepped}
 use Rattle.lent_parts.proofs.stepped.Met as stepped-thm
-use Rattle.lent.proofs.turn.Key.{name as #lent·turn}
-use Rattle.lent.proofs.turn as turn
-use Rattle.lent.proofs.turn.Statement as stated
-use Rattle.lent.proofs.turn.Code as code
+use Rattle.lent.proofs.step_local.Key.{name as #lent·step-local}
+use Rattle.lent.proofs.step_local as step-local
+use Rattle.lent.proofs.step_local.Statement as stated
+use Rattle.lent.proofs.step_local.Code as code
 
-abbrev stayed : Stays (turn.ended .signature .params) (turn.ended .kept)
+abbrev stayed : Stays (step-local.ended .signature .params) (step-local.ended .kept)
 stayed = (stay-none (λ _. S.the-row) yes, (stay-none (λ _. u32) yes, (gave-slice (0 ∷ []) tt (plain (λ _. u32)), (gave-slice (1 ∷ []) tt (plain (λ _. u32)), tt))))
 
 module _ {M : Type 1} (𝓤 : URA M) (H : Heap 𝓤) (A : Atoms 𝓤) (mm : Memory → SProp 𝓤) (run : Routine → Fun 𝓤) where
@@ -100,7 +100,7 @@ module _ {M : Type 1} (𝓤 : URA M) (H : Heap 𝓤) (A : Atoms 𝓤) (W : Given
   at = (machine-value h ∷ [], (vint w32 k ∷ [], (s₁ ∷ [], (s₂ ∷ [], tt))))
 
   abbrev Post : Val → SProp 𝓤
-  Post = walkOf 𝓤 H A turn.ended stayed (turn.clauses 𝓤 H A mm run) .post (((κ₁, (κ₂, tt)), (q₁, (q₂, tt)), tt, a, at), tt)
+  Post = walkOf 𝓤 H A step-local.ended stayed (step-local.clauses 𝓤 H A mm run) .post (((κ₁, (κ₂, tt)), (q₁, (q₂, tt)), tt, a, at), tt)
 
   -- the result d and the words us and vs are what the definition gives
   abbrev Answers : Stepped → List ℕ → List ℕ → Type 0
@@ -110,7 +110,7 @@ module _ {M : Type 1} (𝓤 : URA M) (H : Heap 𝓤) (A : Atoms 𝓤) (W : Given
       → ent 𝓤 (⋆ 𝓤 H A (‵ (D.the-row .own d (w ∷ [])) ∷ (‵ (flft κ₁ q₁) ⊛ (‵ (flft κ₂ q₂) ⊛ ‵ ftrue)) ∷ ‵ (finally u32 γ₁ us) ∷ ‵ (finally u32 γ₂ vs) ∷ [])) (Post w)
   exits is d w us vs e l₁ l₂ =
       qed W (‵ (D.the-row .own d (w ∷ [])) ∷ (‵ (flft κ₁ q₁) ⊛ (‵ (flft κ₂ q₂) ⊛ ‵ ftrue)) ∷ ‵ (finally u32 γ₁ us) ∷ ‵ (finally u32 γ₂ vs) ∷ []) ∵
-      suffices ! _ (ends-at 𝓤 H A turn.ended stayed (turn.clauses 𝓤 H A mm run) W (((κ₁, (κ₂, tt)), (q₁, (q₂, tt)), tt, a, at), tt) w d (tt, (tt, (us, (vs, tt)))) (tt, (tt, (l₁, (l₂, tt))))) $ says ! e $
+      suffices ! _ (ends-at 𝓤 H A step-local.ended stayed (step-local.clauses 𝓤 H A mm run) W (((κ₁, (κ₂, tt)), (q₁, (q₂, tt)), tt, a, at), tt) w d (tt, (tt, (us, (vs, tt)))) (tt, (tt, (l₁, (l₂, tt))))) $ says ! e $
       move ! (1 ∷ []) $ frame ! $ nothing ! $ move ! (3 ∷ 0 ∷ []) $ fjoin ! $ move ! (2 ∷ 0 ∷ []) $ fjoin ! $ owned ! u32 (Is u32) (uint-makes 𝓤 H A W w32) k _ (refl, k-fits) $ fjoin ! $
       owned ! S.the-row (Is S.the-row) (Struct.makes S.the-type S′.the-plain 𝓤 H A) h _ is $ fjoin ! $ done !
 
@@ -136,7 +136,7 @@ module _ {M : Type 1} (𝓤 : URA M) (H : Heap 𝓤) (A : Atoms 𝓤) (W : Given
   answers d p t us vs e e₁ = (λ i. answered (e₁ .0 i) (e₁ .1 i) us vs) ∙ e
 
   module _ (C : Calls 𝓤 H) (Λ : Loops 𝓤 H) (fm : FmC 𝓤 H (W .laws) C) (known-step : Triple 𝓤 (C #lent·step) (StepC 𝓤 H A mm run)) (known-stepped : Triple 𝓤 (C #lent-parts·stepped) (SteppedC 𝓤 H A mm run)) where
-    walk : Is S.the-row h (machine-value h ∷ []) → Room u32 (length ys) → Room u32 (length zs) → ent 𝓤 (onEntry 𝓤 H A turn.signature (κ₁, (κ₂, tt)) (q₁, (q₂, tt)) a at) (WpFn 𝓤 H C Λ code.function (machine-value h ∷ vint w32 k ∷ s₁ ∷ s₂ ∷ []) Post)
+    walk : Is S.the-row h (machine-value h ∷ []) → Room u32 (length ys) → Room u32 (length zs) → ent 𝓤 (onEntry 𝓤 H A step-local.signature (κ₁, (κ₂, tt)) (q₁, (q₂, tt)) a at) (WpFn 𝓤 H C Λ code.function (machine-value h ∷ vint w32 k ∷ s₁ ∷ s₂ ∷ []) Post)
     unfolding partOf
     walk is room₁ room₂ =
         -- A line in brackets says what the context holds there, in order: _i is the cell of local i, with what frees it after it; true
@@ -184,28 +184,28 @@ module _ {M : Type 1} (𝓤 : URA M) (H : Heap 𝓤) (A : Atoms 𝓤) (W : Given
         keep ! (0 ∷ 1 ∷ 4 ∷ 2 ∷ []) $ by ! (exits is d w (ws .1 .1 .0) (ws .1 .1 .1 .0) (answers d p (ws .0) (ws .1 .1 .0) (ws .1 .1 .1 .0) e e₁) m₁ m₂)))))))))))))))))))))))))))))
 
 module _ {M : Type 1} (𝓤 : URA M) (H : Heap 𝓤) (A : Atoms 𝓤) (W : Given 𝓤 H A) (mm : Memory → SProp 𝓤) (run : Routine → Fun 𝓤) where
-  turn-walks : (C : Calls 𝓤 H) (Λ : Loops 𝓤 H) → FmC 𝓤 H (W .laws) C → Triple 𝓤 (C #lent·step) (StepC 𝓤 H A mm run) → Triple 𝓤 (C #lent-parts·stepped) (SteppedC 𝓤 H A mm run)
-      → Walks 𝓤 H A turn.ended stayed (WpFn 𝓤 H C Λ code.function) (turn.clauses 𝓤 H A mm run)
-  turn-walks C Λ fm known-step known-stepped = walked 𝓤 H A turn.ended stayed (turn.clauses 𝓤 H A mm run) (WpFn 𝓤 H C Λ code.function)
+  step-local-walks : (C : Calls 𝓤 H) (Λ : Loops 𝓤 H) → FmC 𝓤 H (W .laws) C → Triple 𝓤 (C #lent·step) (StepC 𝓤 H A mm run) → Triple 𝓤 (C #lent-parts·stepped) (SteppedC 𝓤 H A mm run)
+      → Walks 𝓤 H A step-local.ended stayed (WpFn 𝓤 H C Λ code.function) (step-local.clauses 𝓤 H A mm run)
+  step-local-walks C Λ fm known-step known-stepped = walked 𝓤 H A step-local.ended stayed (step-local.clauses 𝓤 H A mm run) (WpFn 𝓤 H C Λ code.function)
       (λ κs. (Struct.vals S.the-type S′.the-laws, (uint-vals w32, (slice-vals, (slice-vals, tt))))) (λ κs. (Struct.tells S.the-type S′.the-laws, (uint-tells w32, (mut-slice-tells (named 0) (κs .0) u32, (mut-slice-tells (named 1) (κs .1 .0) u32, tt)))))
       (λ κs qs bounds a g are. via 𝓤 _ (fst∗ 𝓤 _ (emp 𝓤)) (walk 𝓤 H A W mm run (κs .0) (κs .1 .0) (qs .0) (qs .1 .0) (a .0) (a .1 .0) (are .1 .0 .1)
       (a .1 .1 .0 .ptr .0) (a .1 .1 .0 .ptr .1) (a .1 .1 .0 .name) (a .1 .1 .0 .now) (a .1 .1 .1 .0 .ptr .0) (a .1 .1 .1 .0 .ptr .1) (a .1 .1 .1 .0 .name) (a .1 .1 .1 .0 .now)
       C Λ fm known-step known-stepped (are .0) (are .1 .1 .0 .0 .1) (are .1 .1 .1 .0 .0 .1)))
 
-  goes : AllGo 𝓤 H A W 2 (turn.signature .params) (turn.ended .kept) stayed
+  goes : AllGo 𝓤 H A W 2 (step-local.signature .params) (step-local.ended .kept) stayed
   goes = (goes-none 𝓤 H A W 2 (λ _. S.the-row) yes (λ κs x f. refl), (goes-none 𝓤 H A W 2 (λ _. u32) yes (λ κs x f. refl), (goes-gave-slice 𝓤 H A W 2 0 tt (plain (λ _. u32)), (goes-gave-slice 𝓤 H A W 2 1 tt (plain (λ _. u32)), tt))))
 
-turn-meets : {M : Type 1} (𝓤 : URA M) (H : Heap 𝓤) (A : Atoms 𝓤) → Given 𝓤 H A → (mm : Memory → SProp 𝓤) (run : Routine → Fun 𝓤) (𝓣 : Tables 𝓤 H)
+step-local-meets : {M : Type 1} (𝓤 : URA M) (H : Heap 𝓤) (A : Atoms 𝓤) → Given 𝓤 H A → (mm : Memory → SProp 𝓤) (run : Routine → Fun 𝓤) (𝓣 : Tables 𝓤 H)
     → Triple 𝓤 (𝓣 .C #lent·step) (StepC 𝓤 H A mm run) → Triple 𝓤 (𝓣 .C #lent-parts·stepped) (SteppedC 𝓤 H A mm run)
-    → Meets 𝓤 H A turn.signature (WpFn 𝓤 H (𝓣 .C) (𝓣 .Λ) code.function) (turn.spec 𝓤 H A mm run)
-turn-meets 𝓤 H A W mm run 𝓣 known-step known-stepped = walk-meets 𝓤 H A turn.ended stayed W (goes 𝓤 H A W mm run) (turn.clauses 𝓤 H A mm run) (WpFn 𝓤 H (𝓣 .C) (𝓣 .Λ) code.function) (WpFn-mono 𝓤 H (W .laws) 𝓣 code.function)
-    (turn-walks 𝓤 H A W mm run (𝓣 .C) (𝓣 .Λ) (fmOf 𝓤 H (W .laws) 𝓣) known-step known-stepped)
+    → Meets 𝓤 H A step-local.signature (WpFn 𝓤 H (𝓣 .C) (𝓣 .Λ) code.function) (step-local.spec 𝓤 H A mm run)
+step-local-meets 𝓤 H A W mm run 𝓣 known-step known-stepped = walk-meets 𝓤 H A step-local.ended stayed W (goes 𝓤 H A W mm run) (step-local.clauses 𝓤 H A mm run) (WpFn 𝓤 H (𝓣 .C) (𝓣 .Λ) code.function) (WpFn-mono 𝓤 H (W .laws) 𝓣 code.function)
+    (step-local-walks 𝓤 H A W mm run (𝓣 .C) (𝓣 .Λ) (fmOf 𝓤 H (W .laws) 𝓣) known-step known-stepped)
 
-pub turn-spec : {M : Type 1} → stated.statement M
+pub step-local-spec : {M : Type 1} → stated.statement M
 unfolding code.routine tablesOf
-turn-spec 𝓤 H 𝓜 𝓖 𝓡 =
-    entered 𝓤 H (tripleOf 𝓤 H (𝓖 .A) turn.signature (turn.spec 𝓤 H (𝓖 .A) (𝓜 .mem) (𝓡 .run)))
-    (tables 𝓤 H 𝓜 𝓡 code.env .C) (tables 𝓤 H 𝓜 𝓡 code.env .Λ) #lent·turn code.function (code.unfolded 𝓤 H 𝓜 𝓡)
-    (turn-meets 𝓤 H (𝓖 .A) (givenOf 𝓤 H 𝓜 𝓖) (𝓜 .mem) (𝓡 .run) (tablesOf 𝓤 H 𝓜 (tables 𝓤 H 𝓜 𝓡 code.env))
+step-local-spec 𝓤 H 𝓜 𝓖 𝓡 =
+    entered 𝓤 H (tripleOf 𝓤 H (𝓖 .A) step-local.signature (step-local.spec 𝓤 H (𝓖 .A) (𝓜 .mem) (𝓡 .run)))
+    (tables 𝓤 H 𝓜 𝓡 code.env .C) (tables 𝓤 H 𝓜 𝓡 code.env .Λ) #lent·step-local code.function (code.unfolded 𝓤 H 𝓜 𝓡)
+    (step-local-meets 𝓤 H (𝓖 .A) (givenOf 𝓤 H 𝓜 𝓖) (𝓜 .mem) (𝓡 .run) (tablesOf 𝓤 H 𝓜 (tables 𝓤 H 𝓜 𝓡 code.env))
     (cited 𝓤 H (StepC 𝓤 H (𝓖 .A) (𝓜 .mem) (𝓡 .run)) 𝓜 𝓡 code.env #lent·step step-def.routine code.calls-lent·step (step-thm.met 𝓤 H 𝓜 𝓖 𝓡))
     (cited 𝓤 H (SteppedC 𝓤 H (𝓖 .A) (𝓜 .mem) (𝓡 .run)) 𝓜 𝓡 code.env #lent-parts·stepped stepped-def.routine code.calls-lent-parts·stepped (stepped-thm.met 𝓤 H 𝓜 𝓖 𝓡)))

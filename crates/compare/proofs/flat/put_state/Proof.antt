@@ -1,7 +1,7 @@
--- `compare::flat::put_tasks` is safe and ends: counters stay within their bounds, and lent slices keep their lengths. Assumes nothing.
+-- `compare::flat::put_state` is safe and ends: counters stay within their bounds, and lent slices keep their lengths. Assumes nothing.
 use Prim.Native.Nat.{_≤_, _-_}
-use Rattle.compare.proofs.flat.put_tasks.Statement.{statement}
-use Rattle.compare.proofs.flat.put_tasks.Tie as tie
+use Rattle.compare.proofs.flat.put_state.Statement.{statement}
+use Rattle.compare.proofs.flat.put_state.Tie as tie
 use borrow.Author.Needs.{needs}
 use lib.ListN.{length}
 use mathlib.Core.Path.{_≡_}
@@ -11,6 +11,18 @@ Inv-loop m₀ ts k₀ m k = (k ≤ 8) × (length m ≡ length m₀)
 
 abbrev μ-loop : tie.MeasureT-loop
 μ-loop m₀ ts k₀ m k = 8 - k
+
+slice-aggregate-put-words : tie.Need-slice-aggregate-put-words Inv-loop μ-loop
+slice-aggregate-put-words c = search needs
+
+put-words-requires : tie.Need-put-words-requires Inv-loop μ-loop
+put-words-requires c κs = search needs
+
+add-put : tie.Need-add-put Inv-loop μ-loop
+add-put c = search needs
+
+put-requires : tie.Need-put-requires Inv-loop μ-loop
+put-requires c κs = search needs
 
 loop-holds : tie.Need-loop-holds Inv-loop μ-loop
 loop-holds c = search needs
@@ -48,12 +60,16 @@ same-length c = search needs
 returns : tie.Need-returns Inv-loop μ-loop
 returns c = search needs
 
-pub put-tasks-spec : {M : Type 1} → statement M
-put-tasks-spec =
+pub put-state-spec : {M : Type 1} → statement M
+put-state-spec =
     tie.close
     (tie.spec
     Inv-loop
     μ-loop
+    slice-aggregate-put-words
+    put-words-requires
+    add-put
+    put-requires
     loop-holds
     add-put-task
     mul-put-task

@@ -1,4 +1,4 @@
--- `lent::begin` meets its contract: a walk of its MIR by hand, since the borrow checker covers no function that makes a reference to a
+-- `lent::start_local` meets its contract: a walk of its MIR by hand, since the borrow checker covers no function that makes a reference to a
 -- struct. The local state is lent to `start` for a lifetime that the walk makes; the lifetime is ended and the state taken back at its
 -- last value, and the answer and that state are put together. Assumes nothing.
 use mathlib.Core.Path.{_≡_, refl, _∙_}
@@ -66,12 +66,12 @@ use Rattle.lent_parts.proofs.stepped as stepped
 use Rattle.lent_parts.proofs.stepped.Symbol as stepped-def
 use Rattle.lent_parts.proofs.stepped.Symbol.{name as #lent-parts·stepped}
 use Rattle.lent_parts.proofs.stepped.Met as stepped-thm
-use Rattle.lent.proofs.begin.Key.{name as #lent·begin}
-use Rattle.lent.proofs.begin as begin
-use Rattle.lent.proofs.begin.Statement as stated
-use Rattle.lent.proofs.begin.Code as code
+use Rattle.lent.proofs.start_local.Key.{name as #lent·start-local}
+use Rattle.lent.proofs.start_local as start-local
+use Rattle.lent.proofs.start_local.Statement as stated
+use Rattle.lent.proofs.start_local.Code as code
 
-abbrev stayed : Stays (begin.ended .signature .params) (begin.ended .kept)
+abbrev stayed : Stays (start-local.ended .signature .params) (start-local.ended .kept)
 stayed = (stay-none (λ _. S.the-row) yes, (stay-none (λ _. u32) yes, (stay-none (λ _. K.the-row) yes, (stay-none (λ _. u32) yes, (stay-none-slice (0 ∷ []) tt (plain (λ _. u32)) yes, (stay-none-slice (1 ∷ []) tt (plain (λ _. u32)) yes, tt))))))
 
 module _ {M : Type 1} (𝓤 : URA M) (H : Heap 𝓤) (A : Atoms 𝓤) (mm : Memory → SProp 𝓤) (run : Routine → Fun 𝓤) where
@@ -110,7 +110,7 @@ module _ {M : Type 1} (𝓤 : URA M) (H : Heap 𝓤) (A : Atoms 𝓤) (W : Given
   at = (machine-value h ∷ [], (vint w32 k ∷ [], (call-value call ∷ [], (vint w32 tag ∷ [], (s₁ ∷ [], (s₂ ∷ [], tt))))))
 
   abbrev Post : Val → SProp 𝓤
-  Post = walkOf 𝓤 H A begin.ended stayed (begin.clauses 𝓤 H A mm run) .post (((κ₁, (κ₂, tt)), (q₁, (q₂, tt)), tt, a, at), tt)
+  Post = walkOf 𝓤 H A start-local.ended stayed (start-local.clauses 𝓤 H A mm run) .post (((κ₁, (κ₂, tt)), (q₁, (q₂, tt)), tt, a, at), tt)
 
   -- the result d is what the definition gives
   abbrev Answers : Stepped → Type 0
@@ -120,7 +120,7 @@ module _ {M : Type 1} (𝓤 : URA M) (H : Heap 𝓤) (A : Atoms 𝓤) (W : Given
       → ent 𝓤 (⋆ 𝓤 H A (‵ (D.the-row .own d (w ∷ [])) ∷ (‵ (flft κ₁ q₁) ⊛ (‵ (flft κ₂ q₂) ⊛ ‵ ftrue)) ∷ ‵ Own₁ ∷ ‵ Own₂ ∷ [])) (Post w)
   exits is d w e =
       qed W (‵ (D.the-row .own d (w ∷ [])) ∷ (‵ (flft κ₁ q₁) ⊛ (‵ (flft κ₂ q₂) ⊛ ‵ ftrue)) ∷ ‵ Own₁ ∷ ‵ Own₂ ∷ []) ∵
-      suffices ! _ (ends-at 𝓤 H A begin.ended stayed (begin.clauses 𝓤 H A mm run) W (((κ₁, (κ₂, tt)), (q₁, (q₂, tt)), tt, a, at), tt) w d (tt, (tt, (tt, (tt, (tt, (tt, tt)))))) (tt, (tt, (tt, (tt, (tt, (tt, tt))))))) $ says ! e $
+      suffices ! _ (ends-at 𝓤 H A start-local.ended stayed (start-local.clauses 𝓤 H A mm run) W (((κ₁, (κ₂, tt)), (q₁, (q₂, tt)), tt, a, at), tt) w d (tt, (tt, (tt, (tt, (tt, (tt, tt)))))) (tt, (tt, (tt, (tt, (tt, (tt, tt))))))) $ says ! e $
       move ! (1 ∷ []) $ frame ! $ nothing ! $ move ! (3 ∷ 0 ∷ []) $ fjoin ! $ move ! (2 ∷ 0 ∷ []) $ fjoin ! $ owned ! u32 (Is u32) (uint-makes 𝓤 H A W w32) tag _ (refl, tag-fits) $ fjoin ! $
       owned ! K.the-row (Is K.the-row) (Enum.makes K.the-type K′.the-plain 𝓤 H A) call _ call-is $ fjoin ! $ owned ! u32 (Is u32) (uint-makes 𝓤 H A W w32) k _ (refl, k-fits) $ fjoin ! $
       owned ! S.the-row (Is S.the-row) (Struct.makes S.the-type S′.the-plain 𝓤 H A) h _ is $ fjoin ! $ done !
@@ -149,7 +149,7 @@ module _ {M : Type 1} (𝓤 : URA M) (H : Heap 𝓤) (A : Atoms 𝓤) (W : Given
   answers d p t e e₁ = (λ i. answered (e₁ .0 i) (e₁ .1 i) ys zs) ∙ e
 
   module _ (C : Calls 𝓤 H) (Λ : Loops 𝓤 H) (fm : FmC 𝓤 H (W .laws) C) (known-start : Triple 𝓤 (C #lent·start) (StartC 𝓤 H A mm run)) (known-stepped : Triple 𝓤 (C #lent-parts·stepped) (SteppedC 𝓤 H A mm run)) where
-    walk : Is S.the-row h (machine-value h ∷ []) → Room u32 (length ys) → Room u32 (length zs) → ent 𝓤 (onEntry 𝓤 H A begin.signature (κ₁, (κ₂, tt)) (q₁, (q₂, tt)) a at) (WpFn 𝓤 H C Λ code.function (machine-value h ∷ vint w32 k ∷ call-value call ∷ vint w32 tag ∷ s₁ ∷ s₂ ∷ []) Post)
+    walk : Is S.the-row h (machine-value h ∷ []) → Room u32 (length ys) → Room u32 (length zs) → ent 𝓤 (onEntry 𝓤 H A start-local.signature (κ₁, (κ₂, tt)) (q₁, (q₂, tt)) a at) (WpFn 𝓤 H C Λ code.function (machine-value h ∷ vint w32 k ∷ call-value call ∷ vint w32 tag ∷ s₁ ∷ s₂ ∷ []) Post)
     unfolding partOf
     walk is room₁ room₂ =
         -- A line in brackets says what the context holds there, in order: _i is the cell of local i, with what frees it after it; true
@@ -195,29 +195,29 @@ module _ {M : Type 1} (𝓤 : URA M) (H : Heap 𝓤) (A : Atoms 𝓤) (W : Given
         keep ! (0 ∷ 1 ∷ 2 ∷ 3 ∷ []) $ by ! (exits is d w (answers d p (ws .0) e e₁))))))))))))))))))))))))))
 
 module _ {M : Type 1} (𝓤 : URA M) (H : Heap 𝓤) (A : Atoms 𝓤) (W : Given 𝓤 H A) (mm : Memory → SProp 𝓤) (run : Routine → Fun 𝓤) where
-  begin-walks : (C : Calls 𝓤 H) (Λ : Loops 𝓤 H) → FmC 𝓤 H (W .laws) C → Triple 𝓤 (C #lent·start) (StartC 𝓤 H A mm run) → Triple 𝓤 (C #lent-parts·stepped) (SteppedC 𝓤 H A mm run)
-      → Walks 𝓤 H A begin.ended stayed (WpFn 𝓤 H C Λ code.function) (begin.clauses 𝓤 H A mm run)
-  begin-walks C Λ fm known-start known-stepped = walked 𝓤 H A begin.ended stayed (begin.clauses 𝓤 H A mm run) (WpFn 𝓤 H C Λ code.function)
+  start-local-walks : (C : Calls 𝓤 H) (Λ : Loops 𝓤 H) → FmC 𝓤 H (W .laws) C → Triple 𝓤 (C #lent·start) (StartC 𝓤 H A mm run) → Triple 𝓤 (C #lent-parts·stepped) (SteppedC 𝓤 H A mm run)
+      → Walks 𝓤 H A start-local.ended stayed (WpFn 𝓤 H C Λ code.function) (start-local.clauses 𝓤 H A mm run)
+  start-local-walks C Λ fm known-start known-stepped = walked 𝓤 H A start-local.ended stayed (start-local.clauses 𝓤 H A mm run) (WpFn 𝓤 H C Λ code.function)
       (λ κs. (Struct.vals S.the-type S′.the-laws, (uint-vals w32, (Enum.vals K.the-type K′.the-laws, (uint-vals w32, (slice-vals, (slice-vals, tt)))))))
       (λ κs. (Struct.tells S.the-type S′.the-laws, (uint-tells w32, (Enum.tells K.the-type K′.the-laws, (uint-tells w32, (shr-slice-tells (named 0) (κs .0) u32, (shr-slice-tells (named 1) (κs .1 .0) u32, tt)))))))
       (λ κs qs bounds a g are. via 𝓤 _ (fst∗ 𝓤 _ (emp 𝓤)) (walk 𝓤 H A W mm run (κs .0) (κs .1 .0) (qs .0) (qs .1 .0) (a .0) (a .1 .0) (are .1 .0 .1) (a .1 .1 .0) (are .1 .1 .0) (a .1 .1 .1 .0) (are .1 .1 .1 .0 .1)
       (a .1 .1 .1 .1 .0 .ptr .0) (a .1 .1 .1 .1 .0 .ptr .1) (a .1 .1 .1 .1 .0 .name) (a .1 .1 .1 .1 .0 .now) (a .1 .1 .1 .1 .1 .0 .ptr .0) (a .1 .1 .1 .1 .1 .0 .ptr .1) (a .1 .1 .1 .1 .1 .0 .name) (a .1 .1 .1 .1 .1 .0 .now)
       C Λ fm known-start known-stepped (are .0) (are .1 .1 .1 .1 .0 .0 .1) (are .1 .1 .1 .1 .1 .0 .0 .1)))
 
-  goes : AllGo 𝓤 H A W 2 (begin.signature .params) (begin.ended .kept) stayed
+  goes : AllGo 𝓤 H A W 2 (start-local.signature .params) (start-local.ended .kept) stayed
   goes = (goes-none 𝓤 H A W 2 (λ _. S.the-row) yes (λ κs x f. refl), (goes-none 𝓤 H A W 2 (λ _. u32) yes (λ κs x f. refl), (goes-none 𝓤 H A W 2 (λ _. K.the-row) yes (λ κs x f. refl), (goes-none 𝓤 H A W 2 (λ _. u32) yes (λ κs x f. refl), (goes-none-slice 𝓤 H A W 2 (0 ∷ []) tt (plain (λ _. u32)) yes, (goes-none-slice 𝓤 H A W 2 (1 ∷ []) tt (plain (λ _. u32)) yes, tt))))))
 
-begin-meets : {M : Type 1} (𝓤 : URA M) (H : Heap 𝓤) (A : Atoms 𝓤) → Given 𝓤 H A → (mm : Memory → SProp 𝓤) (run : Routine → Fun 𝓤) (𝓣 : Tables 𝓤 H)
+start-local-meets : {M : Type 1} (𝓤 : URA M) (H : Heap 𝓤) (A : Atoms 𝓤) → Given 𝓤 H A → (mm : Memory → SProp 𝓤) (run : Routine → Fun 𝓤) (𝓣 : Tables 𝓤 H)
     → Triple 𝓤 (𝓣 .C #lent·start) (StartC 𝓤 H A mm run) → Triple 𝓤 (𝓣 .C #lent-parts·stepped) (SteppedC 𝓤 H A mm run)
-    → Meets 𝓤 H A begin.signature (WpFn 𝓤 H (𝓣 .C) (𝓣 .Λ) code.function) (begin.spec 𝓤 H A mm run)
-begin-meets 𝓤 H A W mm run 𝓣 known-start known-stepped = walk-meets 𝓤 H A begin.ended stayed W (goes 𝓤 H A W mm run) (begin.clauses 𝓤 H A mm run) (WpFn 𝓤 H (𝓣 .C) (𝓣 .Λ) code.function) (WpFn-mono 𝓤 H (W .laws) 𝓣 code.function)
-    (begin-walks 𝓤 H A W mm run (𝓣 .C) (𝓣 .Λ) (fmOf 𝓤 H (W .laws) 𝓣) known-start known-stepped)
+    → Meets 𝓤 H A start-local.signature (WpFn 𝓤 H (𝓣 .C) (𝓣 .Λ) code.function) (start-local.spec 𝓤 H A mm run)
+start-local-meets 𝓤 H A W mm run 𝓣 known-start known-stepped = walk-meets 𝓤 H A start-local.ended stayed W (goes 𝓤 H A W mm run) (start-local.clauses 𝓤 H A mm run) (WpFn 𝓤 H (𝓣 .C) (𝓣 .Λ) code.function) (WpFn-mono 𝓤 H (W .laws) 𝓣 code.function)
+    (start-local-walks 𝓤 H A W mm run (𝓣 .C) (𝓣 .Λ) (fmOf 𝓤 H (W .laws) 𝓣) known-start known-stepped)
 
-pub begin-spec : {M : Type 1} → stated.statement M
+pub start-local-spec : {M : Type 1} → stated.statement M
 unfolding code.routine tablesOf
-begin-spec 𝓤 H 𝓜 𝓖 𝓡 =
-    entered 𝓤 H (tripleOf 𝓤 H (𝓖 .A) begin.signature (begin.spec 𝓤 H (𝓖 .A) (𝓜 .mem) (𝓡 .run)))
-    (tables 𝓤 H 𝓜 𝓡 code.env .C) (tables 𝓤 H 𝓜 𝓡 code.env .Λ) #lent·begin code.function (code.unfolded 𝓤 H 𝓜 𝓡)
-    (begin-meets 𝓤 H (𝓖 .A) (givenOf 𝓤 H 𝓜 𝓖) (𝓜 .mem) (𝓡 .run) (tablesOf 𝓤 H 𝓜 (tables 𝓤 H 𝓜 𝓡 code.env))
+start-local-spec 𝓤 H 𝓜 𝓖 𝓡 =
+    entered 𝓤 H (tripleOf 𝓤 H (𝓖 .A) start-local.signature (start-local.spec 𝓤 H (𝓖 .A) (𝓜 .mem) (𝓡 .run)))
+    (tables 𝓤 H 𝓜 𝓡 code.env .C) (tables 𝓤 H 𝓜 𝓡 code.env .Λ) #lent·start-local code.function (code.unfolded 𝓤 H 𝓜 𝓡)
+    (start-local-meets 𝓤 H (𝓖 .A) (givenOf 𝓤 H 𝓜 𝓖) (𝓜 .mem) (𝓡 .run) (tablesOf 𝓤 H 𝓜 (tables 𝓤 H 𝓜 𝓡 code.env))
     (cited 𝓤 H (StartC 𝓤 H (𝓖 .A) (𝓜 .mem) (𝓡 .run)) 𝓜 𝓡 code.env #lent·start start-def.routine code.calls-lent·start (start-thm.met 𝓤 H 𝓜 𝓖 𝓡))
     (cited 𝓤 H (SteppedC 𝓤 H (𝓖 .A) (𝓜 .mem) (𝓡 .run)) 𝓜 𝓡 code.env #lent-parts·stepped stepped-def.routine code.calls-lent-parts·stepped (stepped-thm.met 𝓤 H 𝓜 𝓖 𝓡)))

@@ -1,0 +1,44 @@
+-- `dispatch::after_step` meets its contract: each arm is a clause of `by-output`. Assumes nothing.
+use borrow.Author.Tests.{eq-eqb, ne-eqb}
+use Rattle.spec.specs.Machine.{state-chosen}
+use Rattle.dispatch.specs.Turned.{by-output}
+use borrow.Author.Needs.{needs}
+use Rattle.dispatch.proofs.after_step.Statement.{statement}
+use Rattle.dispatch.proofs.after_step.Tie as tie
+
+enum-known-out : tie.Need-enum-known-out
+enum-known-out c = search needs
+
+enum-known-out-2 : tie.Need-enum-known-out-2
+enum-known-out-2 c = search needs
+
+enum-known-out-3 : tie.Need-enum-known-out-3
+enum-known-out-3 c = search needs
+
+returns : tie.Need-returns
+unfolding by-output state-chosen
+returns c = rw (c .before .before .out3 .given .1, eq-eqb _ 7 (c .if1 .taken))
+
+returns-2 : tie.Need-returns-2
+unfolding by-output state-chosen
+returns-2 c = rw (c .before .out .given .1)
+
+returns-3 : tie.Need-returns-3
+unfolding by-output state-chosen
+returns-3 c = rw (c .before .out2 .given .1)
+
+returns-4 : tie.Need-returns-4
+unfolding by-output
+returns-4 c = rw (c .before .before .out3 .given .1, ne-eqb _ 7 (c .if1 .left))
+
+pub after-step-spec : {M : Type 1} → statement M
+after-step-spec =
+    tie.close
+    (tie.spec
+    enum-known-out
+    enum-known-out-2
+    enum-known-out-3
+    returns
+    returns-2
+    returns-3
+    returns-4)

@@ -1,0 +1,33 @@
+-- What the dispatcher's code gives back, as the definitions say it. Assumes nothing.
+use Prim.Native.Nat.{ℕ}
+use mathlib.Core.List.{List}
+use mathlib.Core.Bool.{_&&_}
+use lib.Dec.{ltb, leb, eqb}
+use Rattle.spec.specs.declared.State.{State}
+use Rattle.spec.specs.declared.Output.{Output}
+use Rattle.spec.specs.declared.Output.the-variants.{At, End, Refuse}
+use Rattle.spec.specs.Lists.{if_then_else_}
+use Rattle.spec.specs.Machine.{Machine, machine-of, state-chosen}
+use Rattle.spec.specs.Sound.{task-count}
+use Rattle.lines.specs.declared.Stepped.{Stepped}
+use Rattle.turns.specs.declared.Turn.the-variants.{Of, Refused}
+use Rattle.turns.specs.Turn as Turn
+use Rattle.turns.specs.Turn.{next-task, gives}
+use Rattle.dispatch.specs.declared.Turned.{Turned}
+
+abbrev pub turned-of : Turned → List ℕ → List ℕ → Turn.Turned
+turned-of r ns bs = gives (r .says) (machine-of (r .state) ns bs)
+
+-- the link of the task that is next, where T and the last one chosen are within their bounds
+unfoldable pub next-to-step : Machine → ℕ
+next-to-step y = if leb (task-count y) 8 && ltb (y .state .chosen) (task-count y) then next-task y else 0
+
+-- what a turn gives, by what its task's step gave
+unfoldable pub by-output : ℕ → State → Output → Turned
+by-output k z (At line) = record { says = Of k (At line); state = state-chosen k z }
+by-output k z (End a own full) = record { says = Of k (End a own full); state = state-chosen k z }
+by-output k z (Refuse r) =
+    if eqb r 7 then record { says = Of k (Refuse r); state = state-chosen k z } else record { says = Refused r; state = z }
+
+abbrev pub stepped-turn : ℕ → Stepped → Turned
+stepped-turn k r = by-output k (r .state) (r .out)

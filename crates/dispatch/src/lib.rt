@@ -1,0 +1,124 @@
+// The dispatcher (paper 02, U7), over the entries: a turn steps the running task that is next, going round from the last one chosen. `turn`
+// has the state by value, `turn_lent` moves a lent state on.
+use lines::Stepped;
+use spec::Output;
+use spec::State;
+use turns::Turn;
+ghost use mathlib.Core.Path.{_≡_};
+ghost use mathlib.Core.List.{List};
+ghost use Prim.Native.Nat.{ℕ};
+ghost use Rattle.spec.specs.Machine.{machine-of};
+ghost use Rattle.turns.specs.Turn.{gives, turn};
+ghost use Rattle.dispatch.specs.Turned.{turned-of, next-to-step, stepped-turn};
+
+// What a turn answers, and the state that it leaves.
+pub struct Turned {
+    pub says: Turn,
+    pub state: State,
+}
+
+// The link of the first running task after the last one chosen, going round and trying the last one chosen itself at the end; 0 if nothing
+// runs, or if T or the last one chosen is out of bounds.
+fn next_task(s: State) -> u32
+    ensures { λ r. ⌜ ((ns bs : List ℕ) → r ≡ next-to-step (machine-of s ns bs)) ⌝ }
+{
+    let t = s.config.tasks;
+    let last = s.chosen;
+    if 8 < t {
+        return 0;
+    }
+    if t <= last {
+        return 0;
+    }
+    let ts = s.task;
+    let mut j: u32 = 1;
+    while j <= t {
+        let k = (last + j) % t;
+        let c = ts[k as usize];
+        let running = c.running;
+        if running {
+            return k + 1;
+        }
+        j += 1;
+    }
+    0
+}
+
+// What a turn gives that went to task k, whose step gave r. A step that is refused with 7 uses up its turn.
+fn after_step(k: u32, r: Stepped) -> Turned
+    ensures { λ q. ⌜ q ≡ stepped-turn k r ⌝ }
+{
+    let out = r.out;
+    let z = r.state;
+    let mut t = z;
+    t.chosen = k;
+    match out {
+        Output::At(line) => Turned {
+            says: Turn::Of(k, Output::At(line)),
+            state: t,
+        },
+        Output::End(a, own, full) => Turned {
+            says: Turn::Of(k, Output::End(a, own, full)),
+            state: t,
+        },
+        Output::Refuse(why) => {
+            if why == 7 {
+                return Turned {
+                    says: Turn::Of(k, Output::Refuse(why)),
+                    state: t,
+                };
+            }
+            Turned {
+                says: Turn::Refused(why),
+                state: z,
+            }
+        }
+    }
+}
+
+// One turn: the running task that is next is stepped. The step's own test of memory is the turn's.
+pub fn turn(s: State, ns: &mut [u32], bs: &mut [u32]) -> Turned
+    ensures { λ r. ⌜ turned-of r (now (ns .exit)) (now (bs .exit)) ≡ turn (machine-of s (now (ns .entry)) (now (bs .entry))) ⌝ }
+{
+    let l = next_task(s);
+    if l != 0 {
+        let k = l - 1;
+        let r = hashset::step(s, k, ns, bs);
+        return after_step(k, r);
+    }
+    if soundness::sound(s, ns, bs) {
+        return Turned {
+            says: Turn::Idle,
+            state: s,
+        };
+    }
+    Turned {
+        says: Turn::Refused(8),
+        state: s,
+    }
+}
+
+// The parts of what `turn` gives: the walk of `turn_lent` takes no struct apart.
+fn says_of(d: Turned) -> Turn
+    ensures { λ r. ⌜ r ≡ d .says ⌝ }
+{
+    let r = d.says;
+    r
+}
+
+fn state_of(d: Turned) -> State
+    ensures { λ r. ⌜ r ≡ d .state ⌝ }
+{
+    d.state
+}
+
+// One turn on the lent state and the lent pools.
+pub fn turn_lent(s: &mut State, ns: &mut [u32], bs: &mut [u32]) -> Turn
+    ensures { λ r. ⌜ gives r (machine-of (now (s .exit)) (now (ns .exit)) (now (bs .exit))) ≡ turn (machine-of (now (s .entry)) (now (ns .entry)) (now (bs .entry))) ⌝ }
+{
+    let old = *s;
+    let d = turn(old, ns, bs);
+    let new = state_of(d);
+    *s = new;
+    says_of(d)
+}

@@ -1,0 +1,5 @@
+pub mod InOrder
+pub mod Fairness
+pub mod Erasure
+pub mod NoEight
+pub mod Theorems

@@ -1,0 +1,4 @@
+pub mod Turn
+pub mod Moves
+pub mod Promises
+pub mod TurnRows
