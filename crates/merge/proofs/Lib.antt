@@ -1,0 +1,4 @@
+pub mod SetLaws
+pub mod Laws
+pub mod SearchLaws
+pub mod MergeLaws

@@ -1,0 +1,3 @@
+pub mod Laws
+pub mod MergedLaws
+pub mod OrderLaws

@@ -1,0 +1,5 @@
+pub mod Printing
+pub mod Reading
+pub mod KeptLine
+pub mod Streams
+pub mod OutputBound

@@ -1,0 +1,96 @@
+-- What the end of an input of notes prints has at most 744 bytes, twelve lines of at most 62: `end-bound`. Assumes nothing.
+use Prim.Native.Nat.{ℕ, _*_, _≤_}
+use native.Mathlib.Omega.{arith}
+use mathlib.Core.Path.{_≡_, refl}
+use mathlib.Core.Logic.{_⊎_, inl, inr}
+use mathlib.Core.List.{List, [], _∷_}
+use mathlib.Core.Bool.{Bool, true, false, not, _||_}
+use borrow.Author.Tests.{ltb-false}
+use lib.Dec.{eqb, ltb}
+use lib.ListN.{length, length-append}
+use Rattle.spec.specs.declared.Answer.{Answer}
+use Rattle.spec.specs.declared.Answer.the-variants.{Yes, No, Full, Done, Lost, Limit}
+use Rattle.spec.specs.declared.Call.{Call}
+use Rattle.spec.specs.declared.Call.the-variants.{Insert, Remove, Contains, Grow, Shrink}
+use Rattle.spec.specs.Lists.{if_then_else_, every}
+use Rattle.spec.specs.History.{set-call}
+use Rattle.session.specs.Print.{decimal, key-line, answer-word, refusal-line}
+use Rattle.session.specs.OutputLengths.{refusal-length}
+use Rattle.session_state.specs.PartialLines.{line-bytes}
+use Rattle.laws.specs.Tests.{bool?, or-none}
+use Rattle.notes.specs.declared.Note.{Note}
+use Rattle.notes.specs.Orders.{Lane, first, second}
+use Rattle.notes.specs.Merge.{order, none, Outcome, searched, refused, unfit, merge, list-of}
+use Rattle.notes.specs.Search.{order-length}
+use Rattle.notes.specs.Theorems.{refused-13, order-iff}
+use Rattle.notes.specs.Text.{call-field, note-line, order-lines, outcome-lines, merge-lines}
+use Rattle.notes_text.specs.declared.stream.Reading.{Reading}
+use Rattle.notes_text.specs.Reading.{end-lines}
+
+-- a number has at most 20 digits: `refuse=`, a number and byte 10 are at most 28 bytes
+decimal-length : (n : ℕ) → length (decimal n) ≤ 20
+unfolding refusal-line key-line
+decimal-length n = omega (arith, simp length-append at (refusal-length n))
+
+word-length : (a : Answer) → length (answer-word a) ≤ 5
+unfolding answer-word
+word-length Yes = omega arith
+word-length No = omega arith
+word-length Full = omega arith
+word-length Done = omega arith
+word-length Lost = omega arith
+word-length Limit = omega arith
+
+field-length : (c : Call) (tag : ℕ) → length (call-field c tag) ≤ 30
+unfolding call-field
+field-length Insert tag = simp length-append (omega (arith, decimal-length tag))
+field-length Remove tag = simp length-append (omega (arith, decimal-length tag))
+field-length Contains tag = simp length-append (omega (arith, decimal-length tag))
+field-length Grow tag = simp length-append (omega arith)
+field-length Shrink tag = simp length-append (omega arith)
+
+note-length : (k : ℕ) (x : Note) → length (note-line k x) ≤ 62
+unfolding note-line
+note-length k x = simp length-append (omega (arith, decimal-length k, field-length (x .call) (x .tag), word-length (x .answer)))
+
+lines-length : (L : List Lane) (xs ys : List Note) → length (order-lines L xs ys) ≤ 62 * length L
+unfolding order-lines
+lines-length [] xs ys = omega arith
+lines-length (first ∷ L) [] ys = omega arith
+lines-length (first ∷ L) (x ∷ xs) ys = simp length-append (omega (arith, note-length 1 x, lines-length L xs ys))
+lines-length (second ∷ L) xs [] = omega arith
+lines-length (second ∷ L) xs (y ∷ ys) = simp length-append (omega (arith, note-length 2 y, lines-length L xs ys))
+
+short : (xs : List Note) → unfit xs ≡ false → length xs ≤ 6
+unfolding unfit
+short xs e = ltb-false 6 (length xs) (or-none (ltb 6 (length xs)) (not (every (λ (x : Note). set-call (x .call)) xs)) e .0)
+
+module _ (xs ys : List Note) where
+  outcome-bound : (o : Outcome) → merge xs ys ≡ o → (unfit xs || unfit ys) ≡ false → length (outcome-lines o xs ys) ≤ 744
+  unfolding outcome-lines
+  outcome-bound (searched (order L)) e fit =
+      let u = or-none (unfit xs) (unfit ys) fit in
+      let m = order-length (order-iff xs ys fit L .0 e .order .keeps) in
+      omega (arith, lines-length L xs ys, short xs (u .0), short ys (u .1))
+  outcome-bound (searched none) e fit = omega arith
+  outcome-bound (refused r) e fit = omega (arith, refusal-length r)
+
+  merge-bound : length (merge-lines xs ys) ≤ 744
+  unfolding merge-lines outcome-lines
+  merge-bound = go (bool? (unfit xs || unfit ys))
+    where
+      go : ((unfit xs || unfit ys) ≡ true) ⊎ ((unfit xs || unfit ys) ≡ false) → length (merge-lines xs ys) ≤ 744
+      go (inl u) = rw (refused-13 xs ys .1 u) (omega (arith, refusal-length 13))
+      go (inr u) = outcome-bound (merge xs ys) refl u
+
+pub end-bound : (r : Reading) → length (end-lines r) ≤ 744
+unfolding end-lines
+end-bound r = go (r .outside) (eqb (length (line-bytes (r .line))) 0)
+  where
+    both : List ℕ
+    both = merge-lines (list-of (r .one)) (list-of (r .two))
+
+    go : (a b : Bool) → length (if a then refusal-line 10 else if b then both else refusal-line 10) ≤ 744
+    go true b = omega (arith, refusal-length 10)
+    go false true = merge-bound (list-of (r .one)) (list-of (r .two))
+    go false false = omega (arith, refusal-length 10)
