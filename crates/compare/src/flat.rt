@@ -162,7 +162,7 @@ pub fn put_stepped(m: &mut [u32], r: Stepped) {
     put_output(m, o);
 }
 
-// Of a turn that chose a task also the task plus 1.
+// Of a turn that names a task also the task plus 1.
 fn put_turn(m: &mut [u32], says: Turn) {
     match says {
         Turn::Idle => reply(m, 3, 0),

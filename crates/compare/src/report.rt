@@ -17,13 +17,13 @@ use reference_words::words::plus;
 use reference_words::words::put;
 
 fn more(m: &mut [u32], i: usize, by: u32) {
-    let at = COUNTS + (number(m, b'V') % 4) as usize * 800 + i % 800;
+    let at = COUNTS + (number(m, b'V') % 4) as usize * 1000 + i % 1000;
     put(m, at, plus(get(m, at), by));
 }
 
-// Word x of a row of counts, six rows later in spoilt memory.
+// Word x of a row of counts, seven rows later in spoilt memory.
 fn in_row(m: &[u32], r: u32, x: u32) -> usize {
-    (plus(r, either(get(m, EXCURSION) == 0, 0, 6)) as usize) * 64 + x as usize % 64
+    (plus(r, either(get(m, EXCURSION) == 0, 0, 7)) as usize) * 64 + x as usize % 64
 }
 
 // Where an output is counted: a list and a show that are not refused apart.
@@ -40,12 +40,19 @@ fn place(m: &[u32]) -> usize {
     in_row(m, get(m, REPLY), get(m, REPLY + 1))
 }
 
-// After a random call. A turn that chose a task is counted once more, by its task.
+// The row of a turn that names a task: accepted, refused with 7, or refused with 8 of the step.
+fn turn_row(m: &[u32]) -> u32 {
+    if get(m, REPLY) != 2 {
+        return 4;
+    }
+    either(get(m, REPLY + 1) == 7, 5, 6)
+}
+
+// After a random call. A turn that names a task is counted once more, by its task.
 fn count(m: &mut [u32]) {
     let of = get(m, REPLY + 4);
-    let turns = either(get(m, REPLY) == 2, 5, 4);
     more(m, place(m), 1);
-    more(m, in_row(m, turns, less_1(of)), either(of == 0, 0, 1));
+    more(m, in_row(m, turn_row(m), less_1(of)), either(of == 0, 0, 1));
     more(m, CALLS, 1);
     more(m, DIFFERENCES, get(m, DIFFERS));
 }
@@ -108,7 +115,7 @@ fn cell(i: u32, n: u32) {
 
 // The counts from place a on, those that are not 0, each as number:count with the number counted from a.
 fn row(name: &[u8], m: &[u32], a: usize) {
-    let first = COUNTS + a % 3200;
+    let first = COUNTS + a % 4000;
     text(name);
     let mut i: u32 = 0;
     while i < 64 {
@@ -119,7 +126,7 @@ fn row(name: &[u8], m: &[u32], a: usize) {
 
 fn line(name: &[u8], m: &[u32], i: usize) {
     text(name);
-    decimal(get(m, COUNTS + i % 3200));
+    decimal(get(m, COUNTS + i % 4000));
 }
 
 fn print_rows(m: &[u32], from: u32) {
@@ -134,6 +141,7 @@ fn print_rows(m: &[u32], from: u32) {
     line(b"\nturns with nothing running ", m, a + 192);
     row(b"\nturns accepted, by task", m, a + 256);
     row(b"\nturns refused by 7, by task", m, a + 320);
+    row(b"\nturns refused by 8 of the step, by task", m, a + 384);
 }
 
 // The counts of a version. Each schedule has one opening, which is counted at line 0.
@@ -144,7 +152,7 @@ fn print_version(name: &[u8], m: &[u32], from: u32) {
     line(b", calls ", m, a + CALLS);
     print_rows(m, from);
     text(b"\nin spoilt memory:");
-    print_rows(m, plus(from, 384));
+    print_rows(m, plus(from, 448));
     line(b"\nlists ", m, a + LISTS);
     line(b"\nshows ", m, a + SHOWS);
     line(b"\ndifferences ", m, a + DIFFERENCES);
@@ -152,7 +160,7 @@ fn print_version(name: &[u8], m: &[u32], from: u32) {
 }
 
 pub fn print(m: &[u32]) {
-    print_version(b"version 1: ", m, 800);
-    print_version(b"version 2: ", m, 1600);
-    print_version(b"task 0 of eight always refused by 7: ", m, 2400);
+    print_version(b"version 1: ", m, 1000);
+    print_version(b"version 2: ", m, 2000);
+    print_version(b"task 0 of eight always refused by 7: ", m, 3000);
 }

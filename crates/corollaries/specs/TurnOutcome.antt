@@ -81,7 +81,7 @@ pub data TurnOutcome (y : Machine) : Turned → Type 0 where
   goes : (k : ℕ) (o : Output) (z : Machine) → sound y ≡ true → Next y k → step y k .out ≡ o → step y k .machine ≡ z
       → ((r : ℕ) → o ≡ Refuse r → r ≡ 7) → TurnOutcome y (gives (Of k o) (with-chosen k z))
   -- its step is refused with 8
-  step-spoilt : (k : ℕ) → sound y ≡ true → Next y k → step y k .out ≡ Refuse 8 → TurnOutcome y (gives (Refused 8) y)
+  step-spoilt : (k : ℕ) → sound y ≡ true → Next y k → step y k .out ≡ Refuse 8 → TurnOutcome y (gives (Of k (Refuse 8)) y)
 
 module _ (y : Machine) (ok : sound y ≡ true) (k : ℕ) (n : Next y k) where
   abbrev reply : Reply
@@ -103,7 +103,7 @@ module _ (y : Machine) (ok : sound y ≡ true) (k : ℕ) (n : Next y k) where
   after-outcome (At line) e = goes k (At line) (reply .machine) ok n e refl (λ r q. absurd (let z : _≡_ {A = ℕ} 0 1 = cc in omega arith))
   after-outcome (End a own full) e = goes k (End a own full) (reply .machine) ok n e refl (λ r q. absurd (let z : _≡_ {A = ℕ} 0 1 = cc in omega arith))
   after-outcome (Refuse r) e =
-      choose (TurnOutcome y) (eqb r 7) _ _
+      choose (λ (m : Machine). TurnOutcome y (gives (Of k (Refuse r)) m)) (eqb r 7) _ _
       (λ q. goes k (Refuse r) y ok n e (refused-step-changes-nothing y k r e) (λ s p. let same : r ≡ s = cc in sym same ∙ eqb-true r 7 q))
       (λ q. let eight = only-8 r e (eqb-false r 7 q) in rw eight (step-spoilt k ok n (rw eight at e)))
 

@@ -1,7 +1,7 @@
 -- What a turn of the dispatcher changes and refuses (paper 02, U7). "A step refused by lack of records uses up its turn: .. That is the one
 -- exception to the mission's first demand, by which a refusal changes no word: it holds for the dispatcher's 7 alone, and a 7 from a step
--- called directly still changes nothing." A turn is idle, refused with 7 and refused with 8 exactly under its condition, and with no other
--- number. Assumes nothing.
+-- called directly still changes nothing." A turn names a task, is idle, refused with 7 and refused with 8 exactly under its condition, and is
+-- refused with no other number. Assumes nothing.
 use Prim.Native.Nat.{ℕ, zero, suc, _+_, _-_, _%_, _≤_, _<_}
 use mathlib.Core.Path.{_≡_, refl, sym, ap, _∙_}
 use mathlib.Core.Logic.{_↔_, _⊎_, inl, inr}
@@ -19,7 +19,7 @@ use Rattle.spec.specs.Held.{cyclic-order}
 use Rattle.spec.specs.Sound.{task-count, sound}
 use Rattle.spec.specs.Entries.{step}
 use Rattle.spec.specs.Schedule.{Event, event}
-use Rattle.turns.specs.declared.Turn.the-variants.{Idle, Of}
+use Rattle.turns.specs.declared.Turn.the-variants.{Idle, Of, Refused}
 use Rattle.turns.specs.Turn.{Turned, turn, refusal-of}
 use Rattle.laws.specs.Tests.{tf}
 use Rattle.laws.specs.SoundFacts.{SoundFacts}
@@ -127,6 +127,44 @@ module _ (y : Machine) where
       from (step-spoilt k s n f) g none = absurd (tf (n .runs) (none k (n .below)))
       from (goes k o z s n f x only) g none = absurd (tf (n .runs) (none k (n .below)))
 
+  -- the answer names a task: memory is sound, the task is next, and its step answers so, be it a refusal
+  pub turn-names : (k : ℕ) (o : Output) → (turn y .says ≡ Of k o) ↔ (SoundFacts y × Next y k × (step y k .out ≡ o))
+  turn-names k o = (to (turn-outcome y), λ h. from (turn-outcome y) (h .0) (h .1) (h .2))
+    where
+      to : {m : Turned} → TurnOutcome y m → m .says ≡ Of k o → SoundFacts y × Next y k × (step y k .out ≡ o)
+      to (spoilt s) e = absurd (let q : _≡_ {A = ℕ} 0 1 = cc in omega arith)
+      to (nothing-runs s n) e = absurd (let q : _≡_ {A = ℕ} 0 1 = cc in omega arith)
+      to (step-spoilt j s n f) e =
+          let same : j ≡ k = cc in
+          let out : Refuse 8 ≡ o = cc in
+          (sound-facts y s, rw same at n, (rw same at f) ∙ out)
+      to (goes j p z s n f x only) e =
+          let same : j ≡ k = cc in
+          let out : p ≡ o = cc in
+          (sound-facts y s, rw same at n, (rw same at f) ∙ out)
+
+      from : {m : Turned} → TurnOutcome y m → SoundFacts y → Next y k → step y k .out ≡ o → m .says ≡ Of k o
+      from (spoilt s) g n e = absurd (tf (facts-sound y g) s)
+      from (nothing-runs s i) g n e = absurd (tf (n .runs) (i k (n .below) .1))
+      from (step-spoilt j s i f) g n e = let same = next-one j k i n in let p : step y k .out ≡ Refuse 8 = rw same at f in rw (same, sym p ∙ e)
+      from (goes j p z s i f x only) g n e = let same = next-one j k i n in let q : step y k .out ≡ p = rw same at f in rw (same, sym q ∙ e)
+
+  -- a number and no task: 8, in spoilt memory
+  pub turn-names-none : (r : ℕ) → (turn y .says ≡ Refused r) ↔ ((r ≡ 8) × (¬ SoundFacts y))
+  turn-names-none r = (to (turn-outcome y), λ h. from (turn-outcome y) (h .0) (h .1))
+    where
+      to : {m : Turned} → TurnOutcome y m → m .says ≡ Refused r → (r ≡ 8) × (¬ SoundFacts y)
+      to (spoilt s) e = let same : 8 ≡ r = cc in (sym same, λ g. tf (facts-sound y g) s)
+      to (nothing-runs s n) e = absurd (let q : _≡_ {A = ℕ} 0 1 = cc in omega arith)
+      to (step-spoilt k s n f) e = absurd (let q : _≡_ {A = ℕ} 0 1 = cc in omega arith)
+      to (goes k o z s n f x only) e = absurd (let q : _≡_ {A = ℕ} 0 1 = cc in omega arith)
+
+      from : {m : Turned} → TurnOutcome y m → r ≡ 8 → ¬ SoundFacts y → m .says ≡ Refused r
+      from (spoilt s) e g = ap Refused (sym e)
+      from (nothing-runs s n) e g = absurd (g (sound-facts y s))
+      from (step-spoilt k s n f) e g = absurd (g (sound-facts y s))
+      from (goes k o z s n f x only) e g = absurd (g (sound-facts y s))
+
   -- a step of the task that is next answers so
   abbrev pub NextStep : Output → Type 0
   NextStep o = SoundFacts y × ((k : ℕ) × Next y k × (step y k .out ≡ o))
@@ -134,7 +172,7 @@ module _ (y : Machine) where
   -- 7: the step of the task that is next is refused with 7
   pub refusal-7-turn : (refusal-of (turn y .says) ≡ 7) ↔ NextStep (Refuse 7)
   unfolding refusal-of
-  refusal-7-turn = (to (turn-outcome y), λ h. from (turn-outcome y) (h .0) (h .1 .0) (h .1 .1) (h .1 .2))
+  refusal-7-turn = (to (turn-outcome y), λ h. ap refusal-of (turn-names (h .1 .0) (Refuse 7) .1 (h .0, h .1 .1, h .1 .2)))
     where
       to : {m : Turned} → TurnOutcome y m → refusal-of (m .says) ≡ 7 → NextStep (Refuse 7)
       to (spoilt s) e = absurd (omega arith)
@@ -142,17 +180,10 @@ module _ (y : Machine) where
       to (step-spoilt k s n f) e = absurd (omega arith)
       to (goes k o z s n f x only) e = (sound-facts y s, (k, n, f ∙ refused-by k o 7 (λ u. omega arith) e))
 
-      from : {m : Turned} → TurnOutcome y m → SoundFacts y → (k : ℕ) → Next y k → step y k .out ≡ Refuse 7 → refusal-of (m .says) ≡ 7
-      from (spoilt s) g k n e = absurd (tf (facts-sound y g) s)
-      from (nothing-runs s i) g k n e = absurd (tf (n .runs) (i k (n .below) .1))
-      from (step-spoilt j s i f) g k n e =
-          absurd (let same = next-one j k i n in let p : step y k .out ≡ Refuse 8 = rw same at f in let q : _≡_ {A = ℕ} 7 8 = cc in omega arith)
-      from (goes j o z s i f x only) g k n e = let same = next-one j k i n in let p : step y k .out ≡ o = rw same at f in rw (sym p ∙ e)
-
   -- 8: memory is spoilt, or the step of the task that is next is refused with 8
   pub refusal-8-turn : (refusal-of (turn y .says) ≡ 8) ↔ ((¬ SoundFacts y) ⊎ NextStep (Refuse 8))
   unfolding refusal-of
-  refusal-8-turn = (to (turn-outcome y), from (turn-outcome y))
+  refusal-8-turn = (to (turn-outcome y), from)
     where
       to : {m : Turned} → TurnOutcome y m → refusal-of (m .says) ≡ 8 → (¬ SoundFacts y) ⊎ NextStep (Refuse 8)
       to (spoilt s) e = inl (λ g. tf (facts-sound y g) s)
@@ -160,16 +191,9 @@ module _ (y : Machine) where
       to (step-spoilt k s n f) e = inr (sound-facts y s, (k, n, f))
       to (goes k o z s n f x only) e = absurd (let q = only 8 (refused-by k o 8 (λ u. omega arith) e) in omega arith)
 
-      from : {m : Turned} → TurnOutcome y m → (¬ SoundFacts y) ⊎ NextStep (Refuse 8) → refusal-of (m .says) ≡ 8
-      from (spoilt s) h = refl
-      from (step-spoilt k s n f) h = refl
-      from (nothing-runs s i) (inl g) = absurd (g (sound-facts y s))
-      from (nothing-runs s i) (inr h) = absurd (tf (h .1 .1 .runs) (i (h .1 .0) (h .1 .1 .below) .1))
-      from (goes j o z s i f x only) (inl g) = absurd (g (sound-facts y s))
-      from (goes j o z s i f x only) (inr h) =
-          let same = next-one j (h .1 .0) i (h .1 .1) in
-          let p : step y (h .1 .0) .out ≡ o = rw same at f in
-          absurd (let q = only 8 (sym p ∙ h .1 .2) in omega arith)
+      from : (¬ SoundFacts y) ⊎ NextStep (Refuse 8) → refusal-of (turn y .says) ≡ 8
+      from (inl g) = ap refusal-of (turn-names-none 8 .1 (refl, g))
+      from (inr h) = ap refusal-of (turn-names (h .1 .0) (Refuse 8) .1 (h .0, h .1 .1, h .1 .2))
 
   -- no other number
   pub turn-refusals : (r : ℕ) → refusal-of (turn y .says) ≡ r → ¬ (r ≡ 0) → (r ≡ 7) ⊎ (r ≡ 8)

@@ -1,5 +1,5 @@
--- A turn by the tests that the code makes. A turn that goes to a task is that task's step, whether or not memory is spoilt: the step's own 8
--- is the turn's. Assumes nothing.
+-- A turn by the tests that the code makes. The code steps the task that is next whether or not memory is spoilt: in spoilt memory the step's 8
+-- is the turn's own, which names no task. Assumes nothing.
 use Prim.Native.Nat.{ℕ, _-_, _≤_, _<_}
 use native.Mathlib.Omega.{arith}
 use mathlib.Core.Path.{_≡_, refl, sym, ap, _∙_}
@@ -75,15 +75,11 @@ module _ (y : Machine) where
   -- ---- task k is stepped
 
   module _ (k : ℕ) (e : next-to-step y ≡ link k) where
-    turn-steps : turn y ≡ after-step y k (step y k .out) (step y k .machine)
-    unfolding turn turn-to step after-step refuse
-    turn-steps = go (bool? (sound y))
-      where
-        go : (sound y ≡ true) ⊎ (sound y ≡ false) → turn y ≡ after-step y k (step y k .out) (step y k .machine)
-        go (inr s) = rw s
-        go (inl s) =
-            let same : number (link k) ≡ k = omega arith in
-            rw (s, sym (sound-next s) ∙ e, true-filled (link k) (λ z. omega arith), same)
+    turn-steps : sound y ≡ true → turn y ≡ after-step y k (step y k .out) (step y k .machine)
+    unfolding turn turn-to
+    turn-steps s =
+        let same : number (link k) ≡ k = omega arith in
+        rw (s, sym (sound-next s) ∙ e, true-filled (link k) (λ z. omega arith), same)
 
     module _ (r : Stepped) (ns bs : List ℕ) (d : reply-of r ns bs ≡ step y k) where
       -- a refused step leaves the machine as it was
@@ -91,20 +87,40 @@ module _ (y : Machine) where
       refused-same w o =
           ap (λ (q : Reply). q .machine) d ∙ refused-step-changes-nothing y k w (sym (ap (λ (q : Reply). q .out) d) ∙ o)
 
-      by-each : (o : Output) → r .out ≡ o → turned-of (by-output k (r .state) o) ns bs ≡ after-step y k o (machine-of (r .state) ns bs)
+      abbrev sound-after : Bool
+      sound-after = sound (machine-of (r .state) ns bs)
+
+      by-each : sound y ≡ true → (o : Output) → r .out ≡ o
+          → turned-of (by-output k (r .state) sound-after o) ns bs ≡ after-step y k o (machine-of (r .state) ns bs)
       unfolding by-output after-step with-chosen with-state
-      by-each (At line) f = refl
-      by-each (End a own full) f = refl
-      by-each (Refuse w) f = go (eqb w 7)
+      by-each s (At line) f = refl
+      by-each s (End a own full) f = refl
+      by-each s (Refuse w) f = rw (ap sound (refused-same w f) ∙ s) (go (eqb w 7))
         where
           go : (b : Bool)
               → turned-of (
-              if b then record { says = Of k (Refuse w); state = state-chosen k (r .state) } else record { says = Refused w; state = r .state }
+              if b then record { says = Of k (Refuse w); state = state-chosen k (r .state) } else record { says = Of k (Refuse w); state = r .state }
               ) ns bs
-              ≡ (if b then gives (Of k (Refuse w)) (with-chosen k y) else gives (Refused w) y)
+              ≡ gives (Of k (Refuse w)) (if b then with-chosen k y else y)
           go true = ap (λ (m : Machine). gives (Of k (Refuse w)) (with-chosen k m)) (refused-same w f)
-          go false = ap (gives (Refused w)) (refused-same w f)
+          go false = ap (gives (Of k (Refuse w))) (refused-same w f)
+
+      -- in spoilt memory the step is refused with 8, which is the turn's own
+      spoilt-step : sound y ≡ false → r .out ≡ Refuse 8
+      unfolding step refuse
+      spoilt-step s = ap (λ (q : Reply). q .out) d ∙ rw s
+
+      own-eight : sound y ≡ false → turned-of (stepped-turn k r ns bs) ns bs ≡ turn y
+      unfolding by-output
+      own-eight s =
+          let eight = spoilt-step s in
+          let same = refused-same 8 eight in
+          rw (eight, ap sound same ∙ s) (ap (gives (Refused 8)) same ∙ spoilt s)
 
       -- what the code makes of the step is what the turn gives
-      pub turn-goes : turned-of (stepped-turn k r) ns bs ≡ turn y
-      turn-goes = by-each (r .out) refl ∙ ap (λ (q : Reply). after-step y k (q .out) (q .machine)) d ∙ sym turn-steps
+      pub turn-goes : turned-of (stepped-turn k r ns bs) ns bs ≡ turn y
+      turn-goes = go (bool? (sound y))
+        where
+          go : (sound y ≡ true) ⊎ (sound y ≡ false) → turned-of (stepped-turn k r ns bs) ns bs ≡ turn y
+          go (inl s) = by-each s (r .out) refl ∙ ap (λ (q : Reply). after-step y k (q .out) (q .machine)) d ∙ sym (turn-steps s)
+          go (inr s) = own-eight s

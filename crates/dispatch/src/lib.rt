@@ -44,9 +44,10 @@ fn next_task(s: State) -> u32
     0
 }
 
-// What a turn gives that went to task k, whose step gave r. A step that is refused with 7 uses up its turn.
-fn after_step(k: u32, r: Stepped) -> Turned
-    ensures { λ q. ⌜ q ≡ stepped-turn k r ⌝ }
+// What a turn gives that went to task k, whose step gave r and left these words. A step that is refused with 7 uses up its turn. With 8 memory
+// says whose it is: the step's in sound memory, which names the task, the turn's own in spoilt memory.
+fn after_step(k: u32, r: Stepped, ns: &[u32], bs: &[u32]) -> Turned
+    ensures { λ q. ⌜ q ≡ stepped-turn k r (now (ns .entry)) (now (bs .entry)) ⌝ }
 {
     let out = r.out;
     let z = r.state;
@@ -68,6 +69,12 @@ fn after_step(k: u32, r: Stepped) -> Turned
                     state: t,
                 };
             }
+            if soundness::sound(z, ns, bs) {
+                return Turned {
+                    says: Turn::Of(k, Output::Refuse(why)),
+                    state: z,
+                };
+            }
             Turned {
                 says: Turn::Refused(why),
                 state: z,
@@ -76,7 +83,8 @@ fn after_step(k: u32, r: Stepped) -> Turned
     }
 }
 
-// One turn: the running task that is next is stepped. The step's own test of memory is the turn's.
+// One turn: the running task that is next is stepped. The step's own test of memory is the turn's, so that memory is looked through a second time
+// only after an 8.
 pub fn turn(s: State, ns: &mut [u32], bs: &mut [u32]) -> Turned
     ensures { λ r. ⌜ turned-of r (now (ns .exit)) (now (bs .exit)) ≡ turn (machine-of s (now (ns .entry)) (now (bs .entry))) ⌝ }
 {
@@ -84,7 +92,7 @@ pub fn turn(s: State, ns: &mut [u32], bs: &mut [u32]) -> Turned
     if l != 0 {
         let k = l - 1;
         let r = hashset::step(s, k, ns, bs);
-        return after_step(k, r);
+        return after_step(k, r, ns, bs);
     }
     if soundness::sound(s, ns, bs) {
         return Turned {

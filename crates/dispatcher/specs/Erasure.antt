@@ -1,5 +1,5 @@
--- A run stands for a schedule: a turn is its task's step, also one refused with 7, and moves beside it only the last one chosen, at which no
--- start or step looks; an idle turn changes nothing. Assumes nothing.
+-- A run stands for a schedule: a turn that names a task is its step, also a refused one, and moves beside it only the last one chosen, at
+-- which no start or step looks; any other turn changes nothing. Assumes nothing.
 use Prim.Native.Nat.{ℕ, _<_}
 use native.Mathlib.Omega.{arith}
 use mathlib.Core.Path.{_≡_, refl}
@@ -14,6 +14,7 @@ use Rattle.turns.specs.Moves.{Move, enters, turns, turned, move, Run, moves, st
 use Rattle.laws.specs.Soundness.{sound-facts}
 use Rattle.laws.specs.EntriesKeep.{event-keeps}
 use Rattle.laws.specs.LastChosen.{again, event-apart}
+use Rattle.corollaries.specs.Unchanged.{refused-step-changes-nothing}
 use Rattle.corollaries.specs.TurnOutcome.{Next, TurnOutcome, spoilt, nothing-runs, goes, step-spoilt, turn-outcome}
 use Rattle.dispatcher.specs.InOrder.{event-tasks, step-tasks, turned-keeps}
 
@@ -57,5 +58,5 @@ module _ (l : ℕ) where
           ≡ stood-for (record { says = turned (m .says) ∷ moves (m .machine) ms .says; machine = moves (m .machine) ms .machine })
       go (spoilt s) ih = ih y b
       go (nothing-runs s n) ih = ih y b
-      go (step-spoilt k s n f) ih = ih y b
+      go (step-spoilt k s n f) ih = rw (same-step y b k, f, refused-step-changes-nothing y k 8 f, ih y b)
       go (goes k o z s n f x only) ih = rw (same-step y b k, f, x, ih (with-chosen k z) (beside-turn y b k z n x))

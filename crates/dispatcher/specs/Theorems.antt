@@ -2,7 +2,7 @@
 -- slices before it (paper 02, U7).
 --
 --   fair               at most T − 1 turns go to others between two successive turns of a task that is idle at no turn between them
---   fair-anywhere      the same from any memory on, sound or not, and with no second turn
+--   fair-anywhere      the same from any memory on, as long as nothing is refused with 8, and with no second turn
 --   in-two-parts       the parts that `fair` speaks of are parts of one run
 --   is-schedule        the run is a schedule of paper 01, a turn standing for its task's step and idle turns left out: the same outputs, and
 --                      the same state and pools, but for the last one chosen
@@ -23,8 +23,9 @@ use Rattle.spec.specs.Machine.{Machine, with-chosen, with-state, state-chosen, 
 use Rattle.spec.specs.Sound.{task-count, sound}
 use Rattle.spec.specs.Entries.{opening, fresh-machine, list}
 use Rattle.spec.specs.Schedule.{schedule, run-opened}
+use Rattle.turns.specs.declared.Turn.the-variants.{Idle, Of, Refused}
 use Rattle.turns.specs.Turn.{turn}
-use Rattle.turns.specs.Moves.{Move, move, moves, run-of, stands-for}
+use Rattle.turns.specs.Moves.{Move, turns, Said, entered, turned, move, moves, run-of, stands-for}
 use Rattle.turns.specs.Promises.{To, Waits, turns-given, Fair, IsSchedule, LinearizableRun, NoEightRun}
 use Rattle.laws.specs.Soundness.{sound-facts}
 use Rattle.laws.specs.OpeningSound.{opening-sound, opened-machine}
@@ -54,11 +55,24 @@ unfolding moves
 moves-keep [] y ok = ok
 moves-keep (m ∷ ms) y ok = moves-keep ms (move y m .machine) (move-keeps y m ok)
 
+-- nothing is refused with 8 in a later part of what a run says
+no-eight-rest : (s : Said) (ss : List Said) → NoEightRun (s ∷ ss) → NoEightRun ss
+no-eight-rest (entered o) ss n = n .1
+no-eight-rest (turned (Of k o)) ss n = n .1
+no-eight-rest (turned Idle) ss n = n
+no-eight-rest (turned (Refused r)) ss n = absurd n
+
+no-eight-later : (ss later : List Said) → NoEightRun (ss ++ later) → NoEightRun later
+no-eight-later [] later n = n
+no-eight-later (s ∷ ss) later n = no-eight-later ss later (no-eight-rest s (ss ++ later) n)
+
 -- after a turn of task k, as long as it is idle at no turn and no turn goes to it
-pub fair-anywhere : (k : ℕ) (y : Machine) (ms : List Move) → To k (turn y .says) → Waits k (turn y .machine) ms
-    → turns-given (moves (turn y .machine) ms .says) ≤ task-count y - 1
-fair-anywhere k y ms to w =
-    let l = waits (task-count y) k ms (turn y .machine) (task-count y) (own-turn k y to) w in
+pub fair-anywhere : (k : ℕ) (y : Machine) (ms : List Move) → NoEightRun (moves y (turns ∷ ms) .says) → To k (turn y .says)
+    → Waits k (turn y .machine) ms → turns-given (moves (turn y .machine) ms .says) ≤ task-count y - 1
+unfolding moves move
+fair-anywhere k y ms n to w =
+    let later = moves (turn y .machine) ms .says in
+    let l = waits (task-count y) k ms (turn y .machine) (task-count y) (own-turn k y later n to) (no-eight-rest (turned (turn y .says)) later n) w in
     omega arith
 
 module _ (g : Config) (ns bs : List ℕ) (ok : opening g ns bs .refusal ≡ 0) where
@@ -80,13 +94,6 @@ module _ (g : Config) (ns bs : List ℕ) (ok : opening g ns bs .refusal ≡ 0) w
       let low = sound-facts y₀ so .config .T-low in
       let e = opened-tasks in
       record { ok = so; below = omega arith }
-
-  pub fair : Fair g ns bs
-  unfolding run-of
-  fair k before between to w again =
-      let f = fair-anywhere k (moves y₀ before .machine) between to w in
-      let e = moves-tasks before y₀ ∙ opened-tasks in
-      omega arith
 
   module _ (ms : List Move) where
     pub sound-run : sound (run-of g ns bs ms .machine) ≡ true
@@ -123,3 +130,13 @@ module _ (g : Config) (ns bs : List ℕ) (ok : opening g ns bs .refusal ≡ 0) w
     never-8-run =
         no-eight (g .tasks - 1) ms y₀ beside
         (rw opened-chosen (record { place = 0; last = _; ended = _; before = opening-before g ns bs ok }))
+
+  pub fair : Fair g ns bs
+  unfolding run-of
+  fair k before between to w again =
+      let y = moves y₀ before .machine in
+      let both = in-two-parts before (turns ∷ between) y₀ in
+      let n = no-eight-later (moves y₀ before .says) (moves y (turns ∷ between) .says) (rw both at (never-8-run (before ++ (turns ∷ between)))) in
+      let f = fair-anywhere k y between n to w in
+      let e = moves-tasks before y₀ ∙ opened-tasks in
+      omega arith

@@ -274,19 +274,22 @@ fn next_running(w: &[u32]) -> u32 {
     k
 }
 
+// The task that a turn names, plus 1: the answer names the task that was chosen, whatever its step gives. In spoilt memory none was chosen.
+fn named(w: &[u32], k: u32) -> u32 {
+    either(get(w, SPOILT) == 0, plus(k, 1), 0)
+}
+
 // A turn is a step of that task. "A step refused by lack of records uses up its turn: the last one chosen, kept in the state, moves and no other word
-// does." With 6 an idle task was left: "If nothing runs it says idle and changes nothing." With 8 nothing was chosen.
+// does." With 6 an idle task was left: "If nothing runs it says idle and changes nothing." With 8 the last one chosen stays, as in every refusal but 7.
 fn turn(w: &mut [u32]) {
     let k = next_running(w);
     put_words(w, WHAT, &[0, k]);
     enter(w);
+    put(w, REPLY + 4, named(w, k));
     let why = get(w, WHY);
     match why {
-        0 | 7 => {
-            put(w, CHOSEN, k);
-            put(w, REPLY + 4, plus(k, 1));
-        }
-        6 => put_words(w, REPLY, &[3, 0]),
+        0 | 7 => put(w, CHOSEN, k),
+        6 => put_words(w, REPLY, &[3, 0, 0, 0, 0]),
         _ => (),
     }
 }

@@ -35,12 +35,12 @@ pub record Turned : Type 0 where
 abbrev pub gives : Turn → Machine → Turned
 gives a y = record { says = a; machine = y }
 
--- the turn goes to task k, whose step answers so and leaves z. "A step refused by lack of records uses up its turn: the last one chosen,
--- kept in the state, moves and no other word does." Any other refusal of the step is the turn's own and changes nothing
+-- the turn goes to task k, whose step answers so and leaves z: the answer names the task, whatever its step answers. "A step refused by lack
+-- of records uses up its turn: the last one chosen, kept in the state, moves and no other word does." 8 of the step changes nothing
 unfoldable pub after-step : Machine → ℕ → Output → Machine → Turned
 after-step y k (At line) z = gives (Of k (At line)) (with-chosen k z)
 after-step y k (End a own full) z = gives (Of k (End a own full)) (with-chosen k z)
-after-step y k (Refuse r) z = if eqb r 7 then gives (Of k (Refuse r)) (with-chosen k y) else gives (Refused r) y
+after-step y k (Refuse r) z = gives (Of k (Refuse r)) (if eqb r 7 then with-chosen k y else y)
 
 -- "If nothing runs it says idle and changes nothing."
 unfoldable pub turn-to : Machine → ℕ → Turned
@@ -48,7 +48,7 @@ turn-to y l =
     let r = step y (number l) in
     if filled l then after-step y (number l) (r .out) (r .machine) else gives Idle y
 
--- 8 comes first, as in every entry
+-- 8 comes first, as in every entry: in spoilt memory no task is chosen, and none is named
 unfoldable pub turn : Machine → Turned
 turn y = if not (sound y) then gives (Refused 8) y else turn-to y (next-task y)
 

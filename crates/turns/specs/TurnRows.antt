@@ -48,12 +48,13 @@ pub goes-round :
 unfolding all-turns at looks looked
 goes-round = refl
 
--- a step refused with 7 uses up its turn; nothing runs; 8 of the step; spoilt memory, also where nothing runs
+-- a step refused with 7 uses up its turn; nothing runs; 8 of the step names its task and changes nothing; spoilt memory names none, also
+-- where nothing runs
 pub no-step :
     map turn (at 0 (looks ∷ wants-node ∷ []) ∷ at 0 [] ∷ at 0 (looks ∷ lost ∷ []) ∷ at 0 (looks ∷ worn ∷ []) ∷ at 2 [] ∷ [])
     ≡ gives (Turn.Of 1 (Refuse 7)) (at 1 (looks ∷ wants-node ∷ []))
     ∷ gives Turn.Idle (at 0 [])
-    ∷ gives (Turn.Refused 8) (at 0 (looks ∷ lost ∷ []))
+    ∷ gives (Turn.Of 1 (Refuse 8)) (at 0 (looks ∷ lost ∷ []))
     ∷ gives (Turn.Refused 8) (at 0 (looks ∷ worn ∷ []))
     ∷ gives (Turn.Refused 8) (at 2 [])
     ∷ []

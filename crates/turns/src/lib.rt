@@ -2,8 +2,8 @@
 // and turns, and what is promised of every run. Nothing is run from here.
 use spec::Output;
 
-// What a turn answers: nothing runs; the task that the turn went to, with what its step answers, which is no refusal but 7; or a refusal's
-// number, 8.
+// What a turn answers: nothing runs; the task that the turn went to, with what its step answers, which is no refusal but 7 or the step's
+// own 8; or the number with which spoilt memory is refused, 8.
 pub enum Turn {
     Idle,
     Of(u32, Output),

@@ -1,4 +1,5 @@
 -- `dispatch::after_step` meets its contract: each arm is a clause of `by-output`. Assumes nothing.
+use mathlib.Core.Path.{sym, _∙_}
 use borrow.Author.Tests.{eq-eqb, ne-eqb}
 use Rattle.spec.specs.Machine.{state-chosen}
 use Rattle.dispatch.specs.Turned.{by-output}
@@ -19,17 +20,30 @@ returns : tie.Need-returns
 unfolding by-output state-chosen
 returns c = rw (c .before .before .out3 .given .1, eq-eqb _ 7 (c .if1 .taken))
 
+sound-requires : tie.Need-sound-requires
+sound-requires c κs = search needs
+
 returns-2 : tie.Need-returns-2
-unfolding by-output state-chosen
-returns-2 c = rw (c .before .out .given .1)
+unfolding by-output
+returns-2 c =
+    let at-sound = c .before in
+    let not-7 = at-sound .before in
+    rw (not-7 .before .before .out3 .given .1, ne-eqb _ 7 (not-7 .if1 .left), sym (at-sound .sound .ensures) ∙ c .if2 .taken)
 
 returns-3 : tie.Need-returns-3
 unfolding by-output state-chosen
-returns-3 c = rw (c .before .out2 .given .1)
+returns-3 c = rw (c .before .out .given .1)
 
 returns-4 : tie.Need-returns-4
+unfolding by-output state-chosen
+returns-4 c = rw (c .before .out2 .given .1)
+
+returns-5 : tie.Need-returns-5
 unfolding by-output
-returns-4 c = rw (c .before .before .out3 .given .1, ne-eqb _ 7 (c .if1 .left))
+returns-5 c =
+    let at-sound = c .before in
+    let not-7 = at-sound .before in
+    rw (not-7 .before .before .out3 .given .1, ne-eqb _ 7 (not-7 .if1 .left), sym (at-sound .sound .ensures) ∙ c .if2 .left)
 
 pub after-step-spec : {M : Type 1} → statement M
 after-step-spec =
@@ -39,6 +53,8 @@ after-step-spec =
     enum-known-out-2
     enum-known-out-3
     returns
+    sound-requires
     returns-2
     returns-3
-    returns-4)
+    returns-4
+    returns-5)

@@ -31,7 +31,8 @@ same-length-2 c = search needs
 
 returns : tie.Need-returns
 returns c =
-    let at-step = c .before .before .before .before .before in
+    let at-words = c .before .before .before in
+    let at-step = at-words .before .before .before .before in
     let at-next = at-step .before .before .before .before in
     let a = at-next .before .before .before .args in
     let y = machine-of (a .s) (now (a .ns)) (now (a .bs)) in
