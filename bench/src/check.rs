@@ -4,7 +4,7 @@
 use crate::machine::MAX_TAGS;
 use crate::model::{self, Coverage};
 use crate::random::{self, Random, Shape};
-use crate::schedule::{self, Run, EVENT_WORDS, OUTPUT_WORDS, REFUSED};
+use crate::schedule::{self, Opening, Run, EVENT_WORDS, OUTPUT_WORDS, REFUSED};
 use std::fmt::Display;
 
 /// Everything that a run leaves behind.
@@ -34,10 +34,9 @@ impl Memory {
         }
     }
 
-    fn run(&mut self, run: Run, tasks: u32, version: u32, events: &[u32]) {
+    fn run(&mut self, run: Run, opening: Opening, events: &[u32]) {
         self.outcome = run(
-            tasks,
-            version,
+            opening,
             &mut self.nodes,
             &mut self.buckets,
             events,
@@ -67,56 +66,49 @@ impl Memory {
 
 /// Runs the schedule with the proved implementation too and compares all that is left.
 #[cfg(feature = "proved")]
-fn compare(
-    before: Memory,
-    plain: &Memory,
-    tasks: u32,
-    version: u32,
-    events: &[u32],
-) -> Result<(), String> {
+fn compare(before: Memory, plain: &Memory, opening: Opening, events: &[u32]) -> Result<(), String> {
     let mut proved = before;
-    proved.run(crate::proved::run, tasks, version, events);
+    proved.run(crate::proved::run, opening, events);
     plain.difference(&proved).map_or(Ok(()), |difference| {
         Err(format!("plain and proved: {difference}"))
     })
 }
 
 #[cfg(not(feature = "proved"))]
-fn compare(_: Memory, _: &Memory, _: u32, _: u32, _: &[u32]) -> Result<(), String> {
+fn compare(_: Memory, _: &Memory, _: Opening, _: &[u32]) -> Result<(), String> {
     Ok(())
 }
 
 /// One random schedule; gives its shape's description with a failure.
-fn check_schedule(seed: u64, version: u32, coverage: &mut Coverage) -> Result<(), String> {
+fn check_schedule(
+    seed: u64,
+    version: u32,
+    new_rule: bool,
+    coverage: &mut Coverage,
+) -> Result<(), String> {
     let mut random = Random::new(seed);
-    let shape = Shape::random(&mut random, version);
+    let shape = Shape::random(&mut random, version, new_rule);
     let count = random.pick(&[200, 1000, 3000, 10_000]);
     let events = random::events(&shape, &mut random, count);
     let count = events.len() / EVENT_WORDS;
     let before = Memory::random(&mut random, shape.node_words(), shape.bucket_words(), count);
     let mut after = before.clone();
-    after.run(schedule::run, shape.tasks, version, &events);
+    after.run(schedule::run, shape.opening, &events);
     let kept = before.tags.clone();
     let checked = match after.outcome as usize {
         listed @ 0..=MAX_TAGS if after.tags[listed..] == kept[listed..] => {
             let tags = &after.tags[..listed];
-            model::check(
-                shape.tasks,
-                version,
-                &events,
-                &after.outputs,
-                tags,
-                coverage,
-            )
+            model::check(shape.opening, &events, &after.outputs, tags, coverage)
         }
         outcome => Err(format!("outcome {outcome}")),
     };
     checked
-        .and_then(|()| compare(before, &after, shape.tasks, version, &events))
+        .and_then(|()| compare(before, &after, shape.opening, &events))
         .map_err(|failure| format!("seed {seed}, {shape:?}: {failure}"))
 }
 
-/// Openings at and past every bound: tasks, version, node words, bucket words, outcome.
+/// Openings at and past every bound: tasks, version, node words, bucket words, outcome. The rule
+/// on tag 0 makes no difference to them.
 const OPENINGS: [(u32, u32, usize, usize, u32); 20] = [
     (0, 1, 34, 66, REFUSED + 1),
     (9, 2, 34, 66, REFUSED + 1),
@@ -143,19 +135,22 @@ const OPENINGS: [(u32, u32, usize, usize, u32); 20] = [
 fn check_openings() -> Result<(), String> {
     let mut random = Random::new(1);
     for (tasks, version, node_words, bucket_words, outcome) in OPENINGS {
+        let opening = Opening {
+            tasks,
+            version,
+            zero_withdrawn: random.pick(&[0, 1, 2, u32::MAX]),
+        };
         let before = Memory::random(&mut random, node_words, bucket_words, 0);
         let mut after = before.clone();
-        after.run(schedule::run, tasks, version, &[]);
+        after.run(schedule::run, opening, &[]);
         let untouched = Memory {
             outcome,
             ..before.clone()
         } == after;
         if after.outcome != outcome || (outcome > REFUSED) != untouched {
-            return Err(format!(
-                "opening {tasks}, {version}, {node_words}, {bucket_words}"
-            ));
+            return Err(format!("{opening:?}, {node_words}, {bucket_words}"));
         }
-        compare(before, &after, tasks, version, &[])?;
+        compare(before, &after, opening, &[])?;
     }
     Ok(())
 }
@@ -166,11 +161,16 @@ fn check_short_list() -> Result<(), String> {
     let mut before = Memory::random(&mut random, 34, 66, 0);
     before.tags.pop();
     let mut after = before.clone();
-    after.run(schedule::run, 1, 1, &[]);
+    let opening = Opening {
+        tasks: 1,
+        version: 1,
+        zero_withdrawn: 0,
+    };
+    after.run(schedule::run, opening, &[]);
     if after.outcome != REFUSED + 9 || after.tags != before.tags {
         return Err("list slice of 63 words".into());
     }
-    compare(before, &after, 1, 1, &[])
+    compare(before, &after, opening, &[])
 }
 
 /// `name:count` for each pair.
@@ -180,10 +180,10 @@ fn counts<T: Display>(pairs: impl Iterator<Item = (T, u64)>) -> String {
         .collect()
 }
 
-fn print(coverage: &Coverage, version: usize) {
+fn print(kind: &str, coverage: &Coverage) {
     let names = ["yes", "no", "full", "done", "lost", "limit"];
     println!(
-        "version {version}: {} schedules, {} events",
+        "{kind}: {} schedules, {} events",
         coverage.schedules, coverage.events
     );
     println!(
@@ -196,7 +196,7 @@ fn print(coverage: &Coverage, version: usize) {
     );
     println!(
         "refusals:{}",
-        counts((4..9).map(|k| (k, coverage.refusals[k])))
+        counts((4..9).chain([14]).map(|k| (k, coverage.refusals[k])))
     );
     println!(
         "resizes done, by new size:{}",
@@ -204,20 +204,28 @@ fn print(coverage: &Coverage, version: usize) {
     );
 }
 
-/// Checks random schedules with at least `events` events in total, in both versions by turns.
+/// The kinds of schedules: version, whether under the new rule on tag 0, name.
+const KINDS: [(u32, bool, &str); 4] = [
+    (1, false, "version 1, old rule"),
+    (2, false, "version 2, old rule"),
+    (1, true, "version 1, new rule"),
+    (2, true, "version 2, new rule"),
+];
+
+/// Checks random schedules with at least `events` events in total, of each kind by turns.
 pub fn check(events: u64) -> Result<(), String> {
     check_openings()?;
     check_short_list()?;
-    let mut coverage = [Coverage::default(), Coverage::default()];
+    let mut coverage = KINDS.map(|_| Coverage::default());
     let mut seed = 0;
-    while coverage[0].events + coverage[1].events < events {
-        for (version, coverage) in (1..).zip(&mut coverage) {
+    while coverage.iter().map(|kind| kind.events).sum::<u64>() < events {
+        for ((version, new_rule, _), coverage) in KINDS.into_iter().zip(&mut coverage) {
             seed += 1;
-            check_schedule(seed, version, coverage)?;
+            check_schedule(seed, version, new_rule, coverage)?;
         }
     }
-    for (version, coverage) in (1..).zip(&coverage) {
-        print(coverage, version);
+    for ((_, _, name), coverage) in KINDS.into_iter().zip(&coverage) {
+        print(name, coverage);
     }
     let compared = if cfg!(feature = "proved") {
         " and the proved implementation"

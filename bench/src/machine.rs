@@ -65,6 +65,7 @@ pub enum Refusal {
     Corrupt = 8,
     ShortList = 9,
     Version = 11,
+    ZeroWithdrawn = 14,
 }
 
 /// What an accepted start or step gives: the next line, or an answer with the own steps and,
@@ -97,6 +98,8 @@ pub struct State {
     pub tasks: u32,
     /// Of the tags: 1, or 2 for tags that end in a check digit.
     pub version: u32,
+    /// Whether no insert of tag 0 may be started.
+    pub zero_withdrawn: bool,
     pub nodes: u32,
     pub buckets: u32,
     pub head: u32,
@@ -134,6 +137,7 @@ fn is_version(version: u32) -> bool {
 pub fn open(
     tasks: u32,
     version: u32,
+    zero_withdrawn: bool,
     nodes: &mut [u32],
     buckets: &mut [u32],
 ) -> Result<State, Refusal> {
@@ -154,6 +158,7 @@ pub fn open(
     Ok(State {
         tasks,
         version,
+        zero_withdrawn,
         nodes: node_count,
         buckets: bucket_count,
         chosen: tasks - 1,
@@ -178,6 +183,9 @@ pub fn start(
     let record = &mut state.task[task as usize];
     if record.running {
         return Err(Refusal::AlreadyRunning);
+    }
+    if state.zero_withdrawn && call == Call::Insert && tag == 0 {
+        return Err(Refusal::ZeroWithdrawn);
     }
     *record = Task {
         running: true,

@@ -5,7 +5,7 @@
 //! moment between its start and its end. Together this orders all ended calls.
 
 use crate::machine::{Answer, Call, Output, Refusal, MAX_SIZE, MAX_TAGS, MAX_TASKS};
-use crate::schedule::{decode_event, decode_output, Event};
+use crate::schedule::{decode_event, decode_output, Event, Opening};
 use std::collections::{BTreeMap, BTreeSet};
 
 /// How often each thing occurred.
@@ -15,7 +15,7 @@ pub struct Coverage {
     pub events: u64,
     pub lines: BTreeMap<u32, u64>,
     pub answers: [u64; 7],
-    pub refusals: [u64; 10],
+    pub refusals: [u64; 15],
     pub sizes: BTreeMap<usize, u64>,
 }
 
@@ -32,8 +32,7 @@ struct Running {
 }
 
 struct Model<'a> {
-    tasks: u32,
-    version: u32,
+    opening: Opening,
     set: BTreeSet<u32>,
     size: usize,
     /// The size before the last resize.
@@ -45,8 +44,7 @@ struct Model<'a> {
 
 /// Checks every output and the tags listed at the end.
 pub fn check(
-    tasks: u32,
-    version: u32,
+    opening: Opening,
     events: &[u32],
     outputs: &[u32],
     listed: &[u32],
@@ -56,8 +54,7 @@ pub fn check(
     let task = Default::default();
     let set = BTreeSet::new();
     let mut model = Model {
-        tasks,
-        version,
+        opening,
         set,
         size: 1,
         old_size: 1,
@@ -95,12 +92,15 @@ impl Model<'_> {
     }
 
     fn start(&mut self, task: u32, call: Call, tag: u32, output: Result<Output, Refusal>) -> bool {
-        if task >= self.tasks {
+        if task >= self.opening.tasks {
             return output == Err(Refusal::NoSuchTask);
         }
         let record = &mut self.task[task as usize];
         if record.is_some() {
             return output == Err(Refusal::AlreadyRunning);
+        }
+        if call == Call::Insert && tag == 0 && self.opening.withdraws_zero() {
+            return output == Err(Refusal::ZeroWithdrawn);
         }
         let line = match call {
             Call::Contains => 12,
@@ -122,7 +122,7 @@ impl Model<'_> {
     }
 
     fn step(&mut self, task: u32, output: Result<Output, Refusal>) -> bool {
-        if task >= self.tasks {
+        if task >= self.opening.tasks {
             return output == Err(Refusal::NoSuchTask);
         }
         let Some(mut running) = self.task[task as usize].take() else {
@@ -173,7 +173,7 @@ impl Model<'_> {
         if !matches!(running.call, Call::Insert | Call::Remove) {
             return tags == 0;
         }
-        let divisor = if self.version == 2 { 10 } else { 1 };
+        let divisor = if self.opening.version == 2 { 10 } else { 1 };
         let sharing = |size: usize| {
             let place = |tag: u32| (tag / divisor) as usize % size;
             let shares = |&&tag: &&u32| place(tag) == place(running.tag);

@@ -1,7 +1,7 @@
 //! A machine together with its pools.
 
-use crate::machine::{self, Output, Refusal, State, BUCKET_WORDS, NODE_WORDS};
-use crate::schedule::{self, Event};
+use crate::machine::{Output, Refusal, State, BUCKET_WORDS, NODE_WORDS};
+use crate::schedule::{self, Event, Opening};
 
 pub struct Owned {
     pub state: State,
@@ -10,11 +10,12 @@ pub struct Owned {
 }
 
 impl Owned {
-    pub fn open(tasks: u32, version: u32, nodes: usize, buckets: usize) -> Owned {
+    pub fn open(opening: Opening, nodes: usize, buckets: usize) -> Owned {
         let mut nodes = vec![0; nodes * NODE_WORDS];
         let mut buckets = vec![0; buckets * BUCKET_WORDS];
-        let state =
-            machine::open(tasks, version, &mut nodes, &mut buckets).expect("numbers in bounds");
+        let state = opening
+            .open(&mut nodes, &mut buckets)
+            .expect("numbers in bounds");
         Owned {
             state,
             nodes,

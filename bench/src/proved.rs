@@ -5,11 +5,14 @@
 //! The proved `schedule_run` is total: an event of a kind above 5 is a step, and events
 //! without room for their output are not run. Here neither is given to it.
 
+use crate::schedule::Opening;
+
 #[link(name = "schedule", kind = "static")]
 extern "C" {
     fn schedule_run(
         tasks: u32,
         version: u32,
+        zero_withdrawn: u32,
         nodes: *mut u32,
         nodes_len: usize,
         buckets: *mut u32,
@@ -25,8 +28,7 @@ extern "C" {
 
 /// The same as `schedule::run`, in meaning and encoding.
 pub fn run(
-    tasks: u32,
-    version: u32,
+    opening: Opening,
     nodes: &mut [u32],
     buckets: &mut [u32],
     events: &[u32],
@@ -36,8 +38,9 @@ pub fn run(
     // SAFETY: the pointers and lengths come from live slices that do not overlap.
     unsafe {
         schedule_run(
-            tasks,
-            version,
+            opening.tasks,
+            opening.version,
+            opening.zero_withdrawn,
             nodes.as_mut_ptr(),
             nodes.len(),
             buckets.as_mut_ptr(),

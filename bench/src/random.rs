@@ -2,7 +2,7 @@
 
 use crate::machine::{Call, BUCKET_WORDS, MAX_BUCKETS, MAX_NODES, MAX_TASKS, NODE_WORDS};
 use crate::owned::Owned;
-use crate::schedule::{encode_event, Event};
+use crate::schedule::{encode_event, Event, Opening};
 
 /// Xorshift with 64 bits of state, which must not be 0.
 pub struct Random(u64);
@@ -45,8 +45,7 @@ impl Random {
 /// What a schedule looks like.
 #[derive(Clone, Copy, Debug)]
 pub struct Shape {
-    pub tasks: u32,
-    pub version: u32,
+    pub opening: Opening,
     pub nodes: usize,
     pub buckets: usize,
     /// Tags are multiples of `tag_stride`, below `tag_count` times it.
@@ -61,12 +60,16 @@ pub struct Shape {
 }
 
 impl Shape {
-    pub fn random(random: &mut Random, version: u32) -> Shape {
+    pub fn random(random: &mut Random, version: u32, new_rule: bool) -> Shape {
         let tasks = random.one_to(MAX_TASKS);
         let (nodes, buckets) = pool_sizes(random, tasks);
+        let new = random.pick(&[1, 2, 256, u32::MAX]);
         Shape {
-            tasks: tasks as u32,
-            version,
+            opening: Opening {
+                tasks: tasks as u32,
+                version,
+                zero_withdrawn: if new_rule { new } else { 0 },
+            },
             nodes,
             buckets,
             tag_count: random.pick(&[2, 5, 20, 66, 90, 200]),
@@ -126,11 +129,12 @@ impl Phase {
     }
 
     fn task(&self, shape: &Shape, random: &mut Random) -> u32 {
-        let any = random.below(shape.tasks);
+        let tasks = shape.opening.tasks;
+        let any = random.below(tasks);
         if !random.percent(shape.favoured_percent) {
             return any;
         }
-        let mut tasks = (any..shape.tasks).chain(0..any);
+        let mut tasks = (any..tasks).chain(0..any);
         tasks
             .find(|task| self.favoured >> task & 1 == 1)
             .unwrap_or(any)
@@ -162,7 +166,7 @@ impl Phase {
         if random.percent(shape.blind_percent) {
             starts = random.percent(30);
             if random.percent(20) {
-                task = random.pick(&[shape.tasks, 8, u32::MAX]);
+                task = random.pick(&[shape.opening.tasks, 8, u32::MAX]);
             }
         }
         if starts {
@@ -176,7 +180,7 @@ impl Phase {
 /// A schedule of at most `count` events, accepted or refused, in words. It ends early
 /// when nothing is accepted any more: every task waits for a record.
 pub fn events(shape: &Shape, random: &mut Random, count: usize) -> Vec<u32> {
-    let mut machine = Owned::open(shape.tasks, shape.version, shape.nodes, shape.buckets);
+    let mut machine = Owned::open(shape.opening, shape.nodes, shape.buckets);
     let mut phase = Phase::random(random);
     let mut words = Vec::new();
     let mut refused_in_a_row = 0;

@@ -26,8 +26,33 @@ pub enum Event {
 pub type EventWords = [u32; EVENT_WORDS];
 pub type OutputWords = [u32; OUTPUT_WORDS];
 
+/// What an opening is given besides the pools. `zero_withdrawn` is 0 for the old rule on tag 0;
+/// any other number is the new rule, under which no insert of tag 0 may be started.
+#[derive(Clone, Copy, Debug)]
+pub struct Opening {
+    pub tasks: u32,
+    pub version: u32,
+    pub zero_withdrawn: u32,
+}
+
+impl Opening {
+    pub fn withdraws_zero(&self) -> bool {
+        self.zero_withdrawn != 0
+    }
+
+    pub fn open(&self, nodes: &mut [u32], buckets: &mut [u32]) -> Result<State, Refusal> {
+        machine::open(
+            self.tasks,
+            self.version,
+            self.withdraws_zero(),
+            nodes,
+            buckets,
+        )
+    }
+}
+
 /// Any implementation of `run`.
-pub type Run = fn(u32, u32, &mut [u32], &mut [u32], &[u32], &mut [u32], &mut [u32]) -> u32;
+pub type Run = fn(Opening, &mut [u32], &mut [u32], &[u32], &mut [u32], &mut [u32]) -> u32;
 
 pub fn encode_event(event: Event) -> EventWords {
     match event {
@@ -85,6 +110,7 @@ fn decode_refusal(value: u32) -> Option<Refusal> {
         NotRunning,
         NoFreeRecord,
         Corrupt,
+        ZeroWithdrawn,
     ]
     .into_iter()
     .find(|&r| r as u32 == value)
@@ -105,15 +131,14 @@ pub fn apply(
 /// Opens with the two pools, runs every event, writing an output for each, and lists the
 /// tags at the end. A refused opening writes nothing. `outputs` has room for every event.
 pub fn run(
-    tasks: u32,
-    version: u32,
+    opening: Opening,
     nodes: &mut [u32],
     buckets: &mut [u32],
     events: &[u32],
     outputs: &mut [u32],
     tags: &mut [u32],
 ) -> u32 {
-    let mut state = match machine::open(tasks, version, nodes, buckets) {
+    let mut state = match opening.open(nodes, buckets) {
         Ok(state) => state,
         Err(refusal) => return REFUSED + refusal as u32,
     };
@@ -136,6 +161,12 @@ pub fn run(
 #[cfg(test)]
 mod tests {
     use super::*;
+
+    const OPENING: Opening = Opening {
+        tasks: 1,
+        version: 1,
+        zero_withdrawn: 0,
+    };
 
     #[test]
     fn events_survive_encoding() {
@@ -162,8 +193,7 @@ mod tests {
         let (mut nodes, mut buckets) = ([9; 34], [9; 66]);
         let (mut outputs, mut tags) = ([9; 20], [9; 64]);
         let outcome = run(
-            1,
-            1,
+            OPENING,
             &mut nodes,
             &mut buckets,
             &events,
@@ -182,19 +212,59 @@ mod tests {
         assert_eq!((tags[0], tags[1]), (17, 9));
     }
 
+    /// An insert of tag 0 after a remove of it, a grow, and another task's insert of tag 0.
+    #[test]
+    fn every_rule_number_but_0_is_the_new_rule() {
+        let events = [
+            Event::Start(0, Call::Remove, 0),
+            Event::Start(1, Call::Grow, 0),
+            Event::Start(0, Call::Insert, 0),
+            Event::Start(2, Call::Insert, 0),
+            Event::Start(3, Call::Insert, 0),
+        ]
+        .map(encode_event);
+        for (zero_withdrawn, last) in [
+            (0, [0, 32, 0, 0]),
+            (1, [2, 14, 0, 0]),
+            (2, [2, 14, 0, 0]),
+            (256, [2, 14, 0, 0]),
+            (u32::MAX, [2, 14, 0, 0]),
+        ] {
+            let opening = Opening {
+                tasks: 3,
+                zero_withdrawn,
+                ..OPENING
+            };
+            let mut outputs = [9; 20];
+            let outcome = run(
+                opening,
+                &mut [9; 34],
+                &mut [9; 66],
+                events.as_flattened(),
+                &mut outputs,
+                &mut [9; 64],
+            );
+            let expected = [
+                [0, 32, 0, 0],
+                [0, 20, 0, 0],
+                [2, 5, 0, 0],
+                last,
+                [2, 4, 0, 0],
+            ];
+            assert_eq!((outcome, outputs.as_slice()), (0, expected.as_flattened()));
+        }
+    }
+
     #[test]
     fn a_refused_opening_writes_nothing() {
         let (mut nodes, mut buckets, mut tags) = ([9; 34], [9; 66], [9; 64]);
         for (tasks, version, refusal) in [(9, 1, 1), (9, 3, 1), (8, 3, 11), (1, 0, 11)] {
-            let outcome = run(
+            let opening = Opening {
                 tasks,
                 version,
-                &mut nodes,
-                &mut buckets,
-                &[],
-                &mut [],
-                &mut tags,
-            );
+                zero_withdrawn: version,
+            };
+            let outcome = run(opening, &mut nodes, &mut buckets, &[], &mut [], &mut tags);
             assert_eq!(outcome, REFUSED + refusal);
             assert_eq!((nodes, buckets, tags), ([9; 34], [9; 66], [9; 64]));
         }

@@ -4,7 +4,7 @@
 use crate::machine::{self, Call, MAX_BUCKETS, MAX_NODES, MAX_TAGS};
 use crate::owned::Owned;
 use crate::random::{Random, Shape};
-use crate::schedule::{self, encode_event, Event, Run, EVENT_WORDS, OUTPUT_WORDS};
+use crate::schedule::{self, encode_event, Event, Opening, Run, EVENT_WORDS, OUTPUT_WORDS};
 use std::hint::black_box;
 use std::time::Instant;
 
@@ -12,7 +12,7 @@ const ROUNDS: usize = 15;
 
 /// An event for a random task: a step if it runs, else a start.
 fn next(machine: &Owned, shape: &Shape, max_size: u32, random: &mut Random) -> Event {
-    let task = random.below(shape.tasks);
+    let task = random.below(shape.opening.tasks);
     if machine.runs(task) {
         return Event::Step(task);
     }
@@ -42,7 +42,7 @@ impl Load {
     /// A schedule of `count` accepted events. The head does not grow past `max_size`.
     fn new(name: &'static str, shape: Shape, max_size: u32, count: usize) -> Load {
         let mut random = Random::new(7);
-        let mut machine = Owned::open(shape.tasks, shape.version, shape.nodes, shape.buckets);
+        let mut machine = Owned::open(shape.opening, shape.nodes, shape.buckets);
         let mut events = Vec::new();
         while events.len() < count * EVENT_WORDS {
             let event = next(&machine, &shape, max_size, &mut random);
@@ -95,8 +95,7 @@ fn time_runs<const N: usize>(shape: &Shape, events: &[u32], runs: [Run; N]) -> [
     let mut tags = [0; MAX_TAGS];
     let mut round = |run: Run| {
         black_box(run(
-            shape.tasks,
-            shape.version,
+            shape.opening,
             &mut nodes,
             &mut buckets,
             black_box(events),
@@ -124,7 +123,7 @@ fn time_refused<const N: usize>(load: &Load, runs: [Run; N]) -> [f64; N] {
     let shape = &load.shape;
     let count = load.count() / 2;
     let accepted = &load.events[..load.count() / 10 * EVENT_WORDS];
-    let refused = encode_event(Event::Step(shape.tasks)).repeat(count);
+    let refused = encode_event(Event::Step(shape.opening.tasks)).repeat(count);
     let without = time_runs(shape, accepted, runs);
     let with = time_runs(shape, &[accepted, &refused].concat(), runs);
     std::array::from_fn(|k| (with[k] - without[k]) / count as f64)
@@ -150,7 +149,7 @@ fn print_events(load: &Load) {
     let Load { name, shape, .. } = load;
     println!(
         "{name}: T={} H={} B={}, {} accepted events, {}% of them steps",
-        shape.tasks,
+        shape.opening.tasks,
         shape.nodes,
         shape.buckets,
         load.count(),
@@ -221,9 +220,13 @@ fn print_scan(load: &Load) {
 }
 
 fn loads() -> [Load; 2] {
-    let small = Shape {
+    let opening = Opening {
         tasks: 2,
         version: 1,
+        zero_withdrawn: 0,
+    };
+    let small = Shape {
+        opening,
         nodes: 4,
         buckets: 16,
         tag_count: 40,
@@ -233,7 +236,10 @@ fn loads() -> [Load; 2] {
         blind_percent: 0,
     };
     let largest = Shape {
-        tasks: 8,
+        opening: Opening {
+            tasks: 8,
+            ..opening
+        },
         nodes: MAX_NODES,
         buckets: MAX_BUCKETS,
         tag_count: 90,

@@ -11,13 +11,20 @@ struct Session {
 }
 
 fn session(tasks: u32, nodes: usize, buckets: usize) -> Session {
-    session_of_version(1, tasks, nodes, buckets)
+    session_of(1, false, tasks, nodes, buckets)
 }
 
-fn session_of_version(version: u32, tasks: u32, nodes: usize, buckets: usize) -> Session {
+fn session_of(
+    version: u32,
+    zero_withdrawn: bool,
+    tasks: u32,
+    nodes: usize,
+    buckets: usize,
+) -> Session {
     let mut nodes = vec![7; nodes * NODE_WORDS];
     let mut buckets = vec![7; buckets * BUCKET_WORDS];
-    let state = open(tasks, version, &mut nodes, &mut buckets).expect("a good opening");
+    let state =
+        open(tasks, version, zero_withdrawn, &mut nodes, &mut buckets).expect("a good opening");
     Session {
         state,
         nodes,
@@ -299,7 +306,7 @@ fn contains_reads_its_place_again() {
 /// 14 and 19 differ in the check digit alone.
 #[test]
 fn version_2_takes_tags_without_their_last_digit() {
-    let mut s = session_of_version(2, 1, 8, 64);
+    let mut s = session_of(2, false, 1, 8, 64);
     for tag in [14, 19, 25, u32::MAX] {
         assert_eq!(s.call(0, Call::Insert, tag), "end=0,yes,3");
     }
@@ -319,15 +326,79 @@ fn version_2_takes_tags_without_their_last_digit() {
     assert_eq!(s.call(0, Call::Insert, 51), "end=0,yes,3");
 }
 
+/// A set with tag 0: it came in under the old rule, then the state was given the new one.
+fn holding_zero(version: u32) -> Session {
+    let mut s = session_of(version, false, 2, 8, 64);
+    for tag in [0, 7, 12] {
+        assert_eq!(s.call(0, Call::Insert, tag), "end=0,yes,3");
+    }
+    s.state.zero_withdrawn = true;
+    s
+}
+
+#[test]
+fn an_insert_of_tag_0_is_refused_under_the_new_rule() {
+    for version in [1, 2] {
+        let mut s = session_of(version, true, 2, 4, 8);
+        let before = (s.state, s.nodes.clone(), s.buckets.clone());
+        assert_eq!(s.start(1, Call::Insert, 0), "refuse=14");
+        assert_eq!(s.start(2, Call::Insert, 0), "refuse=4");
+        assert_eq!(before, (s.state, s.nodes.clone(), s.buckets.clone()));
+        assert_eq!(s.call(0, Call::Remove, 0), "end=0,no,3");
+        assert_eq!(s.call(0, Call::Contains, 0), "end=0,no,3");
+        assert_eq!(s.call(0, Call::Insert, 1), "end=0,yes,3");
+        assert_eq!(s.start(0, Call::Grow, 0), "at=0,20");
+        assert_eq!(s.start(0, Call::Insert, 0), "refuse=5");
+        assert_eq!(s.step_until(0, "end="), "end=0,done,7");
+        assert_eq!(s.start(0, Call::Insert, 0), "refuse=14");
+        s.state.chosen = 2;
+        assert_eq!(s.start(0, Call::Insert, 0), "refuse=8");
+        s.state.chosen = 1;
+        assert_eq!((s.state.zero_withdrawn, s.tags()), (true, vec![1]));
+    }
+}
+
+#[test]
+fn tag_0_is_listed_until_it_leaves() {
+    for version in [1, 2] {
+        let mut s = holding_zero(version);
+        assert_eq!(s.tags(), [0, 7, 12]);
+        assert_eq!(s.call(0, Call::Grow, 0), "end=0,done,7");
+        assert_eq!(s.call(1, Call::Contains, 0), "end=1,yes,5");
+        assert_eq!(s.start(1, Call::Insert, 0), "refuse=14");
+        assert_eq!(s.tags(), [0, 7, 12]);
+        assert_eq!(s.call(1, Call::Remove, 0), "end=1,yes,10");
+        assert_eq!(s.tags(), [7, 12]);
+        assert_eq!(s.call(1, Call::Remove, 0), "end=1,no,3");
+        assert_eq!(s.start(1, Call::Insert, 0), "refuse=14");
+        s.state.zero_withdrawn = false;
+        assert_eq!(s.call(1, Call::Insert, 0), "end=1,yes,3");
+    }
+}
+
+/// The rule is about starts: an insert of tag 0 that runs already, in a state given so, ends.
+#[test]
+fn a_running_insert_of_tag_0_goes_on() {
+    let mut s = session(1, 2, 2);
+    s.start(0, Call::Insert, 0);
+    s.state.zero_withdrawn = true;
+    assert_eq!(s.step_until(0, "end="), "end=0,yes,3");
+    assert_eq!(s.tags(), [0]);
+}
+
 #[test]
 fn opening_bounds() {
     let opened_for = |version, tasks, nodes: usize, buckets: usize| {
         let (mut nodes, mut buckets) = (vec![3; nodes], vec![3; buckets]);
-        let result = open(tasks, version, &mut nodes, &mut buckets);
+        let result = open(tasks, version, true, &mut nodes, &mut buckets);
         if result.is_err() {
             assert!(nodes.iter().chain(&buckets).all(|&word| word == 3));
         }
-        result.map_or_else(|refusal| refusal as u32, |state| state.chosen + 1 - tasks)
+        // Of an accepted opening 0, if the last one chosen is T - 1 and the rule is kept.
+        result.map_or_else(
+            |refusal| refusal as u32,
+            |state| state.chosen + u32::from(state.zero_withdrawn) - tasks,
+        )
     };
     let opened = |tasks, nodes, buckets| opened_for(1, tasks, nodes, buckets);
     assert_eq!((opened(0, 0, 0), opened(9, 34, 66)), (1, 1));

@@ -13,7 +13,7 @@ struct Memory {
 fn memory() -> Memory {
     let mut nodes = vec![0; 4 * NODE_WORDS];
     let mut buckets = vec![0; 4 * BUCKET_WORDS];
-    let state = open(2, 1, &mut nodes, &mut buckets).expect("a good opening");
+    let state = open(2, 1, false, &mut nodes, &mut buckets).expect("a good opening");
     let mut m = Memory {
         state,
         nodes,

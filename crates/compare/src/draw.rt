@@ -5,6 +5,7 @@ use crate::script::number;
 use crate::vars::EXCURSION;
 use crate::vars::LEFT;
 use crate::vars::SEED;
+use reference_words::words::ASKED_RULE;
 use reference_words::words::BUCKET_WORDS;
 use reference_words::words::BUCKETS;
 use reference_words::words::CHOSEN;
@@ -14,6 +15,7 @@ use reference_words::words::NOWHERE;
 use reference_words::words::STATE_END;
 use reference_words::words::VERSION;
 use reference_words::words::WHAT;
+use reference_words::words::ZERO_WITHDRAWN;
 use reference_words::words::either;
 use reference_words::words::field_at;
 use reference_words::words::get;
@@ -81,7 +83,8 @@ fn odd_value(x: u32) -> u32 {
     )
 }
 
-// A word to be spoilt: of the state half of the time, with the version and the last one chosen one time in 16 each, or of the nodes, or of the buckets.
+// A word to be spoilt: of the state half of the time, with the version, the last one chosen and the rule for tag 0 one time in 16 each, or of the nodes, or
+// of the buckets.
 fn odd_word(m: &[u32], x: u32) -> usize {
     let y = next(x);
     match below(x, 16) {
@@ -89,6 +92,7 @@ fn odd_word(m: &[u32], x: u32) -> usize {
         4 | 5 | 6 | 7 => BUCKETS + below(y, get(m, BUCKET_WORDS)) as usize,
         8 => VERSION,
         9 => CHOSEN,
+        10 => ZERO_WITHDRAWN,
         _ => below(y, STATE_END as u32) as usize,
     }
 }
@@ -180,9 +184,10 @@ fn number_for(what: u32, k: u32, x: u32) -> u32 {
     if what == 7 { below(x / 64, 210) } else { k }
 }
 
-// A multiple of 7: some tags then have the same tag div 10.
+// A multiple of 7: some tags then have the same tag div 10. One time in 16 tag 0.
 fn tag_for(m: &[u32], x: u32) -> u32 {
-    ((below(x, number(m, b'G')) as u64) * 7 % 4294967296) as u32
+    let tags = either(below(next(x), 16) == 0, 1, number(m, b'G'));
+    ((below(x, tags) as u64) * 7 % 4294967296) as u32
 }
 
 fn event(m: &mut [u32], x: u32) {
@@ -196,10 +201,11 @@ fn event(m: &mut [u32], x: u32) {
     );
 }
 
-// A schedule begins with an opening.
+// A schedule begins with an opening, under the other rule for tag 0 than the schedule before.
 fn draw(m: &mut [u32], x: u32, opens: bool) {
     if opens {
-        return put_words(m, WHAT, &[8, number(m, b'T'), number(m, b'V')]);
+        let rule = either(get(m, ASKED_RULE) == 0, 1, 0);
+        return put_words(m, WHAT, &[8, number(m, b'T'), number(m, b'V'), rule]);
     }
     event(m, x)
 }

@@ -2,6 +2,7 @@
 use crate::flat;
 use crate::vars::FIRST;
 use reference_words::words::ASKED_K;
+use reference_words::words::ASKED_RULE;
 use reference_words::words::ASKED_TAG;
 use reference_words::words::LENT;
 use reference_words::words::SPAN;
@@ -49,6 +50,7 @@ fn open(m: &mut [u32], ns: &mut [u32], bs: &mut [u32]) {
     let g = Config {
         tasks: get(m, ASKED_K),
         version: get(m, ASKED_TAG),
+        zero_withdrawn: get(m, ASKED_RULE) != 0,
     };
     let o = opening::open(g, ns, bs);
     let s = o.state;

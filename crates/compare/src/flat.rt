@@ -12,6 +12,7 @@ use reference_words::words::RECORDS;
 use reference_words::words::REPLY;
 use reference_words::words::T;
 use reference_words::words::VERSION;
+use reference_words::words::ZERO_WITHDRAWN;
 use reference_words::words::either;
 use reference_words::words::get;
 use reference_words::words::plus;
@@ -57,6 +58,7 @@ pub fn state_of(m: &[u32]) -> State {
         config: Config {
             tasks: get(m, T),
             version: get(m, VERSION),
+            zero_withdrawn: get(m, ZERO_WITHDRAWN) != 0,
         },
         nodes: get(m, H),
         buckets: get(m, B),
@@ -106,7 +108,11 @@ pub fn put_state(m: &mut [u32], s: State) {
             s.last_bucket,
         ],
     );
-    put(m, FIRST + CHOSEN, s.chosen);
+    put_words(
+        m,
+        FIRST + CHOSEN,
+        &[s.chosen, either(g.zero_withdrawn, 1, 0)],
+    );
     let mut k: usize = 0;
     while k < 8 {
         put_task(m, FIRST + RECORDS + 13 * k, ts[k]);

@@ -8,8 +8,10 @@ use crate::vars::DRAWN;
 use crate::vars::EXCURSION;
 use crate::vars::LISTS;
 use crate::vars::SHOWS;
+use crate::vars::WITHDRAWN;
 use reference_words::words::REPLY;
 use reference_words::words::WHAT;
+use reference_words::words::ZERO_WITHDRAWN;
 use reference_words::words::either;
 use reference_words::words::get;
 use reference_words::words::less_1;
@@ -55,6 +57,11 @@ fn count(m: &mut [u32]) {
     more(m, in_row(m, turn_row(m), less_1(of)), either(of == 0, 0, 1));
     more(m, CALLS, 1);
     more(m, DIFFERENCES, get(m, DIFFERS));
+    more(
+        m,
+        WITHDRAWN,
+        either(get(m, WHAT) == 8, get(m, ZERO_WITHDRAWN), 0),
+    );
 }
 
 // After a call of the script.
@@ -149,6 +156,7 @@ fn print_version(name: &[u8], m: &[u32], from: u32) {
     let a = from as usize;
     text(name);
     line(b"openings ", m, a);
+    line(b", under the new rule ", m, a + WITHDRAWN);
     line(b", calls ", m, a + CALLS);
     print_rows(m, from);
     text(b"\nin spoilt memory:");

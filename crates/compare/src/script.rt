@@ -4,6 +4,7 @@
 //   n b        so many node words, so many bucket words from now on
 //   t          the tag of the starts that follow
 //   V          the version of the openings that follow, and where the random calls that follow are counted
+//   N          0 if the openings that follow are under the old rule for tag 0, else under the new one
 //   o          an opening with so many tasks
 //   i r c g h  a start of insert, remove, contains, grow or shrink for this task
 //   s          a step of this task
@@ -28,6 +29,7 @@ use crate::vars::NUMBER;
 use crate::vars::NUMBERS;
 use crate::vars::QUIET;
 use crate::vars::SEED;
+use reference_words::words::ASKED_RULE;
 use reference_words::words::BUCKET_WORDS;
 use reference_words::words::BUCKETS;
 use reference_words::words::CHOSEN;
@@ -36,6 +38,7 @@ use reference_words::words::NODES;
 use reference_words::words::NOWHERE;
 use reference_words::words::RECORDS;
 use reference_words::words::WHAT;
+use reference_words::words::ZERO_WITHDRAWN;
 use reference_words::words::copy;
 use reference_words::words::either;
 use reference_words::words::get;
@@ -96,8 +99,11 @@ pub fn move_memory(m: &mut [u32], keeps: bool, restores: bool) {
     );
 }
 
-// A value as a state can have it in a word: `running` is 0 or 1, and own steps are below 65,536.
+// A value as a state can have it in a word: `running` and the rule for tag 0 are 0 or 1, and own steps are below 65,536.
 pub fn fitting(at: usize, v: u32) -> u32 {
+    if at == ZERO_WITHDRAWN {
+        return either(v == 0, 0, 1);
+    }
     if at < RECORDS || CHOSEN <= at {
         return v;
     }
@@ -114,6 +120,7 @@ fn target(m: &[u32], b: u8) -> usize {
         b'n' => NODE_WORDS,
         b'b' => BUCKET_WORDS,
         b'X' => SEED,
+        b'N' => ASKED_RULE,
         b',' => get(m, NAMED) as usize,
         _ => NOWHERE,
     }

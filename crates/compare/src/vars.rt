@@ -28,7 +28,8 @@ pub const FIRST: usize = 73000;
 
 pub const FIRST_END: usize = 73198;
 // Counts, 1,000 for each V of the script. Rows of 64: lines, answers, refusals, turns with nothing running, turns accepted by task, turns refused with
-// 7 by task, turns refused with 8 of the step by task; the same in spoilt memory; lists and shows that are not refused; calls; differences.
+// 7 by task, turns refused with 8 of the step by task; the same in spoilt memory; lists and shows that are not refused; calls; differences; openings under the
+// new rule for tag 0.
 pub const COUNTS: usize = 74000;
 
 pub const LISTS: usize = 980;
@@ -38,5 +39,7 @@ pub const SHOWS: usize = 981;
 pub const CALLS: usize = 982;
 
 pub const DIFFERENCES: usize = 983;
+
+pub const WITHDRAWN: usize = 984;
 // Memory as it was kept.
 pub const KEPT: usize = 80000;

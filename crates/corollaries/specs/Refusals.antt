@@ -1,4 +1,4 @@
--- Each of the refusals 1 to 9 and 11 is given exactly under its condition: one theorem for each, read off the tables. In the other rows of
+-- Each of the refusals 1 to 9, 11 and 14 is given exactly under its condition: one theorem for each, read off the tables. In the other rows of
 -- a table the numbers differ. Assumes nothing.
 use Prim.Native.Nat.{ℕ, _≤_, _<_}
 use mathlib.Core.Path.{_≡_, refl}
@@ -17,10 +17,11 @@ use Rattle.spec.specs.Sound.{node-count, bucket-count}
 use Rattle.spec.specs.Listed.{listed}
 use Rattle.spec.specs.Entries.{opening, start, step, list}
 use Rattle.laws.specs.SoundFacts.{SoundFacts}
+use Rattle.laws.specs.Withdrawn.{InsertOfZero}
 use Rattle.laws.specs.StepRefusals.{StepSound}
 use Rattle.laws.specs.Held.{HeldNode, HeldBucket}
 use Rattle.laws.specs.Taking.{AllHeld, all-nodes, all-buckets}
-use Rattle.corollaries.specs.Tables.{Within, Records, OpeningRefused, StartRefused, StepRefused, ListRefused, opening-refused, start-refused, step-refused, list-refused, is-1, is-2, is-3, is-4, is-5, is-6, is-7, is-8, is-8-step, is-8-list, is-9, is-11}
+use Rattle.corollaries.specs.Tables.{Within, Records, OpeningRefused, StartRefused, StepRefused, ListRefused, opening-refused, start-refused, step-refused, list-refused, is-1, is-2, is-3, is-4, is-5, is-6, is-7, is-8, is-8-step, is-8-list, is-9, is-11, is-14}
 
 module _ (g : Config) (ns bs : List ℕ) where
   -- 1: T is not 1 to 8
@@ -68,28 +69,44 @@ module _ (y : Machine) (k : ℕ) (call : Call) (tag : ℕ) where
   pub refusal-4-start : start y k call tag .out ≡ Refuse 4 ↔ (SoundFacts y × (y .state .config .tasks ≤ k))
   refusal-4-start = ((λ e. go (start-refused y k 4 call tag .0 e)), (λ h. start-refused y k 4 call tag .1 (is-4 refl (h .0) (h .1))))
     where
-      go : StartRefused y k 4 → SoundFacts y × (y .state .config .tasks ≤ k)
+      go : StartRefused y k call tag 4 → SoundFacts y × (y .state .config .tasks ≤ k)
       go (is-8 e n) = absurd (omega arith)
       go (is-4 e f h) = (f, h)
       go (is-5 e f h s) = absurd (omega arith)
+      go (is-14 e f h s z) = absurd (omega arith)
 
   -- 5: memory is sound, and the task is there and runs a call
   pub refusal-5 : start y k call tag .out ≡ Refuse 5 ↔ (SoundFacts y × (k < y .state .config .tasks) × (task-of y k .running ≡ true))
   refusal-5 = ((λ e. go (start-refused y k 5 call tag .0 e)), (λ h. start-refused y k 5 call tag .1 (is-5 refl (h .0) (h .1) (h .2))))
     where
-      go : StartRefused y k 5 → SoundFacts y × (k < y .state .config .tasks) × (task-of y k .running ≡ true)
+      go : StartRefused y k call tag 5 → SoundFacts y × (k < y .state .config .tasks) × (task-of y k .running ≡ true)
       go (is-8 e n) = absurd (omega arith)
       go (is-4 e f h) = absurd (omega arith)
       go (is-5 e f h s) = (f, h, s)
+      go (is-14 e f h s z) = absurd (omega arith)
+
+  -- 14: memory is sound, the task is there and idle, and an insert of tag 0 is started where tag 0 is withdrawn
+  pub refusal-14 : start y k call tag .out ≡ Refuse 14
+      ↔ (SoundFacts y × (k < y .state .config .tasks) × (task-of y k .running ≡ false) × InsertOfZero (y .state .config) call tag)
+  refusal-14 =
+      ((λ e. go (start-refused y k 14 call tag .0 e)), (λ h. start-refused y k 14 call tag .1 (is-14 refl (h .0) (h .1) (h .2) (h .3))))
+    where
+      go : StartRefused y k call tag 14
+          → SoundFacts y × (k < y .state .config .tasks) × (task-of y k .running ≡ false) × InsertOfZero (y .state .config) call tag
+      go (is-8 e n) = absurd (omega arith)
+      go (is-4 e f h) = absurd (omega arith)
+      go (is-5 e f h s) = absurd (omega arith)
+      go (is-14 e f h s z) = (f, h, s, z)
 
   -- 8 of a start: memory is spoilt
   pub refusal-8-start : start y k call tag .out ≡ Refuse 8 ↔ ¬ SoundFacts y
   refusal-8-start = ((λ e. go (start-refused y k 8 call tag .0 e)), (λ n. start-refused y k 8 call tag .1 (is-8 refl n)))
     where
-      go : StartRefused y k 8 → ¬ SoundFacts y
+      go : StartRefused y k call tag 8 → ¬ SoundFacts y
       go (is-8 e n) = n
       go (is-4 e f h) = absurd (omega arith)
       go (is-5 e f h s) = absurd (omega arith)
+      go (is-14 e f h s z) = absurd (omega arith)
 
 module _ (y : Machine) (k : ℕ) where
   -- memory is sound, and the task is there and runs a call

@@ -23,9 +23,10 @@ use Rattle.spec.specs.Sound.{within, version-known, sound}
 use Rattle.spec.specs.Listed.{listed}
 use Rattle.spec.specs.Lines.{effect}
 use Rattle.spec.specs.StepRefusals.{unsound-step, all-held}
-use Rattle.spec.specs.Entries.{Opened, opening, not-opened, pool-fits, Reply, refuse, start, step-running, step, Written, list}
-use Rattle.laws.specs.Tests.{tf, bool?, and-left, and-right, all2, or-none, choose, if-true}
+use Rattle.spec.specs.Entries.{Opened, opening, not-opened, pool-fits, Reply, refuse, withdrawn, start, step-running, step, Written, list}
+use Rattle.laws.specs.Tests.{tf, bool?, and-left, and-right, all2, or-none, choose, if-true, if-false}
 use Rattle.laws.specs.SoundFacts.{SoundFacts}
+use Rattle.laws.specs.Withdrawn.{InsertOfZero, withdrawn-means, means-withdrawn}
 use Rattle.laws.specs.Soundness.{sound-facts, facts-sound}
 use Rattle.laws.specs.StepRefusals.{StepSound, step-sound-facts, facts-step-sound}
 use Rattle.laws.specs.Taking.{AllHeld, all-held-means, means-all-held}
@@ -129,35 +130,44 @@ unsound {y} n = fails (sound y) (sound-facts y) n
 spoilt : {y : Machine} → sound y ≡ false → ¬ SoundFacts y
 spoilt {y} e = never (sound y) (facts-sound y) e
 
--- "Start: 8, 4, 5."
-pub data StartRefused (y : Machine) (k r : ℕ) : Type 0 where
+-- "Start: 8, 4, 5.", and paper 02's 14 after 5
+pub data StartRefused (y : Machine) (k : ℕ) (call : Call) (tag r : ℕ) : Type 0 where
   -- "Spoilt memory"
-  is-8 : r ≡ 8 → ¬ SoundFacts y → StartRefused y k r
+  is-8 : r ≡ 8 → ¬ SoundFacts y → StartRefused y k call tag r
   -- "no such task"
-  is-4 : r ≡ 4 → SoundFacts y → y .state .config .tasks ≤ k → StartRefused y k r
+  is-4 : r ≡ 4 → SoundFacts y → y .state .config .tasks ≤ k → StartRefused y k call tag r
   -- "start while its call runs"
-  is-5 : r ≡ 5 → SoundFacts y → k < y .state .config .tasks → task-of y k .running ≡ true → StartRefused y k r
+  is-5 : r ≡ 5 → SoundFacts y → k < y .state .config .tasks → task-of y k .running ≡ true → StartRefused y k call tag r
+  -- paper 02, U9: "14, starting an insert of tag 0 under the new rule, after 5"
+  is-14 : r ≡ 14 → SoundFacts y → k < y .state .config .tasks → task-of y k .running ≡ false → InsertOfZero (y .state .config) call tag
+      → StartRefused y k call tag r
 
 module _ (y : Machine) (k r : ℕ) (call : Call) (tag : ℕ) where
-  why-start : start y k call tag .out ≡ Refuse r → StartRefused y k r
+  why-start : start y k call tag .out ≡ Refuse r → StartRefused y k call tag r
   unfolding start refuse
   why-start =
       choose Why (not (sound y)) _ _ (λ p e. is-8 (same e) (spoilt (not-true _ p))) (λ p.
       let f = sound-facts y (not-false _ p) in
       choose Why (not (ltb k (y .state .config .tasks))) _ _ (λ q e. is-4 (same e) f (ltb-false _ _ (not-true _ q))) (λ q.
-      choose Why (task-of y k .running) _ _ (λ s e. is-5 (same e) f (ltb-true _ _ (not-false _ q)) s) (λ s e. absurd (at-refused e))))
+      let h = ltb-true k (y .state .config .tasks) (not-false _ q) in
+      choose Why (task-of y k .running) _ _ (λ s e. is-5 (same e) f h s) (λ s.
+      choose Why (withdrawn (y .state .config) call tag) _ _ (λ w e. is-14 (same e) f h s (withdrawn-means _ call tag w)) (λ w e. absurd (at-refused e)))))
     where
       Why : Reply → Type 0
-      Why x = x .out ≡ Refuse r → StartRefused y k r
+      Why x = x .out ≡ Refuse r → StartRefused y k call tag r
 
-  start-why : StartRefused y k r → start y k call tag .out ≡ Refuse r
+  start-why : StartRefused y k call tag r → start y k call tag .out ≡ Refuse r
   unfolding start refuse
   start-why (is-8 e n) = rw (e, unsound n)
   start-why (is-4 e f h) = rw (e, facts-sound y f, le-ltb _ _ h)
   start-why (is-5 e f h s) = rw (e, facts-sound y f, lt-ltb _ _ h) (ap (λ (x : Reply). x .out) (if-true (task-of y k .running) (refuse 5 y) _ s))
+  start-why (is-14 e f h s z) =
+      rw (e, facts-sound y f, lt-ltb _ _ h)
+      (ap (λ (x : Reply). x .out)
+      (if-false (task-of y k .running) (refuse 5 y) _ s ∙ if-true (withdrawn (y .state .config) call tag) (refuse 14 y) _ (means-withdrawn _ call tag z)))
 
   -- a start is refused with a number exactly if the table has it
-  pub start-refused : start y k call tag .out ≡ Refuse r ↔ StartRefused y k r
+  pub start-refused : start y k call tag .out ≡ Refuse r ↔ StartRefused y k call tag r
   start-refused = (why-start, start-why)
 
 -- "Step: 8, 4, 6, 8 of the step, 7."

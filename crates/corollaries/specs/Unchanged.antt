@@ -16,7 +16,7 @@ use Rattle.spec.specs.Sound.{within, version-known, sound}
 use Rattle.spec.specs.Listed.{listed}
 use Rattle.spec.specs.Lines.{Next, on, ends, Effect, effect}
 use Rattle.spec.specs.StepRefusals.{unsound-step, all-held}
-use Rattle.spec.specs.Entries.{Opened, opening, not-opened, pool-fits, Reply, refuse, start, finish, accept, step-running, step, Written, list}
+use Rattle.spec.specs.Entries.{Opened, opening, not-opened, pool-fits, Reply, refuse, withdrawn, start, finish, accept, step-running, step, Written, list}
 use Rattle.spec.specs.Schedule.{Event, starts, steps, event}
 use Rattle.laws.specs.Tests.{choose}
 
@@ -46,7 +46,8 @@ module _ (y : Machine) (k r : ℕ) where
   refused-start-changes-nothing call tag =
       choose Unchanged (not (sound y)) _ _ (λ p e. refl) (λ p.
       choose Unchanged (not (ltb k (y .state .config .tasks))) _ _ (λ q e. refl) (λ q.
-      choose Unchanged (task-of y k .running) _ _ (λ s e. refl) (λ s e. absurd (at-refused e))))
+      choose Unchanged (task-of y k .running) _ _ (λ s e. refl) (λ s.
+      choose Unchanged (withdrawn (y .state .config) call tag) _ _ (λ w e. refl) (λ w e. absurd (at-refused e)))))
 
   -- a refused step leaves the state and both pools as they were: with 7 "the task still stands there"
   pub refused-step-changes-nothing : step y k .out ≡ Refuse r → step y k .machine ≡ y

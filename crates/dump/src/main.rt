@@ -66,6 +66,7 @@ fn state(s: State) {
     let g = s.config;
     field(b"T=", g.tasks);
     field(b" version=", g.version);
+    field(b" zero_withdrawn=", if g.zero_withdrawn { 1 } else { 0 });
     field(b" H=", s.nodes);
     field(b" B=", s.buckets);
     field(b" head=", s.head);

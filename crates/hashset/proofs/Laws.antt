@@ -6,11 +6,12 @@ use Prim.Native.Nat.{ℕ, _<_, _≤_}
 use native.Mathlib.Omega.{arith}
 use borrow.Author.Tests.{le-ltb, lt-ltb}
 use Rattle.laws.specs.Soundness.{sound-facts}
+use Rattle.laws.specs.Tests.{if-true, if-false}
 use Rattle.spec.specs.Lists.{if_then_else_}
 use Rattle.spec.specs.Machine.{Machine, task-of, set-task}
 use Rattle.spec.specs.declared.Call.{Call}
 use Rattle.spec.specs.Sound.{sound}
-use Rattle.spec.specs.Entries.{Reply, refuse, start, started, step, step-running}
+use Rattle.spec.specs.Entries.{refuse, withdrawn, start, started, step, step-running}
 use Rattle.spec.specs.declared.Output.the-variants.{At}
 use Rattle.hashset.specs.Barred.{Barred}
 
@@ -34,9 +35,6 @@ module _ (y : Machine) (k : ℕ) where
       step-goes e = rw (s, lt-ltb _ _ h) (ap (λ (b : Bool). if not b then refuse 6 y else step-running y k (task-of y k)) e)
 
   module _ (call : Call) (tag : ℕ) where
-    abbrev begins : Reply
-    begins = record { out = At (started call tag .line); machine = set-task k (started call tag) y }
-
     pub start-spoilt : sound y ≡ false → start y k call tag ≡ refuse 8 y
     unfolding start
     start-spoilt e = rw e
@@ -49,12 +47,17 @@ module _ (y : Machine) (k : ℕ) where
       module _ (h : k < y .state .config .tasks) where
         pub start-busy : task-of y k .running ≡ true → start y k call tag ≡ refuse 5 y
         unfolding start
-        start-busy e = rw (s, lt-ltb _ _ h) (ap (λ (b : Bool). if b then refuse 5 y else begins) e)
+        start-busy e = rw (s, lt-ltb _ _ h) (if-true (task-of y k .running) (refuse 5 y) _ e)
 
-        pub start-goes : task-of y k .running ≡ false → start y k call tag
-            ≡ record { out = At (started call tag .line); machine = set-task k (started call tag) y }
-        unfolding start
-        start-goes e = rw (s, lt-ltb _ _ h) (ap (λ (b : Bool). if b then refuse 5 y else begins) e)
+        module _ (idle : task-of y k .running ≡ false) where
+          pub start-withdrawn : withdrawn (y .state .config) call tag ≡ true → start y k call tag ≡ refuse 14 y
+          unfolding start
+          start-withdrawn e = rw (s, lt-ltb _ _ h, e) (if-false (task-of y k .running) (refuse 5 y) _ idle)
+
+          pub start-goes : withdrawn (y .state .config) call tag ≡ false → start y k call tag
+              ≡ record { out = At (started call tag .line); machine = set-task k (started call tag) y }
+          unfolding start
+          start-goes e = rw (s, lt-ltb _ _ h, e) (if-false (task-of y k .running) (refuse 5 y) _ idle)
 
 -- ---- what bars a start and a step alike
 

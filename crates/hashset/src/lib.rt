@@ -2,10 +2,11 @@
 use lines::Moved;
 use lines::Stepped;
 use spec::Call;
+use spec::Config;
 use spec::Output;
 use spec::State;
 ghost use mathlib.Core.Path.{_≡_};
-ghost use Rattle.spec.specs.Entries.{start, step};
+ghost use Rattle.spec.specs.Entries.{withdrawn, start, step};
 ghost use Rattle.spec.specs.Machine.{machine-of};
 ghost use Rattle.lines.specs.Reply.{reply-of, Gives};
 ghost use Rattle.hashset.specs.Barred.{Barred};
@@ -24,6 +25,19 @@ fn barred(s: State, k: u32, ns: &[u32], bs: &[u32]) -> u32
     0
 }
 
+// Whether tag 0 is withdrawn and the call an insert of it.
+fn withdrawn(g: Config, call: Call, tag: u32) -> bool
+    ensures { λ r. ⌜ r ≡ withdrawn g call tag ⌝ }
+{
+    match call {
+        Call::Insert => g.zero_withdrawn & (tag == 0),
+        Call::Remove => false,
+        Call::Contains => false,
+        Call::Grow => false,
+        Call::Shrink => false,
+    }
+}
+
 // What a start for task k changes of the state.
 pub fn moved_by_start(s: State, k: u32, call: Call, tag: u32, ns: &[u32], bs: &[u32]) -> Moved
     ensures { λ r. ⌜ Gives s k r (now (ns .entry)) (now (bs .entry)) (start (machine-of s (now (ns .entry)) (now (bs .entry))) k call tag) ⌝ }
@@ -37,6 +51,10 @@ pub fn moved_by_start(s: State, k: u32, call: Call, tag: u32, ns: &[u32], bs: &[
     let running = c.running;
     if running {
         return lines::refused(s, 5);
+    }
+    let g = s.config;
+    if withdrawn(g, call, tag) {
+        return lines::refused(s, 14);
     }
     let x = lines::begun(call, tag);
     Moved {

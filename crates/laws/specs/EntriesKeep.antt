@@ -15,7 +15,7 @@ use Rattle.spec.specs.Words.{new-node, new-bucket, apply}
 use Rattle.spec.specs.Sound.{fill-lines, lines-of, resizes, sound}
 use Rattle.spec.specs.Lines.{Next, on, ends, Effect, effect}
 use Rattle.spec.specs.StepRefusals.{unsound-step, all-held}
-use Rattle.spec.specs.Entries.{refuse, started, start, Reply, finish, accept, step-running, step}
+use Rattle.spec.specs.Entries.{refuse, started, withdrawn, start, Reply, finish, accept, step-running, step}
 use Rattle.spec.specs.Schedule.{event, Event, starts, steps, run}
 use Rattle.laws.specs.Tests.{choose, tf}
 use Rattle.laws.specs.SoundFacts.{RunFacts, TaskFacts, runs, is-idle, SoundFacts}
@@ -61,7 +61,9 @@ step-outcome y k e =
 pub data StartOutcome (y : Machine) (k : ℕ) (call : Call) (tag : ℕ) : Reply → Type 0 where
   start-no-task : y .state .config .tasks ≤ k → StartOutcome y k call tag (refuse 4 y)
   start-running : k < y .state .config .tasks → task-of y k .running ≡ true → StartOutcome y k call tag (refuse 5 y)
-  start-accepted : k < y .state .config .tasks → task-of y k .running ≡ false
+  start-withdrawn : k < y .state .config .tasks → task-of y k .running ≡ false → withdrawn (y .state .config) call tag ≡ true
+      → StartOutcome y k call tag (refuse 14 y)
+  start-accepted : k < y .state .config .tasks → task-of y k .running ≡ false → withdrawn (y .state .config) call tag ≡ false
       → StartOutcome y k call tag (record { out = At (started call tag .line); machine = set-task k (started call tag) y })
 
 pub start-outcome : (y : Machine) (k : ℕ) (call : Call) (tag : ℕ) → sound y ≡ true → StartOutcome y k call tag (start y k call tag)
@@ -70,7 +72,8 @@ start-outcome y k call tag e =
     choose (StartOutcome y k call tag) (not (sound y)) _ _ (λ q. absurd (tf e (not-true (sound y) q)))
     (λ q. choose (StartOutcome y k call tag) (not (ltb k (y .state .config .tasks))) _ _ (λ a. start-no-task (ltb-false k (y .state .config .tasks) (not-true _ a)))
     (λ a. let lt = ltb-true k (y .state .config .tasks) (not-false _ a) in
-    choose (StartOutcome y k call tag) (task-of y k .running) _ _ (λ b. start-running lt b) (λ b. start-accepted lt b)))
+    choose (StartOutcome y k call tag) (task-of y k .running) _ _ (λ b. start-running lt b)
+    (λ b. choose (StartOutcome y k call tag) (withdrawn (y .state .config) call tag) _ _ (λ c. start-withdrawn lt b c) (λ c. start-accepted lt b c))))
 
 pub step-facts : (y : Machine) → SoundFacts y → (k : ℕ) {m : Reply} → StepOutcome y k m → SoundFacts (m .machine)
 unfolding refuse
@@ -114,7 +117,8 @@ pub start-facts : (y : Machine) → SoundFacts y → (k : ℕ) (call : Call) (ta
 unfolding refuse
 start-facts y f k call tag (start-no-task a) = f
 start-facts y f k call tag (start-running a b) = f
-start-facts y f k call tag (start-accepted a b) = task-keeps y k (started call tag) f (started-facts y k call tag a)
+start-facts y f k call tag (start-withdrawn a b c) = f
+start-facts y f k call tag (start-accepted a b c) = task-keeps y k (started call tag) f (started-facts y k call tag a)
 
 pub start-keeps : (y : Machine) (k : ℕ) (call : Call) (tag : ℕ) → sound y ≡ true → sound (start y k call tag .machine) ≡ true
 start-keeps y k call tag e = facts-sound (start y k call tag .machine) (start-facts y (sound-facts y e) k call tag (start-outcome y k call tag e))

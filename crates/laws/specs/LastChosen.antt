@@ -16,7 +16,7 @@ use Rattle.spec.specs.Words.{changeable, Write, nothing, set-head, set-place, c
 use Rattle.spec.specs.Sound.{task-count, sound-numbers, node-link, bucket-link, sound-node, sound-nodes, sound-running, sound-task, sound-tasks, sound}
 use Rattle.spec.specs.Lines.{Next, on, ends, Effect, insert-write, answer-36, insert-36, remove-36, line-36, effect}
 use Rattle.spec.specs.StepRefusals.{unsound-step, all-held}
-use Rattle.spec.specs.Entries.{Reply, refuse, start, occupancy, finish, accept, step-running, step, list}
+use Rattle.spec.specs.Entries.{Reply, refuse, withdrawn, start, occupancy, finish, accept, step-running, step, list}
 use Rattle.spec.specs.Schedule.{Event, starts, steps, event}
 use Rattle.spec.specs.Listed.{size-of, pred-of, place-of, place-for, tags-of, head-of, in-bucket, in-set, placed-tags, node-tags, listed}
 use Rattle.spec.specs.Everything.{everything}
@@ -49,7 +49,8 @@ module _ (y : Machine) (k : ℕ) where
   start-same call tag =
       choose Same (not (sound y)) _ _ (λ p. (refl, refl)) (λ p.
       choose Same (not (ltb k (task-count y))) _ _ (λ q. (refl, refl)) (λ q.
-      choose Same (task-of y k .running) _ _ (λ s. (refl, refl)) (λ s. (refl, refl))))
+      choose Same (task-of y k .running) _ _ (λ s. (refl, refl)) (λ s.
+      choose Same (withdrawn (y .state .config) call tag) _ _ (λ w. (refl, refl)) (λ w. (refl, refl)))))
 
   step-same : Same (step y k)
   unfolding step step-running refuse
@@ -162,7 +163,8 @@ module _ (y : Machine) (l : ℕ) where
         rw sound-apart
         (either (again l) (not (sound y)) _ _ _ _ refl
         (either (again l) (not (ltb k (task-count y))) _ _ _ _ refl
-        (either (again l) (task-of y k .running) _ _ _ _ refl refl)))
+        (either (again l) (task-of y k .running) _ _ _ _ refl
+        (either (again l) (withdrawn (y .state .config) call tag) _ _ _ _ refl refl))))
 
     running-apart : (k : ℕ) (c : Task) → step-running z k c ≡ again l (step-running y k c)
     unfolding step-running refuse

@@ -26,6 +26,7 @@ pub mod KeptFacts
 pub mod WritesKeep
 pub mod TaskKeeps
 pub mod CallLines
+pub mod Withdrawn
 pub mod EffectSound
 pub mod LinesKeep
 pub mod EntriesKeep

@@ -18,7 +18,7 @@ use Rattle.spec.specs.Entries.{Reply, refuse, started, start, step}
 use Rattle.spec.specs.Schedule.{Event, starts, steps, event}
 use Rattle.laws.specs.SoundFacts.{SoundFacts}
 use Rattle.laws.specs.Soundness.{sound-facts}
-use Rattle.laws.specs.EntriesKeep.{start-keeps, step-keeps, StartOutcome, StepOutcome, start-no-task, step-no-task, start-running, step-idle, start-accepted, step-unsound, start-outcome, step-all-held, step-accepted, step-outcome}
+use Rattle.laws.specs.EntriesKeep.{start-keeps, step-keeps, StartOutcome, StepOutcome, start-no-task, step-no-task, start-running, step-idle, start-withdrawn, start-accepted, step-unsound, start-outcome, step-all-held, step-accepted, step-outcome}
 use Rattle.laws.specs.Tests.{tf}
 use Rattle.model.specs.Functions.{upd, upd-same, upd-other}
 use Rattle.spec.specs.History.{Ended, Started, set-call, note, tell}
@@ -163,7 +163,8 @@ module _ (n : ℕ) (last : ℕ → Started) (H : List Ended) (y : Machine) (s : 
       go : {m : Reply} → StartOutcome y p call tag m → sound (m .machine) ≡ true → After n last H (starts p call tag) m
       go (start-no-task a) so = refused-start 4 p call tag (λ e. omega arith)
       go (start-running a b) so = refused-start 5 p call tag (λ e. omega arith)
-      go (start-accepted a b) so = started-next p call tag a b so
+      go (start-withdrawn a b c) so = refused-start 14 p call tag (λ e. omega arith)
+      go (start-accepted a b c) so = started-next p call tag a b so
 
   step-next : (p : ℕ) → After n last H (steps p) (step y p)
   step-next p = go (step-outcome y p (s .sim .sound-now)) (step-keeps y p (s .sim .sound-now))

@@ -31,7 +31,7 @@ use Rattle.laws.specs.SoundFacts.{SoundFacts}
 use Rattle.laws.specs.Soundness.{sound-facts}
 use Rattle.laws.specs.AfterWrites.{after-task}
 use Rattle.laws.specs.StepAt.{step-table, does-at}
-use Rattle.laws.specs.EntriesKeep.{StartOutcome, StepOutcome, start-no-task, start-running, start-accepted, start-outcome, step-no-task, step-idle, step-unsound, step-all-held, step-accepted, step-outcome}
+use Rattle.laws.specs.EntriesKeep.{StartOutcome, StepOutcome, start-no-task, start-running, start-withdrawn, start-accepted, start-outcome, step-no-task, step-idle, step-unsound, step-all-held, step-accepted, step-outcome}
 use Rattle.linear.specs.Accepted.{OwnAfter, accept-other, accept-own}
 
 -- ---- how far a contains is, by its line
@@ -210,7 +210,8 @@ module _ (r : ℕ → Progress) (y : Machine) (eight : length (y .state .task) �
   start-paced : (p : ℕ) (call : Call) (tag : ℕ) {m : Reply} → StartOutcome y p call tag m → PacedAfter r (starts p call tag) m
   start-paced p call tag (start-no-task a) = refused-start p call tag 4
   start-paced p call tag (start-running a b) = refused-start p call tag 5
-  start-paced p call tag (start-accepted a b) = accepted-start p a call tag
+  start-paced p call tag (start-withdrawn a b c) = refused-start p call tag 14
+  start-paced p call tag (start-accepted a b c) = accepted-start p a call tag
 
   step-paced : (p : ℕ) {m : Reply} → StepOutcome y p m → PacedAfter r (steps p) m
   step-paced p (step-no-task a) = refused-step p 4

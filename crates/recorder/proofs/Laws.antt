@@ -19,6 +19,7 @@ use Rattle.session.specs.BufferLaws.{append-both, append-written, append-within
 use Rattle.session.specs.Grammar.{InputLine, closed-line, admissible, parse-event-line}
 use Rattle.session.specs.Header.{optional, header-step}
 use Rattle.session.specs.Keys.{newline}
+use Rattle.session.specs.LineLaws.{outside-step, outside-event}
 use Rattle.session.specs.Transcript.{is-event}
 use Rattle.session_state.specs.declared.Phase.{Phase}
 use Rattle.session_state.specs.declared.Phase.the-variants.{Due, Events, Stopped}
@@ -30,10 +31,8 @@ use Rattle.session_state.specs.PartialLines.{partial, line-bytes, pushed}
 use Rattle.session_state.proofs.Laws.{nothing-appended}
 use Rattle.session_stream.specs.Stream.{EndedBy}
 use Rattle.session_stream.proofs.Laws.{appends-on}
-use Rattle.recording_laws.specs.HeaderLaws.{outside-step}
 use Rattle.recording.specs.Recording.{close}
 use Rattle.recording.specs.Recorder.{recorder-output}
-use Rattle.recording_laws.specs.ShortLines.{outside-event}
 use Rattle.recorder_lines.specs.declared.KeptLines.{KeptLines}
 use Rattle.recorder.specs.declared.Recorder.{Recorder}
 use Rattle.recorder.specs.declared.Recorded.{Recorded}

@@ -21,6 +21,7 @@ use Rattle.session.specs.declared.HeaderStep.the-variants.{Next, Complete, Abse
 use Rattle.session.specs.Grammar.{InputLine, closed-line, admissible, parse-event-line}
 use Rattle.session.specs.Header.{optional, header-step}
 use Rattle.session.specs.Keys.{newline}
+use Rattle.session.specs.LineLaws.{outside-event}
 use Rattle.session.specs.Print.{refusal-line}
 use Rattle.session.specs.OutputLengths.{longest-line, longest-end, refusal-length}
 use Rattle.session.specs.Transcript.{is-event}
@@ -34,7 +35,6 @@ use Rattle.session_stream.specs.OutputBounds as session-bounds
 use Rattle.recording.specs.Recording.{close}
 use Rattle.recording.specs.Recorder.{longest-header, recorder-output}
 use Rattle.recording_laws.specs.HeaderLaws.{TakenLine, HeaderKnown, goes-on, last-taken, left-out, missing, header-known}
-use Rattle.recording_laws.specs.ShortLines.{outside-event}
 use Rattle.recorder_lines.specs.declared.KeptLines.{KeptLines}
 use Rattle.recorder.specs.declared.Recorder.{Recorder}
 use Rattle.recorder_lines.specs.KeptLines.{no-lines, kept-bytes, keep-line, kept-after}
@@ -48,7 +48,7 @@ longest-pair = 114
 
 -- the kept header lines, and the final listing
 abbrev pub longest-last : ℕ
-longest-last = 1775
+longest-last = 1816
 
 -- ---- a line: what it has written, and what may still come once
 

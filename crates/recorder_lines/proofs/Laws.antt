@@ -6,5 +6,5 @@ use native.Mathlib.Omega.{arith}
 use lib.ListN.{length, take}
 use lib.Seq.{take-all}
 
-pub all-kept : (b : List ℕ) (n : ℕ) → length b ≡ 123 → 123 ≤ n → take 123 b ≡ take n b
-all-kept b n e h = take-all 123 b (omega arith) ∙ sym (take-all n b (omega arith))
+pub all-kept : (b : List ℕ) (m n : ℕ) → length b ≡ m → m ≤ n → take m b ≡ take n b
+all-kept b m n e h = take-all m b (omega arith) ∙ sym (take-all n b (omega arith))

@@ -1,5 +1,5 @@
--- The header's lines, closed, that are kept until the opening is accepted: a buffer of 123 bytes, room for three lines of the grammar, to
--- which they are appended. Assumes nothing.
+-- The header's lines, closed, that are kept until the opening is accepted: a buffer of `longest-header` bytes, room for four lines of the
+-- grammar, to which they are appended. Assumes nothing.
 use Prim.Native.Nat.{ℕ}
 use mathlib.Core.List.{List}
 use lib.ListN.{take, replicate}
@@ -7,13 +7,14 @@ use Rattle.session.specs.Buffer.{Buffer, buffer, append}
 use Rattle.session_state.specs.declared.Phase.{Phase}
 use Rattle.session_state.specs.declared.Phase.the-variants.{Due, Events, Stopped}
 use Rattle.recording.specs.Recording.{close}
+use Rattle.recording.specs.Recorder.{longest-header}
 use Rattle.recorder_lines.specs.declared.KeptLines.{KeptLines}
 
 abbrev pub kept-lines : List ℕ → ℕ → KeptLines
 kept-lines bytes len = record { bytes = bytes; len = len }
 
 unfoldable pub no-lines : KeptLines
-no-lines = kept-lines (replicate 123 0) 0
+no-lines = kept-lines (replicate longest-header 0) 0
 
 -- the lines' bytes so far
 abbrev pub kept-bytes : KeptLines → List ℕ

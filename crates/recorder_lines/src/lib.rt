@@ -7,13 +7,14 @@ ghost use Rattle.session.specs.Buffer.{buffer, append};
 ghost use Rattle.session.specs.Grammar.{closed-line, parse-event-line};
 ghost use Rattle.session.specs.Transcript.{is-event};
 ghost use Rattle.recording.specs.Recording.{close};
+ghost use Rattle.recording.specs.Recorder.{longest-header};
 ghost use Rattle.recorder_lines.specs.KeptLines.{no-lines, kept-bytes, keep-line, kept-after};
 use session::EventLine;
 use session_state::Phase;
 
-// Three lines of at most 40 bytes, each with the byte 10 that closes it, and how many bytes they are.
+// Four lines of at most 40 bytes, each with the byte 10 that closes it, and how many bytes they are.
 pub struct KeptLines {
-    pub bytes: [u8; 123],
+    pub bytes: [u8; 164],
     pub len: usize,
 }
 
@@ -22,7 +23,7 @@ pub fn no_lines() -> KeptLines
     ensures { λ r. ⌜ r ≡ no-lines ⌝ }
 {
     KeptLines {
-        bytes: [0; 123],
+        bytes: [0; 164],
         len: 0,
     }
 }
@@ -45,15 +46,15 @@ pub fn keep(k: KeptLines, line: &[u8]) -> KeptLines
     KeptLines { bytes: b, len: m }
 }
 
-// How many of the 123 bytes are kept lines.
+// How many of the bytes are kept lines.
 pub fn kept_length(k: KeptLines) -> usize
-    ensures { λ r. ⌜ (r ≤ 123) × (take r (k .bytes) ≡ kept-bytes k) ⌝ }
+    ensures { λ r. ⌜ (r ≤ longest-header) × (take r (k .bytes) ≡ kept-bytes k) ⌝ }
 {
     let n = k.len;
-    if n < 123 {
+    if n < 164 {
         return n;
     }
-    123
+    164
 }
 
 // The lines kept after a closed line: where a header line is due, that line too.

@@ -124,6 +124,21 @@ recordings =
     gives (yard ∷ "version=2" ∷ [])
     (yard ∷ "size=1\ntags=0\n" ∷ [])
     ∷
+    -- tag 0 is withdrawn, without a version and with one
+    gives (yard ∷ "blank=no\nstart=0,insert,0\nstep=0\n" ∷ [])
+    (yard ∷ "blank=no\nstart=0,insert,0\nrefuse=14\nstep=0\nrefuse=6\nsize=1\ntags=0\n" ∷ [])
+    ∷
+    gives (yard-2 ∷ "blank=no\nstart=0,remove,0\n" ∷ [])
+    (yard-2 ∷ "blank=no\nstart=0,remove,0\nat=0,32\nsize=1\ntags=0\n" ∷ [])
+    ∷
+    -- it stands before the version, which is then left out
+    gives (yard ∷ "blank=no\nversion=2\nstep=0\n" ∷ [])
+    (yard ∷ "blank=no\nsize=1\ntags=0\n" ∷ [])
+    ∷
+    -- it is not closed
+    gives (yard-2 ∷ "blank=no" ∷ [])
+    (yard-2 ∷ "size=1\ntags=0\n" ∷ [])
+    ∷
     -- a last line that is not closed is left out
     gives (yard ∷ "start=0,grow\nstep=0" ∷ [])
     (yard ∷ "start=0,grow\nat=0,20\nsize=1\ntags=0\n" ∷ [])
@@ -161,6 +176,7 @@ unrecorded =
     ∷
     -- another version
     texts (yard ∷ "version=3\nstep=0\n" ∷ [])
+    ∷ texts (yard ∷ "version=3\nblank=no\n" ∷ [])
     ∷ []
 
 unfoldable pub verdicts : List VerdictCase
@@ -214,6 +230,29 @@ verdicts =
     ∷
     -- the version counts as a line
     judged (yard-2 ∷ "step=0\nrefuse=5\n" ∷ []) (Differs 6)
+    ∷
+    -- tag 0 is withdrawn: the header alone, and with an opening that is refused
+    judged (yard-2 ∷ "blank=no\n" ∷ []) (Refusal 12)
+    ∷ judged ("tasks=1\nnodes=1\nbuckets=0\nblank=no\n" ∷ []) (Refusal 3)
+    ∷ judged (yard ∷ "version=3\nblank=no\n" ∷ []) (Refusal 11)
+    ∷
+    -- no event, without a version and with one
+    judged (yard ∷ "blank=no\nsize=1\ntags=0\n" ∷ []) Same
+    ∷ judged (yard-2 ∷ "blank=no\nsize=1\ntags=0\n" ∷ []) Same
+    ∷
+    -- an insert of tag 0 under the new rule and under the old one; the line counts
+    judged (yard-2 ∷ "blank=no\nstart=0,insert,0\nat=0,32\n" ∷ []) (Differs 7)
+    ∷ judged (yard-2 ∷ "start=0,insert,0\nrefuse=14\n" ∷ []) (Differs 6)
+    ∷
+    -- twice, before the version, and another form of it
+    judged (yard ∷ "blank=no\nblank=no\nsize=1\ntags=0\n" ∷ []) (Refusal 10)
+    ∷ judged (yard ∷ "blank=no\nversion=2\nsize=1\ntags=0\n" ∷ []) (Refusal 10)
+    ∷ judged (yard-2 ∷ "blank=yes\nsize=1\ntags=0\n" ∷ []) (Refusal 10)
+    ∷
+    -- another form of it, and one that is not closed, after an opening that is refused or accepted
+    judged ("tasks=0\nnodes=1\nbuckets=1\nblank=yes\n" ∷ []) (Refusal 1)
+    ∷ judged ("tasks=1\nnodes=0\nbuckets=1\nblank=no" ∷ []) (Refusal 2)
+    ∷ judged (yard-2 ∷ "blank=no" ∷ []) (Refusal 10)
     ∷
     -- an event's line and no output line
     judged (yard ∷ "step=0\n" ∷ []) (Refusal 12)

@@ -40,9 +40,9 @@ recorder phase h y kept = record { phase = phase; header = h; machine = y; kept 
 unfoldable pub new-recorder : Recorder
 new-recorder = recorder (HeaderDue Tasks) empty-header no-machine []
 
--- three lines of the grammar, closed; a fourth header line is written when it comes
+-- four lines of the grammar, closed; the last header line is written when it comes
 abbrev pub longest-header : ℕ
-longest-header = 123
+longest-header = 164
 
 -- where it stands then, and the bytes that it writes
 pub record RecorderEffect : Type 0 where

@@ -20,20 +20,20 @@ use Rattle.session.specs.declared.HeaderStep.the-variants.{Next, Complete, Abse
 use Rattle.session.specs.Keys.{newline, refuse-key, size-key, tags-key, tag-key}
 use Rattle.session.specs.Grammar.{InputLine, closed-line, open-line, split-lines, input-lines, admissible}
 use Rattle.session.specs.Header.{optional, header-step}
+use Rattle.session.specs.LineLaws.{outside-step, first-bytes}
 use Rattle.session.specs.OutputLengths.{longest-line, refusal-length, output-length}
 use Rattle.session.specs.Print.{decimal, key-line, refusal-line, output-line}
 use Rattle.session.specs.Transcript.{session-opening}
 use Rattle.recording.specs.declared.ReaderPhase.{ReaderPhase}
 use Rattle.recording.specs.declared.ReaderPhase.the-variants.{Due, Event as EventDue, Printed, Listed, Decided}
 use Rattle.recording.specs.declared.Verdict.the-variants.{Refusal}
-use Rattle.recording_laws.specs.HeaderLaws.{outside-step}
 use Rattle.recording.specs.Recording.{RecordedLine, tag-listing, listing-of, listing}
 use Rattle.recording.specs.Verdict.{Compared, compare-line, past-listing, Turn, runs, lists, gives-10, turn, verdict}
 use Rattle.recording.specs.Reader.{Reader, reader, new-reader, decided, after-comparing, compare-listed, read-listed, read-turn, read-opened}
 use Rattle.recording.specs.Reader.{read-header-line, read-phase, read-line, answers, opened-end, read-phase-end, read-end, read-phase-unclosed}
 use Rattle.recording.specs.Reader.{read-unclosed, read-lines, ByteReader, byte-reader, new-byte-reader, read-byte, read-bytes, bytes-end, read-input}
 use Rattle.recording_laws.specs.ReaderVerdict.{unclosed-listed, reader-gives-verdict}
-use Rattle.recording_laws.specs.ShortLines.{keep-more, kept-none, first-bytes, short-turn, short-compare}
+use Rattle.recording_laws.specs.ShortLines.{keep-more, kept-none, short-turn, short-compare}
 
 -- ---- the listing's lines are short
 

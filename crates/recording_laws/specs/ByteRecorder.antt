@@ -14,18 +14,18 @@ use Rattle.session.specs.declared.HeaderStep.the-variants.{Absent, Missing}
 use Rattle.session.specs.Keys.{newline}
 use Rattle.session.specs.Grammar.{InputLine, closed-line, open-line, split-lines, input-lines, admissible}
 use Rattle.session.specs.Header.{optional}
+use Rattle.session.specs.LineLaws.{outside-step, outside-event, first-bytes}
 use Rattle.session.specs.Print.{refusal-line}
 use Rattle.session.specs.Transcript.{session-opening}
 use Rattle.recording.specs.declared.RecorderPhase.{RecorderPhase}
 use Rattle.recording.specs.declared.RecorderPhase.the-variants.{Header as HeaderDue, Events, Ended}
-use Rattle.recording_laws.specs.HeaderLaws.{outside-step}
 use Rattle.recording.specs.Reader.{keep}
 use Rattle.recording.specs.Recorder.{Recorder, recorder, new-recorder, RecorderEffect, recorder-effect, record-last, write-listing, record-event}
 use Rattle.recording.specs.Recorder.{after-kept, record-opened, record-header-line, record-phase, record-line, record-phase-end, record-end, record-lines}
 use Rattle.recording.specs.Recorder.{longest-read, ByteRecorder, byte-recorder, new-byte-recorder, line-closed, record-byte, record-bytes, record-input}
 use Rattle.recording.specs.Recorder.{recorder-output}
 use Rattle.recording_laws.specs.RecorderRecords.{recorder-writes}
-use Rattle.recording_laws.specs.ShortLines.{keep-more, outside-event, first-bytes}
+use Rattle.recording_laws.specs.ShortLines.{keep-more}
 
 -- ---- a line that is too long or not closed is left out, and what comes after it: it is as if the lines ended there
 

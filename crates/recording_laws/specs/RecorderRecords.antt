@@ -1,6 +1,6 @@
 -- Given one line after the other, and ended, the recorder writes the recording, and where there is none what the session prints:
 -- `recorder-writes`, which is a refusal's line, `refused-line`. By induction over the lines, since a run is its first event and the run after
--- it; and no more than three header lines are kept, which have room. Assumes nothing.
+-- it; and no more than four header lines are kept, which have room. Assumes nothing.
 use mathlib.Core.Path.{_≡_, refl, sym, ap, _∙_}
 use mathlib.Core.List.{List, [], _∷_, _++_, map, append-assoc, append-nil}
 use mathlib.Core.Bool.{Bool, true, false}

@@ -1,18 +1,19 @@
--- The first bytes of a line say as much as all of it: 41 to whatever does not look at a line that is too long, `first-bytes`, and
--- `longest-line` to the turn of an event and to a comparison with a printed line, `short-turn`, `short-compare`. So code keeps no more of a
--- line. Assumes nothing.
+-- The first `longest-line` bytes of a line say as much as all of it to the turn of an event, `short-turn`, and to a comparison with a
+-- printed line, `short-compare`; 41 to whatever does not look at a line that is too long (session's `first-bytes`). So code keeps no more
+-- of a line. Assumes nothing.
 use mathlib.Core.Path.{_≡_, refl, sym, ap, _∙_}
 use mathlib.Core.List.{List, [], _∷_, _++_}
 use mathlib.Core.Bool.{Bool, true, false, _&&_}
 use Prim.Native.Nat.{ℕ, zero, suc, _<_, _≤_}
 use native.Mathlib.Omega.{arith}
-use borrow.Author.Tests.{lt-leb, ne-eqb, leb-true, leb-false}
+use borrow.Author.Tests.{ne-eqb, leb-true, leb-false}
 use lib.Dec.{leb, eqb}
 use lib.ListN.{length, take, length-append, length-take}
 use lib.Seq.{take-all}
 use Rattle.session.specs.declared.EventLine.the-variants.{Outside}
 use Rattle.session.specs.Keys.{newline, size-key}
-use Rattle.session.specs.Grammar.{InputLine, closed-line, starts-with, admissible, parse-event-line}
+use Rattle.session.specs.Grammar.{closed-line, starts-with, parse-event-line}
+use Rattle.session.specs.LineLaws.{outside-event, first-bytes}
 use Rattle.session.specs.OutputLengths.{longest-line}
 use Rattle.recording.specs.Recording.{close}
 use Rattle.recording.specs.Verdict.{compare-line, turn}
@@ -34,43 +35,6 @@ kept-none (suc n) [] h = refl
 kept-none (suc n) (x ∷ line) h =
     let some : (w : List ℕ) → suc (length w) ≡ 0 → ⊥ = λ w q. omega arith in
     ne-eqb (suc (length (take n line))) 0 (some (take n line)) ∙ sym (ne-eqb (suc (length line)) 0 (some line))
-
--- ---- a line that is too long
-
--- a line of more than 40 bytes gives an event's turn nothing to run
-pub outside-event : (l : InputLine) → admissible l ≡ false → parse-event-line l ≡ Outside
-unfolding parse-event-line
-outside-event l e = rw e
-
-module _ (n : ℕ) (l : List ℕ) (enough : 41 ≤ n) where
-  short-admissible : admissible (closed-line (take n l)) ≡ admissible (closed-line l)
-  unfolding admissible
-  short-admissible = go (leb (length l) 40) refl
-    where
-      go : (b : Bool) → leb (length l) 40 ≡ b → leb (length (take n l)) 40 ≡ leb (length l) 40
-      go true e =
-          let f : length l ≤ 40 = leb-true _ _ e in
-          ap (λ (w : List ℕ). leb (length w) 40) (take-all n l (omega arith))
-      go false e =
-          let f : 40 < length l = leb-false _ _ e in
-          let g : 40 < length (take n l) = omega (arith, length-take n l) in
-          rw (lt-leb _ _ g) (sym e)
-
-  -- an admissible line is kept whole
-  short-whole : admissible (closed-line l) ≡ true → take n l ≡ l
-  unfolding admissible
-  short-whole e =
-      let f : length l ≤ 40 = leb-true _ _ e in
-      take-all n l (omega arith)
-
-  -- f is the same for all lines that are too long
-  pub first-bytes : {A : Type 0} (f : InputLine → A) (outside : A) → ((m : InputLine) → admissible m ≡ false → f m ≡ outside)
-      → f (closed-line (take n l)) ≡ f (closed-line l)
-  first-bytes f outside same = go (admissible (closed-line l)) refl
-    where
-      go : (b : Bool) → admissible (closed-line l) ≡ b → f (closed-line (take n l)) ≡ f (closed-line l)
-      go true e = ap (λ (w : List ℕ). f (closed-line w)) (short-whole e)
-      go false e = same (closed-line (take n l)) (short-admissible ∙ e) ∙ sym (same (closed-line l) e)
 
 -- ---- an event's turn
 

@@ -1,4 +1,4 @@
-// A second implementation of the yard set of paper 01, with requests U1 to U3 and U7 of paper 02, to be compared word by word with the first.
+// A second implementation of the yard set of paper 01, with requests U1 to U3, U7 and U9 of paper 02, to be compared word by word with the first.
 // Its shape: state, pools, what is asked and the reply are words of one memory (reference_words::words has their addresses). The paper's lines are
 // the rows of a table of letters (reference_words::table); a letter stands for something that a line can see, a number (sight.rt). A call first
 // works out what it gives and what every word becomes, from unchanged memory, then stores (stores.rt). Spoilt memory is found word by word, held
@@ -16,6 +16,7 @@ use reference_words::tags::MADE_BY_49;
 use reference_words::tags::NO_TAGS;
 use reference_words::tags::gather;
 use reference_words::words::ASKED_K;
+use reference_words::words::ASKED_RULE;
 use reference_words::words::ASKED_TAG;
 use reference_words::words::AT_B;
 use reference_words::words::AT_T;
@@ -35,6 +36,7 @@ use reference_words::words::STATE_END;
 use reference_words::words::T;
 use reference_words::words::WHAT;
 use reference_words::words::WHY;
+use reference_words::words::ZERO_WITHDRAWN;
 use reference_words::words::bucket;
 use reference_words::words::clear;
 use reference_words::words::copy;
@@ -84,24 +86,26 @@ fn opening_refusal(w: &[u32]) -> u32 {
     }
 }
 
-// "Opening zeroes both pools, puts changeable empty bucket 0 into node 0 of size 1, makes it head, and sets both "last taken" to 0; no task runs."
-// Of the last one chosen "an opening sets T − 1".
-fn write_opening(w: &mut [u32]) {
-    put_words(
-        w,
-        T,
-        &[
-            get(w, ASKED_K),
-            get(w, ASKED_TAG),
-            nodes_lent(w),
-            buckets_lent(w),
-        ],
-    );
+// "Opening zeroes both pools, puts changeable empty bucket 0 into node 0 of size 1"
+fn write_pools(w: &mut [u32]) {
     clear(w, NODES, NODES + get(w, NODE_WORDS) as usize);
     clear(w, BUCKETS, BUCKETS + get(w, BUCKET_WORDS) as usize);
     put_words(w, NODES, &[1, 0, 1]);
     put(w, BUCKETS, 1);
-    put(w, CHOSEN, less_1(get(w, ASKED_K)));
+}
+
+// "makes it head, and sets both "last taken" to 0; no task runs": zeros, which are there already. Of the last one chosen "an opening sets T − 1".
+// "The state keeps whether its yard was opened under the new rule."
+fn write_opening(w: &mut [u32]) {
+    let k = get(w, ASKED_K);
+    let rule = either(get(w, ASKED_RULE) == 0, 0, 1);
+    put_words(w, CHOSEN, &[less_1(k), rule]);
+    put_words(
+        w,
+        T,
+        &[k, get(w, ASKED_TAG), nodes_lent(w), buckets_lent(w)],
+    );
+    write_pools(w);
 }
 
 // "A refused opening gives a state of all zeros."
@@ -114,6 +118,12 @@ fn open(w: &mut [u32]) {
     }
 }
 
+// "14, starting an insert of tag 0 under the new rule, after 5", or 0.
+fn tag_refusal(w: &[u32]) -> u32 {
+    let inserts_zero = get(w, WHAT) == 1 && get(w, ASKED_TAG) == 0;
+    either(inserts_zero && get(w, ZERO_WITHDRAWN) != 0, 14, 0)
+}
+
 // "Start: 8, 4, 5. Step: 8, 4, 6, 8 of the step, 7."
 fn event_refusal(w: &[u32], steps: bool) -> u32 {
     let k = get(w, ASKED_K);
@@ -121,7 +131,7 @@ fn event_refusal(w: &[u32], steps: bool) -> u32 {
         return 4;
     }
     if get(w, field_at(k, 0)) == 0 {
-        return either(steps, 6, 0);
+        return either(steps, 6, tag_refusal(w));
     }
     if steps { sight::line_refusal(w) } else { 5 }
 }
@@ -295,7 +305,8 @@ fn turn(w: &mut [u32]) {
 }
 
 // What WHAT asks: a step of task ASKED_K (0), the start of a call of it with ASKED_TAG (1 insert, 2 remove, 3 contains, 4 grow, 5 shrink), a list
-// into so many words (6), a show of this bucket (7), an opening with so many tasks, ASKED_TAG the version (8), a turn (9); nothing for other numbers.
+// into so many words (6), a show of this bucket (7), an opening with so many tasks, ASKED_TAG the version and ASKED_RULE 0 for the old rule for
+// tag 0, else the new one (8), a turn (9); nothing for other numbers.
 pub fn act(w: &mut [u32]) {
     let what = get(w, WHAT);
     if what < 8 {

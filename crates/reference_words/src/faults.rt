@@ -12,9 +12,9 @@ use super::words::LAST_NODE;
 use super::words::NODE_WORDS;
 use super::words::NODES;
 use super::words::RECORDS;
-use super::words::STATE_END;
 use super::words::T;
 use super::words::VERSION;
+use super::words::ZERO_WITHDRAWN;
 use super::words::get;
 use super::words::head;
 use super::words::is_size;
@@ -137,9 +137,9 @@ fn bad_among(w: &[u32], from: usize, end: usize) -> bool {
     false
 }
 
-// Where T, H, B or a length is wrong nothing else is looked at.
+// Where T, H, B or a length is wrong nothing else is looked at. The rule for tag 0, the state's last word, is never bad.
 pub fn spoilt(w: &[u32]) -> bool {
-    if bad_shape(w) || bad_among(w, 0, STATE_END) {
+    if bad_shape(w) || bad_among(w, 0, ZERO_WITHDRAWN) {
         return true;
     }
     bad_among(w, NODES, NODES + get(w, NODE_WORDS) as usize)

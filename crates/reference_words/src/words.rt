@@ -21,7 +21,10 @@ pub const RECORDS: usize = 7;
 // The task chosen last, after the tasks.
 pub const CHOSEN: usize = 111;
 
-pub const STATE_END: usize = 112;
+// 1 where the yard was opened under the new rule for tag 0, else 0.
+pub const ZERO_WITHDRAWN: usize = 112;
+
+pub const STATE_END: usize = 113;
 // The reply: kind, value, own steps, a bucket's tags plus 1, the task of a turn plus 1. Then words that are lent to a list, and the lengths of the two
 // slices that are lent.
 pub const REPLY: usize = 120;
@@ -81,7 +84,9 @@ pub const ASKED_K: usize = 70158;
 
 pub const ASKED_TAG: usize = 70159;
 
-pub const NODE_FLAGS: usize = 70160;
+pub const ASKED_RULE: usize = 70160;
+
+pub const NODE_FLAGS: usize = 70161;
 
 pub const BUCKET_FLAGS: usize = 70230;
 

@@ -2,6 +2,7 @@
 -- Assumes nothing.
 use Prim.Native.Nat.{ℕ, _/_, min}
 use mathlib.Core.List.{List}
+use mathlib.Core.Bool.{not}
 use lib.Dec.{eqb}
 use lib.ListN.{length}
 use Rattle.spec.specs.declared.Config.{Config}
@@ -9,7 +10,7 @@ use Rattle.spec.specs.declared.Listing.{Listing}
 use Rattle.spec.specs.declared.Listing.the-variants.{Refused}
 use Rattle.spec.specs.Lists.{if_then_else_, concat-map}
 use Rattle.spec.specs.Numbers.{output-words}
-use Rattle.spec.specs.Machine.{Machine, machine-of}
+use Rattle.spec.specs.Machine.{Machine, machine-of, config-of, with-version, with-zero-withdrawn}
 use Rattle.spec.specs.Words.{overwrite}
 use Rattle.spec.specs.Entries.{opening, Written, list}
 use Rattle.spec.specs.Schedule.{Event, schedule}
@@ -71,6 +72,10 @@ result-of r ns bs outs tags =
     }
 
 -- ---- the same for C, where the answer is one number: of tags listed, or 256 and the refusal's
+
+-- T, the version, and the rule for tag 0: 0 the old one, any other number the new one
+abbrev pub c-config : ℕ → ℕ → ℕ → Config
+c-config t v w = with-zero-withdrawn (not (eqb w 0)) (with-version v (config-of t))
 
 pub record CResult : Type 0 where
   pub number : ℕ

@@ -1,5 +1,6 @@
 -- Sessions computed from the definitions by one statement, `table-holds`: the whole case of the paper, what is outside the
--- grammar in each place, refused openings, refusals after which the session goes on, and the version. Assumes nothing.
+-- grammar in each place, refused openings, refusals after which the session goes on, the version, and the rule for tag 0. Assumes
+-- nothing.
 use Prim.Native.Nat.{ℕ}
 use Prim.Native.String.{String}
 use mathlib.Core.Path.{_≡_, refl}
@@ -219,6 +220,69 @@ table =
     -- the version before the buckets
     gives ("tasks=1\nnodes=1\nversion=2\nbuckets=1\n" ∷ [])
     ("refuse=10\n" ∷ [])
+    ∷
+    -- tag 0 is withdrawn: its insert is refused and the session goes on; after 4 and 5; a remove and a contains of it, and a resize
+    gives ("tasks=1\nnodes=1\nbuckets=1\nblank=no\nstart=0,insert,0\nstep=0\nstart=1,insert,0\nstart=0,contains,0\nstart=0,insert,0\n"
+    ∷ "step=0\nstep=0\nstep=0\nstart=0,remove,0\nstep=0\nstep=0\nstep=0\nstart=0,shrink\nstep=0\n"
+    ∷ "start=0,insert,1\nstep=0\nstep=0\nstep=0\n" ∷ [])
+    ("refuse=14\nrefuse=6\nrefuse=4\nat=0,12\nrefuse=5\nat=0,13\nat=0,18\nend=0,no,3\nat=0,32\nat=0,33\nat=0,36\nend=0,no,3,0\n"
+    ∷ "at=0,20\nend=0,limit,1\nat=0,32\nat=0,33\nat=0,36\nend=0,yes,3,1\nsize=1\ntags=1\ntag=1\n" ∷ [])
+    ∷
+    -- after the version
+    gives ("tasks=1\nnodes=1\nbuckets=1\nversion=2\nblank=no\nstart=0,insert,0\n" ∷ [])
+    ("refuse=14\nsize=1\ntags=0\n" ∷ [])
+    ∷
+    -- a version and no such line: the old rule
+    gives ("tasks=1\nnodes=1\nbuckets=1\nversion=2\nstart=0,insert,0\n" ∷ [])
+    ("at=0,32\nsize=1\ntags=0\n" ∷ [])
+    ∷
+    -- and no event
+    gives ("tasks=1\nnodes=1\nbuckets=1\nblank=no\n" ∷ [])
+    ("size=1\ntags=0\n" ∷ [])
+    ∷
+    -- before the version, which is then an event's line
+    gives ("tasks=1\nnodes=1\nbuckets=1\nblank=no\nversion=2\n" ∷ [])
+    ("refuse=10\n" ∷ [])
+    ∷
+    -- and another version is not judged there
+    gives ("tasks=1\nnodes=1\nbuckets=1\nblank=no\nversion=3\n" ∷ [])
+    ("refuse=10\n" ∷ [])
+    ∷
+    -- before the buckets
+    gives ("tasks=1\nnodes=1\nblank=no\nbuckets=1\n" ∷ [])
+    ("refuse=10\n" ∷ [])
+    ∷
+    -- another version
+    gives ("tasks=1\nnodes=1\nbuckets=1\nversion=3\nblank=no\n" ∷ [])
+    ("refuse=11\n" ∷ [])
+    ∷
+    -- twice
+    gives ("tasks=1\nnodes=1\nbuckets=1\nblank=no\nblank=no\n" ∷ [])
+    ("refuse=10\n" ∷ [])
+    ∷
+    -- another form: the opening is judged before it
+    gives ("tasks=0\nnodes=1\nbuckets=1\nblank=yes\n" ∷ [])
+    ("refuse=1\n" ∷ [])
+    ∷
+    -- and then it is outside the grammar
+    gives ("tasks=1\nnodes=1\nbuckets=1\nversion=1\nblank=yes\n" ∷ [])
+    ("refuse=10\n" ∷ [])
+    ∷
+    -- a space behind it
+    gives ("tasks=1\nnodes=1\nbuckets=1\nblank=no \n" ∷ [])
+    ("refuse=10\n" ∷ [])
+    ∷
+    -- nothing behind its key
+    gives ("tasks=1\nnodes=1\nbuckets=1\nversion=2\nblank=\n" ∷ [])
+    ("refuse=10\n" ∷ [])
+    ∷
+    -- it is not closed
+    gives ("tasks=1\nnodes=1\nbuckets=1\nversion=2\nblank=no" ∷ [])
+    ("refuse=10\n" ∷ [])
+    ∷
+    -- it is not closed, after an opening that is refused
+    gives ("tasks=1\nnodes=1\nbuckets=1\nversion=0\nblank=no" ∷ [])
+    ("refuse=11\n" ∷ [])
     ∷ []
 
 pub table-holds : map (λ c. transcript (c .input)) table ≡ map (λ c. c .prints) table

@@ -1,5 +1,5 @@
 -- The grammar of a session's input: "lines of at most 40 bytes, each closed by byte 10, numbers decimal to 4,294,967,295 without
--- leading zeros", four header lines and five forms of event line, all on lists of bytes. Assumes nothing.
+-- leading zeros", five header lines and five forms of event line, all on lists of bytes. Assumes nothing.
 use Prim.Native.Nat.{ℕ, suc, _+_, _-_, _*_}
 use mathlib.Core.List.{List, [], _∷_, _++_}
 use mathlib.Core.Bool.{Bool, true, false, not, _&&_}
@@ -122,6 +122,10 @@ admissible l = l .closed && leb (length (l .bytes)) 40
 -- a header line's number
 unfoldable pub parse-header-line : List ℕ → InputLine → Decimal
 parse-header-line key l = if admissible l then parse-keyed-number key (l .bytes) else NotDecimal
+
+-- a header line that is these bytes and has no number: it counts as 0
+unfoldable pub parse-fixed-line : List ℕ → InputLine → Decimal
+parse-fixed-line word l = if admissible l && equals word (l .bytes) then Value 0 else NotDecimal
 
 -- what an event line asks for
 unfoldable pub parse-event-line : InputLine → EventLine

@@ -1,20 +1,21 @@
 -- The header of a session, a line at a time: "First `tasks=`, `nodes=`, `buckets=`, in that order". Paper 02, U3: "`version=` becomes
--- the fourth header line; a session without it is version 1". Assumes nothing.
+-- the fourth header line; a session without it is version 1"; U9: "the header line `blank=no` after the version, or after the buckets where
+-- no version stands; those without it run under the old rule". Assumes nothing.
 use Prim.Native.Nat.{ℕ}
 use mathlib.Core.List.{List, [], _∷_}
 use mathlib.Core.Bool.{Bool, true, false}
 use Rattle.spec.specs.declared.Config.{Config}
 use Rattle.spec.specs.Lists.{if_then_else_}
-use Rattle.spec.specs.Machine.{config-of, with-version, zero-config}
+use Rattle.spec.specs.Machine.{config-of, with-version, with-zero-withdrawn, zero-config}
 use Rattle.session.specs.declared.Decimal.{Decimal}
 use Rattle.session.specs.declared.Decimal.the-variants.{Value, NotDecimal}
 use Rattle.session.specs.declared.Header.{Header}
 use Rattle.session.specs.declared.HeaderLine.{HeaderLine}
-use Rattle.session.specs.declared.HeaderLine.the-variants.{Tasks, Nodes, Buckets, Version}
+use Rattle.session.specs.declared.HeaderLine.the-variants.{Tasks, Nodes, Buckets, Version, Blank}
 use Rattle.session.specs.declared.HeaderStep.{HeaderStep}
 use Rattle.session.specs.declared.HeaderStep.the-variants.{Next, Complete, Absent, Missing}
-use Rattle.session.specs.Keys.{tasks-key, nodes-key, buckets-key, version-key}
-use Rattle.session.specs.Grammar.{InputLine, parse-header-line}
+use Rattle.session.specs.Keys.{tasks-key, nodes-key, buckets-key, version-key, blank-line}
+use Rattle.session.specs.Grammar.{InputLine, parse-header-line, parse-fixed-line}
 
 abbrev pub header : Config → ℕ → ℕ → Header
 header g h b = record { config = g; nodes = h; buckets = b }
@@ -25,33 +26,46 @@ empty-header = header zero-config 0 0
 
 -- ---- a line, where a header line is due
 
--- the key of the line due
-unfoldable pub header-key : HeaderLine → List ℕ
-header-key Tasks = tasks-key
-header-key Nodes = nodes-key
-header-key Buckets = buckets-key
-header-key Version = version-key
+-- the number of a line that is of the form of this header line; `blank=no` has none, and counts as 0
+unfoldable pub line-number : HeaderLine → InputLine → Decimal
+line-number Tasks l = parse-header-line tasks-key l
+line-number Nodes l = parse-header-line nodes-key l
+line-number Buckets l = parse-header-line buckets-key l
+line-number Version l = parse-header-line version-key l
+line-number Blank l = parse-fixed-line blank-line l
 
--- what its number is, and which line is due then
+-- what the number is, and which line is due then
 unfoldable pub with-number : HeaderLine → Header → ℕ → HeaderStep
 with-number Tasks h n = Next Nodes (header (config-of n) (h .nodes) (h .buckets))
 with-number Nodes h n = Next Buckets (header (h .config) n (h .buckets))
 with-number Buckets h n = Next Version (header (h .config) (h .nodes) n)
-with-number Version h n = Complete (header (with-version n (h .config)) (h .nodes) (h .buckets))
+with-number Version h n = Next Blank (header (with-version n (h .config)) (h .nodes) (h .buckets))
+with-number Blank h n = Complete (header (with-zero-withdrawn true (h .config)) (h .nodes) (h .buckets))
 
--- "a session without it is version 1": only the version's line may be left out
+-- "a session without it is version 1", "those without it run under the old rule"
 unfoldable pub optional : HeaderLine → Bool
 optional Tasks = false
 optional Nodes = false
 optional Buckets = false
 optional Version = true
+optional Blank = true
 
-unfoldable pub number-step : HeaderLine → Header → Decimal → HeaderStep
-number-step due h (Value n) = with-number due h n
-number-step due h NotDecimal = if optional due then Absent h else Missing
+-- what a line says if it is of the form of this header line, and if it is not
+unfoldable pub number-step : HeaderLine → Header → Decimal → HeaderStep → HeaderStep
+number-step due h (Value n) otherwise = with-number due h n
+number-step due h NotDecimal otherwise = otherwise
+
+-- what a line says that is not of the form of the line due: where that may be left out it is the next one, "after the version, or after the
+-- buckets where no version stands", and after the last it is no header line
+unfoldable pub other-step : HeaderLine → Header → InputLine → HeaderStep
+other-step Tasks h l = Missing
+other-step Nodes h l = Missing
+other-step Buckets h l = Missing
+other-step Version h l = number-step Blank h (line-number Blank l) (Absent h)
+other-step Blank h l = Absent h
 
 unfoldable pub header-step : HeaderLine → Header → InputLine → HeaderStep
-header-step due h l = number-step due h (parse-header-line (header-key due) l)
+header-step due h l = number-step due h (line-number due l) (other-step due h l)
 
 -- ---- the lines of an input
 

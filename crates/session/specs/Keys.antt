@@ -27,6 +27,10 @@ buckets-key = 98 ∷ 117 ∷ 99 ∷ 107 ∷ 101 ∷ 116 ∷ 115 ∷ 61 ∷ []
 abbrev pub version-key : List ℕ
 version-key = 118 ∷ 101 ∷ 114 ∷ 115 ∷ 105 ∷ 111 ∷ 110 ∷ 61 ∷ []
 
+-- `blank=no`
+abbrev pub blank-line : List ℕ
+blank-line = 98 ∷ 108 ∷ 97 ∷ 110 ∷ 107 ∷ 61 ∷ 110 ∷ 111 ∷ []
+
 -- `start=`
 abbrev pub start-key : List ℕ
 start-key = 115 ∷ 116 ∷ 97 ∷ 114 ∷ 116 ∷ 61 ∷ []
@@ -107,14 +111,14 @@ limit-word = 108 ∷ 105 ∷ 109 ∷ 105 ∷ 116 ∷ []
 
 unfoldable pub all-keys : List (List ℕ)
 all-keys =
-    tasks-key ∷ nodes-key ∷ buckets-key ∷ version-key ∷ start-key ∷ step-key
+    tasks-key ∷ nodes-key ∷ buckets-key ∷ version-key ∷ blank-line ∷ start-key ∷ step-key
     ∷ insert-key ∷ remove-key ∷ contains-key ∷ grow-word ∷ shrink-word
     ∷ at-key ∷ end-key ∷ refuse-key ∷ size-key ∷ tags-key
     ∷ tag-key ∷ yes-word ∷ no-word ∷ full-word ∷ done-word
     ∷ lost-word ∷ limit-word ∷ []
 
 pub keys-spelled : all-keys
-    ≡ ascii "tasks=" ∷ ascii "nodes=" ∷ ascii "buckets=" ∷ ascii "version=" ∷ ascii "start=" ∷ ascii "step="
+    ≡ ascii "tasks=" ∷ ascii "nodes=" ∷ ascii "buckets=" ∷ ascii "version=" ∷ ascii "blank=no" ∷ ascii "start=" ∷ ascii "step="
     ∷ ascii "insert," ∷ ascii "remove," ∷ ascii "contains," ∷ ascii "grow" ∷ ascii "shrink"
     ∷ ascii "at=" ∷ ascii "end=" ∷ ascii "refuse=" ∷ ascii "size=" ∷ ascii "tags="
     ∷ ascii "tag=" ∷ ascii "yes" ∷ ascii "no" ∷ ascii "full" ∷ ascii "done"

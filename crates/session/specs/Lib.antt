@@ -7,6 +7,7 @@ pub mod Buffer
 pub mod BufferLaws
 pub mod OutputLengths
 pub mod Transcript
+pub mod LineLaws
 pub mod Everything
 pub mod Cases
 pub mod ReadBack

@@ -26,16 +26,17 @@ pub struct Header {
     pub buckets: u32,
 }
 
-// The header lines, in their order: which one is due. The version's line may be left out.
+// The header lines, in their order: which one is due. The last two may be left out.
 pub enum HeaderLine {
     Tasks,
     Nodes,
     Buckets,
     Version,
+    Blank,
 }
 
-// What a line says where a header line is due: it is that line, and then another one is due, or the header is complete; or it is
-// another line, which follows a header that is complete without the line due, or the header line is missing.
+// What a line says where a header line is due: it is that line, or one after it where that may be left out, and then another one is due, or
+// the header is complete; or it is another line, which follows a header that is complete without them, or the header line is missing.
 pub enum HeaderStep {
     Next(HeaderLine, Header),
     Complete(Header),

@@ -19,7 +19,7 @@ use Rattle.laws.specs.AfterWrites.{after-task}
 use Rattle.laws.specs.StepRefusals.{step-sound-facts}
 use Rattle.laws.specs.WritesKeep.{write-keeps}
 use Rattle.laws.specs.LinesKeep.{effect-sound}
-use Rattle.laws.specs.EntriesKeep.{StepOutcome, step-no-task, step-idle, step-unsound, step-all-held, step-accepted, step-outcome, StartOutcome, start-no-task, start-running, start-accepted, start-outcome}
+use Rattle.laws.specs.EntriesKeep.{StepOutcome, step-no-task, step-idle, step-unsound, step-all-held, step-accepted, step-outcome, StartOutcome, start-no-task, start-running, start-withdrawn, start-accepted, start-outcome}
 
 -- what is left is as long as what there was
 pub record SameLengths (y : Machine) (r : Reply) : Type 0 where
@@ -67,7 +67,8 @@ step-lengths y k = ⊎-elim (λ s. stepped-lengths y k s (step-outcome y k s)) (
 started-lengths : (y : Machine) (k : ℕ) (call : Call) (tag : ℕ) {r : Reply} → StartOutcome y k call tag r → SameLengths y r
 started-lengths y k call tag (start-no-task a) = refused-lengths 4 y
 started-lengths y k call tag (start-running a b) = refused-lengths 5 y
-started-lengths y k call tag (start-accepted a b) =
+started-lengths y k call tag (start-withdrawn a b c) = refused-lengths 14 y
+started-lengths y k call tag (start-accepted a b c) =
     let h = task-lengths y y k (started call tag) refl refl in
     record { nodes = h .0; buckets = h .1 }
 

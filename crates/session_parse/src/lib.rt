@@ -3,8 +3,9 @@
 ghost use mathlib.Core.Path.{_≡_};
 ghost use Prim.Native.Nat.{_≤_};
 ghost use lib.ListN.{length};
-ghost use Rattle.session.specs.Grammar.{starts-with, equals, comma-position, parse-keyed-number, tagged-start, parse-call, parse-start, step-event, parse-event, closed-line, parse-header-line, parse-event-line};
-ghost use Rattle.session.specs.Header.{header-key, with-number, optional, header-step};
+ghost use Rattle.session.specs.Grammar.{starts-with, equals, comma-position, parse-keyed-number, tagged-start, parse-call, parse-start};
+ghost use Rattle.session.specs.Grammar.{step-event, parse-event, closed-line, parse-header-line, parse-fixed-line, parse-event-line};
+ghost use Rattle.session.specs.Header.{line-number, with-number, optional, number-step, other-step, header-step};
 use session::Decimal;
 use session::EventLine;
 use session::Header;
@@ -146,15 +147,28 @@ pub fn header_number(key: &[u8], s: &[u8]) -> Decimal
     Decimal::NotDecimal
 }
 
-// The number of a closed line, where this header line is due.
-pub fn due_number(due: HeaderLine, s: &[u8]) -> Decimal
-    ensures { λ r. ⌜ r ≡ parse-header-line (header-key due) (closed-line (now (s .entry))) ⌝ }
+// The number of a closed header line that is these bytes: 0, since it has none.
+pub fn fixed_line(word: &[u8], s: &[u8]) -> Decimal
+    ensures { λ r. ⌜ r ≡ parse-fixed-line (now (word .entry)) (closed-line (now (s .entry))) ⌝ }
+{
+    if s.len() <= 40 {
+        if equals(s, word) {
+            return Decimal::Value(0);
+        }
+    }
+    Decimal::NotDecimal
+}
+
+// The number of a closed line that is of the form of this header line.
+pub fn line_number(due: HeaderLine, s: &[u8]) -> Decimal
+    ensures { λ r. ⌜ r ≡ line-number due (closed-line (now (s .entry))) ⌝ }
 {
     match due {
         HeaderLine::Tasks => header_number(b"tasks=", s),
         HeaderLine::Nodes => header_number(b"nodes=", s),
         HeaderLine::Buckets => header_number(b"buckets=", s),
         HeaderLine::Version => header_number(b"version=", s),
+        HeaderLine::Blank => fixed_line(b"blank=no", s),
     }
 }
 
@@ -197,6 +211,15 @@ pub fn with_number(due: HeaderLine, h: Header, n: u32) -> HeaderStep
                 nodes: h.nodes,
                 buckets: h.buckets,
             };
+            HeaderStep::Next(HeaderLine::Blank, next)
+        }
+        HeaderLine::Blank => {
+            let config = state::with_zero_withdrawn(h.config, true);
+            let next = Header {
+                config,
+                nodes: h.nodes,
+                buckets: h.buckets,
+            };
             HeaderStep::Complete(next)
         }
     }
@@ -211,6 +234,30 @@ pub fn optional(due: HeaderLine) -> bool
         HeaderLine::Nodes => false,
         HeaderLine::Buckets => false,
         HeaderLine::Version => true,
+        HeaderLine::Blank => true,
+    }
+}
+
+// What a closed line says if it is of the form of this header line, and if it is not.
+fn number_line(due: HeaderLine, h: Header, s: &[u8], otherwise: HeaderStep) -> HeaderStep
+    ensures { λ r. ⌜ r ≡ number-step due h (line-number due (closed-line (now (s .entry)))) otherwise ⌝ }
+{
+    match line_number(due, s) {
+        Decimal::Value(n) => with_number(due, h, n),
+        Decimal::NotDecimal => otherwise,
+    }
+}
+
+// What a closed line says that is not of the form of the header line due.
+fn other_line(due: HeaderLine, h: Header, s: &[u8]) -> HeaderStep
+    ensures { λ r. ⌜ r ≡ other-step due h (closed-line (now (s .entry))) ⌝ }
+{
+    match due {
+        HeaderLine::Tasks => HeaderStep::Missing,
+        HeaderLine::Nodes => HeaderStep::Missing,
+        HeaderLine::Buckets => HeaderStep::Missing,
+        HeaderLine::Version => number_line(HeaderLine::Blank, h, s, HeaderStep::Absent(h)),
+        HeaderLine::Blank => HeaderStep::Absent(h),
     }
 }
 
@@ -218,15 +265,8 @@ pub fn optional(due: HeaderLine) -> bool
 pub fn header_line(due: HeaderLine, h: Header, s: &[u8]) -> HeaderStep
     ensures { λ r. ⌜ r ≡ header-step due h (closed-line (now (s .entry))) ⌝ }
 {
-    match due_number(due, s) {
-        Decimal::Value(n) => with_number(due, h, n),
-        Decimal::NotDecimal => {
-            if optional(due) {
-                return HeaderStep::Absent(h);
-            }
-            HeaderStep::Missing
-        }
-    }
+    let other = other_line(due, h, s);
+    number_line(due, h, s, other)
 }
 
 // What a closed event line asks for, given without the closing byte.

@@ -6,97 +6,63 @@ use mathlib.Core.Bool.{Bool, true, false}
 use Prim.Native.Nat.{ℕ, _+_, _<_, _≤_, min}
 use native.Mathlib.Numerals.{add-one}
 use native.Mathlib.Omega.{arith}
-use borrow.Author.Tests.{ne-eqb, lt-leb, leb-true, leb-false, eqb-true, eqb-false, ltb-true, ltb-false}
-use lib.Dec.{leb, eqb, ltb}
+use borrow.Author.Tests.{ne-eqb, lt-leb, eqb-true, eqb-false, ltb-true, ltb-false}
+use lib.Dec.{eqb, ltb}
 use lib.ListN.{length, take, set, replicate, length-append, length-take, length-set}
-use lib.Seq.{length-take-le, take-all, take-append-le, take-suc-set}
+use lib.Seq.{take-all, take-append-le, take-suc-set}
 use Rattle.spec.specs.Lists.{if_then_else_}
 use Rattle.spec.specs.Entries.{Opened}
-use Rattle.session.specs.declared.Decimal.{Decimal}
-use Rattle.session.specs.declared.EventLine.{EventLine}
 use Rattle.session.specs.declared.EventLine.the-variants.{Outside}
 use Rattle.session.specs.declared.Header.{Header}
 use Rattle.session.specs.declared.HeaderStep.the-variants.{Absent, Missing}
 use Rattle.session.specs.Keys.{newline}
-use Rattle.session.specs.Grammar.{InputLine, closed-line, open-line, split-lines, input-lines, admissible, parse-header-line, parse-event-line}
-use Rattle.session.specs.Header.{header-key, optional, number-step, header-step}
+use Rattle.session.specs.Grammar.{InputLine, closed-line, open-line, split-lines, input-lines, admissible}
+use Rattle.session.specs.Header.{optional}
+use Rattle.session.specs.LineLaws.{outside-step, outside-event, first-bytes}
 use Rattle.session.specs.Print.{refusal-line}
 use Rattle.session.specs.Transcript.{transcript}
 use Rattle.session_state.specs.declared.Phase.{Phase}
 use Rattle.session_state.specs.declared.Phase.the-variants.{Due, Events, Stopped}
 use Rattle.session_state.specs.declared.Session.{Session}
 use Rattle.session_state.specs.PartialLines.{partial, empty-line, line-bytes, pushed}
-use Rattle.session_state.specs.Handling.{LineEffect, new-session, pools-kept, stopped, with-machine, silent, opened-then, open-then, event-effect, header-effect, phase-effect, line-effect, phase-end, end-effect, lines-output}
+use Rattle.session_state.specs.Handling.{LineEffect, new-session, pools-kept, stopped, with-machine, silent, opened-then, open-then}
+use Rattle.session_state.specs.Handling.{event-effect, header-effect, phase-effect, line-effect, phase-end, end-effect, lines-output}
 use Rattle.session_lines.specs.PrintsTranscript.{lines-print-transcript}
 use Rattle.session_state.specs.declared.partial_line.PartialLine.{PartialLine}
 use Rattle.session_stream.specs.Stream.{Progress, begin, handled, kept, feed, feeds, stream-end, stream-output, streamed}
 
--- ---- 41 bytes of a line say as much as all of it
+-- ---- a line that is too long or not closed: it is outside the grammar, whatever its bytes are
 
-module _ (l : List ℕ) where
-  short-admissible : admissible (closed-line (take 41 l)) ≡ admissible (closed-line l)
-  unfolding admissible
-  short-admissible = go (leb (length l) 40) refl
-    where
-      go : (b : Bool) → leb (length l) 40 ≡ b → leb (length (take 41 l)) 40 ≡ leb (length l) 40
-      go true e =
-          let f : length l ≤ 40 = leb-true _ _ e in
-          let g : take 41 l ≡ l = take-all 41 l (omega arith) in
-          ap (λ (w : List ℕ). leb (length w) 40) g
-      go false e =
-          let f : 40 < length l = leb-false _ _ e in
-          let g : length (take 41 l) ≡ 41 = length-take-le 41 l (omega arith) in
-          rw g (sym e)
+-- what such a line does
+unfoldable outside : Phase → Session → List ℕ → List ℕ → LineEffect
+outside (Due due) s ns bs = header-effect (if optional due then Absent (s .header) else Missing) Outside s ns bs
+outside Events s ns bs = event-effect Outside s ns bs
+outside Stopped s ns bs = silent s ns bs
 
-  short-whole : admissible (closed-line l) ≡ true → take 41 l ≡ l
-  unfolding admissible
-  short-whole e = take-all 41 l (omega (arith, leb-true (length l) 40 e))
+outside-effect : (l : InputLine) → admissible l ≡ false → (s : Session) (ns bs : List ℕ) → line-effect s ns bs l ≡ outside (s .phase) s ns bs
+unfolding line-effect phase-effect outside
+outside-effect l e s ns bs = go (s .phase)
+  where
+    go : (p : Phase) → phase-effect p s ns bs l ≡ outside p s ns bs
+    go (Due due) = rw (outside-step due (s .header) l e, outside-event l e)
+    go Events = rw (outside-event l e)
+    go Stopped = refl
 
-  short-header : (key : List ℕ) → parse-header-line key (closed-line (take 41 l)) ≡ parse-header-line key (closed-line l)
-  unfolding parse-header-line
-  short-header key = go (admissible (closed-line l)) refl
-    where
-      go : (b : Bool) → admissible (closed-line l) ≡ b → parse-header-line key (closed-line (take 41 l)) ≡ parse-header-line key (closed-line l)
-      go true e = ap (λ (w : List ℕ). parse-header-line key (closed-line w)) (short-whole e)
-      go false e = rw (short-admissible ∙ e, e)
-
-  short-event : parse-event-line (closed-line (take 41 l)) ≡ parse-event-line (closed-line l)
-  unfolding parse-event-line
-  short-event = go (admissible (closed-line l)) refl
-    where
-      go : (b : Bool) → admissible (closed-line l) ≡ b → parse-event-line (closed-line (take 41 l)) ≡ parse-event-line (closed-line l)
-      go true e = ap (λ (w : List ℕ). parse-event-line (closed-line w)) (short-whole e)
-      go false e = rw (short-admissible ∙ e, e)
-
-  short-effect : (s : Session) (ns bs : List ℕ) → line-effect s ns bs (closed-line (take 41 l)) ≡ line-effect s ns bs (closed-line l)
-  unfolding line-effect phase-effect header-step
-  short-effect s ns bs = go (s .phase)
-    where
-      go : (p : Phase) → phase-effect p s ns bs (closed-line (take 41 l)) ≡ phase-effect p s ns bs (closed-line l)
-      go (Due due) =
-          let x = parse-event-line (closed-line (take 41 l)) in
-          ap (λ (n : Decimal). header-effect (number-step due (s .header) n) x s ns bs) (short-header (header-key due))
-          ∙ ap (λ (y : EventLine). header-effect (header-step due (s .header) (closed-line l)) y s ns bs) short-event
-      go Events = ap (λ (x : EventLine). event-effect x s ns bs) short-event
-      go Stopped = refl
-
--- ---- a line that is not closed: it is outside the grammar, as a line that is too long, and the last one
+-- so 41 bytes of a line say as much as all of it
+short-effect : (l : List ℕ) (s : Session) (ns bs : List ℕ) → line-effect s ns bs (closed-line (take 41 l)) ≡ line-effect s ns bs (closed-line l)
+short-effect l s ns bs = first-bytes 41 l (omega arith) (line-effect s ns bs) (outside (s .phase) s ns bs) (λ m e. outside-effect m e s ns bs)
 
 pub unclosed-too-long : (l long : List ℕ) (s : Session) (ns bs : List ℕ) → 40 < length long
     → line-effect s ns bs (closed-line long) ≡ line-effect s ns bs (open-line l)
-unfolding line-effect phase-effect header-step parse-header-line parse-event-line admissible
-unclosed-too-long l long s ns bs h = go (s .phase)
-  where
-    go : (p : Phase) → phase-effect p s ns bs (closed-line long) ≡ phase-effect p s ns bs (open-line l)
-    go (Due due) = rw (lt-leb _ _ h)
-    go Events = rw (lt-leb _ _ h)
-    go Stopped = refl
+unfolding admissible
+unclosed-too-long l long s ns bs h =
+    outside-effect (closed-line long) (lt-leb _ _ h) s ns bs ∙ sym (outside-effect (open-line l) refl s ns bs)
 
--- whatever its bytes are
 unclosed-any : (l k : List ℕ) (s : Session) (ns bs : List ℕ) → line-effect s ns bs (open-line l) ≡ line-effect s ns bs (open-line k)
-unclosed-any l k s ns bs =
-    let long = replicate {A = ℕ} 41 0 in
-    sym (unclosed-too-long l long s ns bs (omega arith)) ∙ unclosed-too-long k long s ns bs (omega arith)
+unfolding admissible
+unclosed-any l k s ns bs = outside-effect (open-line l) refl s ns bs ∙ sym (outside-effect (open-line k) refl s ns bs)
+
+-- ---- a line that is not closed is the last one
 
 -- what holds of what is done after an opening that was accepted, and of a refusal, holds of the opening with what is done next
 pub opened-either : (P : LineEffect → Type 0) (o : Opened) (h : Header) (ns bs : List ℕ) (next : Session → List ℕ → List ℕ → LineEffect)
@@ -114,14 +80,14 @@ opened-either P o h ns bs next accepted refused = go (eqb (o .refusal) 0)
     go false = refused
 
 unclosed-stops : (l : List ℕ) (s : Session) (ns bs : List ℕ) → line-effect s ns bs (open-line l) .session .phase ≡ Stopped
-unfolding line-effect phase-effect header-step number-step header-effect open-then event-effect pools-kept stopped silent with-machine parse-header-line parse-event-line admissible
-unclosed-stops l s ns bs = go (s .phase) refl
+unfolding admissible outside header-effect open-then event-effect pools-kept stopped silent with-machine
+unclosed-stops l s ns bs = ap (λ (d : LineEffect). d .session .phase) (outside-effect (open-line l) refl s ns bs) ∙ go (s .phase) refl
   where
     header : (a : Bool) → header-effect (if a then Absent (s .header) else Missing) Outside s ns bs .session .phase ≡ Stopped
     header true = opened-either (λ d. d .session .phase ≡ Stopped) _ (s .header) ns bs (event-effect Outside) (λ s' ns' bs'. refl) refl
     header false = refl
 
-    go : (p : Phase) → s .phase ≡ p → phase-effect p s ns bs (open-line l) .session .phase ≡ Stopped
+    go : (p : Phase) → s .phase ≡ p → outside p s ns bs .session .phase ≡ Stopped
     go (Due due) e = header (optional due)
     go Events e = refl
     go Stopped e = e

@@ -2,7 +2,7 @@
 -- work. "A refusal gives only its number; state and slices keep every word." Assumes nothing.
 use Prim.Native.Nat.{ℕ, _+_, _*_, _-_, _%_, _/_, min}
 use mathlib.Core.List.{List, [], _∷_, _++_}
-use mathlib.Core.Bool.{Bool, not, _&&_, _||_}
+use mathlib.Core.Bool.{Bool, false, not, _&&_, _||_}
 use lib.Dec.{ltb, leb, eqb}
 use lib.ListN.{length, drop, replicate}
 use Rattle.spec.specs.declared.Task.{Task}
@@ -77,12 +77,22 @@ started Contains k = fresh-task (call-number Contains) k 12
 started Grow k = fresh-task (call-number Grow) 0 20
 started Shrink k = fresh-task (call-number Shrink) 0 20
 
--- "Start: 8, 4, 5."
+-- paper 02, U9: "In a yard opened under the new rule an insert of tag 0 can't be started. Remove and contains still accept it"; a resize
+-- has no tag
+unfoldable pub withdrawn : Config → Call → ℕ → Bool
+withdrawn g Insert k = g .«zero_withdrawn» && eqb k 0
+withdrawn g Remove k = false
+withdrawn g Contains k = false
+withdrawn g Grow k = false
+withdrawn g Shrink k = false
+
+-- "Start: 8, 4, 5." Paper 02, U9: "14, starting an insert of tag 0 under the new rule, after 5"
 unfoldable pub start : Machine → ℕ → Call → ℕ → Reply
 start y k call tag =
     if not (sound y) then refuse 8 y
     else if not (ltb k (task-count y)) then refuse 4 y
     else if task-of y k .running then refuse 5 y
+    else if withdrawn (y .state .config) call tag then refuse 14 y
     else record { out = At (started call tag .line); machine = set-task k (started call tag) y }
 
 -- paper 02, U2: "A bucket's add and remove now also give the number of tags it holds afterwards, and an ended insert or remove

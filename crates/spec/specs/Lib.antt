@@ -28,5 +28,6 @@ pub mod SpoiltTaskRows
 pub mod StepRefusalRows
 pub mod EntryRows
 pub mod VersionRows
+pub mod WithdrawnRows
 pub mod OrderExamples
 pub mod HistoryRows

@@ -2,7 +2,7 @@
 -- are built here and nowhere else, so that a later field is added in this file alone. Assumes nothing.
 use Prim.Native.Nat.{ℕ, _-_}
 use mathlib.Core.List.{List}
-use mathlib.Core.Bool.{true, false}
+use mathlib.Core.Bool.{Bool, true, false}
 use lib.ListN.{getD, set, replicate}
 use Rattle.spec.specs.declared.Task.{Task}
 use Rattle.spec.specs.declared.Config.{Config}
@@ -118,16 +118,20 @@ without-places c =
 -- ---- the whole state, and its tasks
 
 -- what an opening is given besides the slices: "opening with T and two slices". Paper 02, U3: "A yard is opened for version 1 or 2";
--- version 1 where nothing else is said
+-- U9: "a yard opened under the new rule". Version 1 and the old rule where nothing else is said
 abbrev pub config-of : ℕ → Config
-config-of t = record { tasks = t; version = 1 }
+config-of t = record { tasks = t; version = 1; «zero_withdrawn» = false }
 
 abbrev pub with-version : ℕ → Config → Config
-with-version v g = record { tasks = g .tasks; version = v }
+with-version v g = record { tasks = g .tasks; version = v; «zero_withdrawn» = g .«zero_withdrawn» }
+
+-- true for the new rule, under which tag 0 is withdrawn
+abbrev pub with-zero-withdrawn : Bool → Config → Config
+with-zero-withdrawn w g = record { tasks = g .tasks; version = g .version; «zero_withdrawn» = w }
 
 -- of "a state of all zeros"
 abbrev pub zero-config : Config
-zero-config = record { tasks = 0; version = 0 }
+zero-config = record { tasks = 0; version = 0; «zero_withdrawn» = false }
 
 -- "The state holds T, H, B, the head node, the node and the bucket last taken, and a record for each of eight tasks": as an
 -- opening leaves it, with no task running. Paper 02, U7: "the last one chosen, kept in the state": "an opening sets T − 1"; of no tasks, 0

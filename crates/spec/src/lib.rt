@@ -57,11 +57,12 @@ pub struct Task {
     pub new_bucket: u32,
 }
 
-// What an opening is given besides the two slices, and what the state keeps of it: T, the number of tasks, and the version of the tags,
-// 1 or 2.
+// What an opening is given besides the two slices, and what the state keeps of it: T, the number of tasks, the version of the tags, 1 or 2,
+// and whether tag 0 is withdrawn: then no insert of it can be started.
 pub struct Config {
     pub tasks: u32,
     pub version: u32,
+    pub zero_withdrawn: bool,
 }
 
 // The state: what it was opened with, H, B, the head, the node and the bucket last taken, the task that a dispatcher chose last, and

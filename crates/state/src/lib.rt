@@ -5,7 +5,7 @@ use spec::State;
 use spec::Task;
 ghost use mathlib.Core.Path.{_≡_};
 ghost use Prim.Native.Nat.{_-_};
-ghost use Rattle.spec.specs.Machine.{config-of, with-version, zero-config, idle, fresh-task, state-of};
+ghost use Rattle.spec.specs.Machine.{config-of, with-version, with-zero-withdrawn, zero-config, idle, fresh-task, state-of};
 
 // ---- a task's record
 
@@ -53,11 +53,15 @@ pub fn fresh_task(call: u32, tag: u32, line: u32) -> Task
 
 // ---- the state
 
-// What an opening is given besides the slices: T, and version 1.
+// What an opening is given besides the slices: T, version 1, and the old rule for tag 0.
 pub fn config(tasks: u32) -> Config
     ensures { λ r. ⌜ r ≡ config-of tasks ⌝ }
 {
-    Config { tasks, version: 1 }
+    Config {
+        tasks,
+        version: 1,
+        zero_withdrawn: false,
+    }
 }
 
 // The same of another version.
@@ -67,6 +71,18 @@ pub fn with_version(g: Config, version: u32) -> Config
     Config {
         tasks: g.tasks,
         version,
+        zero_withdrawn: g.zero_withdrawn,
+    }
+}
+
+// The same under the new rule, by which tag 0 is withdrawn, or under the old one.
+pub fn with_zero_withdrawn(g: Config, withdrawn: bool) -> Config
+    ensures { λ r. ⌜ r ≡ with-zero-withdrawn withdrawn g ⌝ }
+{
+    Config {
+        tasks: g.tasks,
+        version: g.version,
+        zero_withdrawn: withdrawn,
     }
 }
 
@@ -77,6 +93,7 @@ pub fn zero_config() -> Config
     Config {
         tasks: 0,
         version: 0,
+        zero_withdrawn: false,
     }
 }
 

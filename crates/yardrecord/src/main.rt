@@ -29,10 +29,10 @@ fn input_room() -> [u8; 1024]
 
 // What is written for one read, at most `longest-pair` bytes for each of its 1,024 and once the kept header lines and the listing
 // (`bytes-bound`), or for the end, which is shorter (`end-bound`).
-fn output_room() -> [u8; 118511]
+fn output_room() -> [u8; 118552]
     ensures { λ r. ⌜ 1024 * longest-pair + longest-last ≡ length r ⌝ }
 {
-    [0; 118511]
+    [0; 118552]
 }
 
 // A recorder between two reads, and whether the input may go on.

@@ -1,7 +1,9 @@
--- `schedule::config` meets its contract: T with version 1, then the version given. Assumes nothing.
+-- `schedule::config` meets its contract: T, then the version given, then the rule. Assumes nothing.
 use mathlib.Core.Path.{ap, _∙_}
+use mathlib.Core.Bool.{not}
+use lib.Dec.{eqb}
 use Rattle.spec.specs.declared.Config.{Config}
-use Rattle.spec.specs.Machine.{with-version}
+use Rattle.spec.specs.Machine.{with-version, with-zero-withdrawn}
 use borrow.Author.Needs.{needs}
 use Rattle.schedule.proofs.config.Statement.{statement}
 use Rattle.schedule.proofs.config.Tie as tie
@@ -12,10 +14,16 @@ config-requires c κs = search needs
 with-version-requires : tie.Need-with-version-requires
 with-version-requires c κs = search needs
 
+with-zero-withdrawn-requires : tie.Need-with-zero-withdrawn-requires
+with-zero-withdrawn-requires c κs = search needs
+
 returns : tie.Need-returns
 returns c =
-    let a = c .before .before .args in
-    c .with-version .ensures ∙ ap (λ (g : Config). with-version (a .version) g) (c .before .config .ensures)
+    let at-version = c .before in
+    let at-config = at-version .before in
+    let a = at-config .before .args in
+    let ruled : Config → Config = λ g. with-zero-withdrawn (not (eqb (a .withdrawn) 0)) g in
+    c .with-zero-withdrawn .ensures ∙ ap ruled (at-version .with-version .ensures ∙ ap (λ (g : Config). with-version (a .version) g) (at-config .config .ensures))
 
 pub config-spec : {M : Type 1} → statement M
-config-spec = tie.close (tie.spec config-requires with-version-requires returns)
+config-spec = tie.close (tie.spec config-requires with-version-requires with-zero-withdrawn-requires returns)

@@ -1,7 +1,7 @@
 -- `session_parse::with_number` meets its contract. Each line that may be due, as in the definition. Assumes nothing.
 use mathlib.Core.Path.{ap}
 use Rattle.spec.specs.declared.Config.{Config}
-use Rattle.session.specs.declared.HeaderLine.the-variants.{Nodes}
+use Rattle.session.specs.declared.HeaderLine.the-variants.{Nodes, Blank}
 use Rattle.session.specs.declared.HeaderStep.the-variants.{Next, Complete}
 use Rattle.session.specs.Header.{header, with-number}
 use borrow.Author.Needs.{needs}
@@ -26,6 +26,12 @@ enum-told-4 c = search needs
 with-version-requires : tie.Need-with-version-requires
 with-version-requires c κs = search needs
 
+enum-told-5 : tie.Need-enum-told-5
+enum-told-5 c = search needs
+
+with-zero-withdrawn-requires : tie.Need-with-zero-withdrawn-requires
+with-zero-withdrawn-requires c κs = search needs
+
 returns : tie.Need-returns
 unfolding with-number
 returns c =
@@ -44,7 +50,13 @@ returns-4 : tie.Need-returns-4
 unfolding with-number
 returns-4 c =
     let h = c .before .before .before .args .h in
-    rw (c .before .enum-told4 .given .1) (ap (λ (g : Config). Complete (header g (h .nodes) (h .buckets))) (c .with-version .ensures))
+    rw (c .before .enum-told4 .given .1) (ap (λ (g : Config). Next Blank (header g (h .nodes) (h .buckets))) (c .with-version .ensures))
+
+returns-5 : tie.Need-returns-5
+unfolding with-number
+returns-5 c =
+    let h = c .before .before .before .args .h in
+    rw (c .before .enum-told5 .given .1) (ap (λ (g : Config). Complete (header g (h .nodes) (h .buckets))) (c .with-zero-withdrawn .ensures))
 
 pub with-number-spec : {M : Type 1} → statement M
 with-number-spec =
@@ -56,7 +68,10 @@ with-number-spec =
     enum-told-3
     enum-told-4
     with-version-requires
+    enum-told-5
+    with-zero-withdrawn-requires
     returns
     returns-2
     returns-3
-    returns-4)
+    returns-4
+    returns-5)

@@ -18,11 +18,17 @@ slice-aggregate-put-words c = search needs
 put-words-requires : tie.Need-put-words-requires Inv-loop μ-loop
 put-words-requires c κs = search needs
 
-add-put : tie.Need-add-put Inv-loop μ-loop
-add-put c = search needs
+add-put-words : tie.Need-add-put-words Inv-loop μ-loop
+add-put-words c = search needs
 
-put-requires : tie.Need-put-requires Inv-loop μ-loop
-put-requires c κs = search needs
+either-requires : tie.Need-either-requires Inv-loop μ-loop
+either-requires c κs = search needs
+
+slice-aggregate-put-words-2 : tie.Need-slice-aggregate-put-words-2 Inv-loop μ-loop
+slice-aggregate-put-words-2 c = search needs
+
+put-words-requires-2 : tie.Need-put-words-requires-2 Inv-loop μ-loop
+put-words-requires-2 c κs = search needs
 
 loop-holds : tie.Need-loop-holds Inv-loop μ-loop
 loop-holds c = search needs
@@ -68,8 +74,10 @@ put-state-spec =
     μ-loop
     slice-aggregate-put-words
     put-words-requires
-    add-put
-    put-requires
+    add-put-words
+    either-requires
+    slice-aggregate-put-words-2
+    put-words-requires-2
     loop-holds
     add-put-task
     mul-put-task

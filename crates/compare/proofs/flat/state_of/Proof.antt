@@ -60,6 +60,9 @@ get-requires-7 c κs = search needs
 get-requires-8 : tie.Need-get-requires-8 Inv-loop μ-loop
 get-requires-8 c κs = search needs
 
+get-requires-9 : tie.Need-get-requires-9 Inv-loop μ-loop
+get-requires-9 c κs = search needs
+
 returns : tie.Need-returns Inv-loop μ-loop
 returns c = search needs
 
@@ -85,4 +88,5 @@ state-of-spec =
     get-requires-6
     get-requires-7
     get-requires-8
+    get-requires-9
     returns)

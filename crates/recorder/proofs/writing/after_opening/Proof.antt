@@ -10,6 +10,7 @@ use Rattle.session.specs.Buffer.{buffer, append}
 use Rattle.session.specs.BufferLaws.{append-within}
 use Rattle.session_state.specs.Handling.{silent, pools-kept}
 use Rattle.session_stream.proofs.Laws.{rest-length}
+use Rattle.recording.specs.Recorder.{longest-header}
 use Rattle.recorder_lines.specs.KeptLines.{kept-bytes}
 use Rattle.recorder.specs.LentRecorder.{after-bytes, first-recorded}
 use Rattle.recorder.proofs.Laws.{written-after, line-after}
@@ -18,7 +19,7 @@ use borrow.Author.Needs.{needs}
 use Rattle.recorder.proofs.writing.after_opening.Statement.{statement}
 use Rattle.recorder.proofs.writing.after_opening.Tie as tie
 
-len : (c : tie.Start) → length (c .args .k .bytes) ≡ 123
+len : (c : tie.Start) → length (c .args .k .bytes) ≡ longest-header
 len c = search needs
 
 kept-length-requires : tie.Need-kept-length-requires

@@ -1,8 +1,8 @@
--- `session_parse::due_number` meets its contract. Each line that may be due, with its key. Assumes nothing.
-use Rattle.session.specs.Header.{header-key}
+-- `session_parse::line_number` meets its contract. Each header line, with its key or as a whole. Assumes nothing.
+use Rattle.session.specs.Header.{line-number}
 use borrow.Author.Needs.{needs}
-use Rattle.session_parse.proofs.due_number.Statement.{statement}
-use Rattle.session_parse.proofs.due_number.Tie as tie
+use Rattle.session_parse.proofs.line_number.Statement.{statement}
+use Rattle.session_parse.proofs.line_number.Tie as tie
 
 enum-told : tie.Need-enum-told
 enum-told c = search needs
@@ -40,24 +40,37 @@ slice-aggregate-header-number-4 c = search needs
 header-number-requires-4 : tie.Need-header-number-requires-4
 header-number-requires-4 c κs = search needs
 
+enum-told-5 : tie.Need-enum-told-5
+enum-told-5 c = search needs
+
+slice-aggregate-fixed-line : tie.Need-slice-aggregate-fixed-line
+slice-aggregate-fixed-line c = search needs
+
+fixed-line-requires : tie.Need-fixed-line-requires
+fixed-line-requires c κs = search needs
+
 returns : tie.Need-returns
-unfolding header-key
+unfolding line-number
 returns c = rw (c .before .before .enum-told .given .1) (c .header-number .ensures)
 
 returns-2 : tie.Need-returns-2
-unfolding header-key
+unfolding line-number
 returns-2 c = rw (c .before .before .enum-told2 .given .1) (c .header-number2 .ensures)
 
 returns-3 : tie.Need-returns-3
-unfolding header-key
+unfolding line-number
 returns-3 c = rw (c .before .before .enum-told3 .given .1) (c .header-number3 .ensures)
 
 returns-4 : tie.Need-returns-4
-unfolding header-key
+unfolding line-number
 returns-4 c = rw (c .before .before .enum-told4 .given .1) (c .header-number4 .ensures)
 
-pub due-number-spec : {M : Type 1} → statement M
-due-number-spec =
+returns-5 : tie.Need-returns-5
+unfolding line-number
+returns-5 c = rw (c .before .before .enum-told5 .given .1) (c .fixed-line .ensures)
+
+pub line-number-spec : {M : Type 1} → statement M
+line-number-spec =
     tie.close
     (tie.spec
     enum-told
@@ -72,7 +85,11 @@ due-number-spec =
     enum-told-4
     slice-aggregate-header-number-4
     header-number-requires-4
+    enum-told-5
+    slice-aggregate-fixed-line
+    fixed-line-requires
     returns
     returns-2
     returns-3
-    returns-4)
+    returns-4
+    returns-5)
