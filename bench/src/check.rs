@@ -1,5 +1,5 @@
-//! `bench check`: random schedules against a plain set and, with the feature `proved`,
-//! against the proved implementation, word by word.
+//! `bench check`: random schedules against a plain set and, with the feature `proved`, against the proved implementation,
+//! word by word; then single calls of the two implementations.
 
 use crate::machine::MAX_TAGS;
 use crate::model::{self, Coverage};
@@ -212,6 +212,43 @@ const KINDS: [(u32, bool, &str); 4] = [
     (2, true, "version 2, new rule"),
 ];
 
+/// A quarter as many single calls as `events`, and every opening with states of other lengths.
+#[cfg(feature = "proved")]
+fn check_calls(events: u64) -> Result<(), String> {
+    let mut counts = crate::one_by_one::Counts::default();
+    for (tasks, version, node_words, bucket_words, _) in OPENINGS {
+        for zero_withdrawn in [0, 1, u32::MAX] {
+            let opening = Opening {
+                tasks,
+                version,
+                zero_withdrawn,
+            };
+            crate::one_by_one::check_opening(opening, node_words, bucket_words, &mut counts)?;
+        }
+    }
+    crate::one_by_one::check(events / 4, &mut counts)?;
+    println!(
+        "one call at a time: {} calls, {} of them on spoilt memory, {} of these not refused with 8",
+        counts.calls, counts.spoilt, counts.taken
+    );
+    println!("refusals:{}", counts_of(&counts.refusals));
+    Ok(())
+}
+
+#[cfg(feature = "proved")]
+fn counts_of(refusals: &[u64]) -> String {
+    counts(
+        (0..)
+            .zip(refusals.iter().copied())
+            .filter(|&(_, count)| count > 0),
+    )
+}
+
+#[cfg(not(feature = "proved"))]
+fn check_calls(_: u64) -> Result<(), String> {
+    Ok(())
+}
+
 /// Checks random schedules with at least `events` events in total, of each kind by turns.
 pub fn check(events: u64) -> Result<(), String> {
     check_openings()?;
@@ -227,6 +264,7 @@ pub fn check(events: u64) -> Result<(), String> {
     for ((_, _, name), coverage) in KINDS.into_iter().zip(&coverage) {
         print(name, coverage);
     }
+    check_calls(events)?;
     let compared = if cfg!(feature = "proved") {
         " and the proved implementation"
     } else {

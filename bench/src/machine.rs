@@ -16,6 +16,7 @@ mod sound;
 
 use lines::{Next, Step};
 pub use sound::sound;
+use std::ops::Range;
 
 pub const MAX_TASKS: usize = 8;
 pub const MAX_TAGS: usize = 64;
@@ -76,6 +77,13 @@ pub enum Output {
     End(Answer, u16, u32),
 }
 
+/// What a turn gives: nothing runs, or a task and what its step gives.
+#[derive(Clone, Copy, Debug, PartialEq, Eq)]
+pub enum Turn {
+    Idle,
+    Of(u32, Result<Output, Refusal>),
+}
+
 #[derive(Clone, Copy, Debug, Default, PartialEq, Eq)]
 pub struct Task {
     pub running: bool,
@@ -105,7 +113,7 @@ pub struct State {
     pub head: u32,
     pub last_node: u32,
     pub last_bucket: u32,
-    /// The task that a dispatcher chose last. No entry here moves it.
+    /// The task that a turn chose last.
     pub chosen: u32,
     pub task: [Task; MAX_TASKS],
 }
@@ -229,6 +237,34 @@ pub fn step(
     };
     state.task[number] = record;
     Ok(output)
+}
+
+/// Steps the running task that is next, going round from the last one chosen. A refused step uses up its turn unless memory is
+/// spoilt.
+pub fn turn(state: &mut State, nodes: &mut [u32], buckets: &mut [u32]) -> Result<Turn, Refusal> {
+    if !sound(state, nodes, buckets) {
+        return Err(Refusal::Corrupt);
+    }
+    let State { tasks, chosen, .. } = *state;
+    let mut order = (chosen + 1..tasks).chain(0..=chosen);
+    let Some(task) = order.find(|&task| state.task[task as usize].running) else {
+        return Ok(Turn::Idle);
+    };
+    let given = step(state, nodes, buckets, task);
+    if given != Err(Refusal::Corrupt) {
+        state.chosen = task;
+    }
+    Ok(Turn::Of(task, given))
+}
+
+/// Where in the bucket words the tags of bucket `number` stand; nowhere for a bad number or spoilt memory.
+pub fn show(state: &State, nodes: &[u32], buckets: &[u32], number: u32) -> Range<usize> {
+    if !sound(state, nodes, buckets) || number >= state.buckets {
+        return 0..0;
+    }
+    let first = number as usize * BUCKET_WORDS;
+    let tags = first + bucket::TAGS;
+    tags..tags + buckets[first + bucket::COUNT] as usize
 }
 
 /// Writes the tags of the set, ascending, to the front of `out` and gives their number.

@@ -1,23 +1,34 @@
 //! Compares and times implementations of a resizable hash set moved one line at a time.
 //!
-//! `bench check [events]` runs random schedules, `bench time` measures. With the feature
-//! `proved` both also run the proved implementation from `libschedule.a`.
+//! `bench check [events]` runs random schedules and then single calls, `bench time` measures, `bench example` prints what
+//! examples/c prints. With the feature `proved` all run the proved implementation from `libyard_c.a`.
 
+mod calls;
 mod check;
+mod example;
 mod machine;
 mod model;
+#[cfg(feature = "proved")]
+mod one_by_one;
 mod owned;
+mod plain;
 #[cfg(feature = "proved")]
 mod proved;
 mod random;
 mod schedule;
 mod time;
+mod yard;
+
+#[cfg(not(feature = "proved"))]
+use plain::Plain as Implementation;
+#[cfg(feature = "proved")]
+use proved::Proved as Implementation;
 
 use std::env;
 use std::process::ExitCode;
 
 const DEFAULT_EVENTS: u64 = 4_000_000;
-const USAGE: &str = "usage: bench check [events] | bench time";
+const USAGE: &str = "usage: bench check [events] | bench time | bench example";
 
 fn command(arguments: &[&str]) -> Result<(), String> {
     match arguments {
@@ -26,6 +37,9 @@ fn command(arguments: &[&str]) -> Result<(), String> {
         ["time"] => {
             time::time();
             Ok(())
+        }
+        ["example"] => {
+            example::example::<Implementation>().map_err(|refused| format!("{refused:?}"))
         }
         _ => Err(USAGE.into()),
     }

@@ -131,11 +131,16 @@ fn time_refused<const N: usize>(load: &Load, runs: [Run; N]) -> [f64; N] {
 
 #[cfg(feature = "proved")]
 fn print_times(load: &Load) {
-    let [plain, proved] = time_events(load, [schedule::run, crate::proved::run]);
+    use crate::proved::{run, run_by_calls};
+    let [plain, proved, calls] = time_events(load, [schedule::run, run, run_by_calls]);
     println!("  plain   {plain:10.1} ns per event");
     println!(
         "  proved  {proved:10.1} ns per event, {:.2} times plain",
         proved / plain
+    );
+    println!(
+        "  proved, one call at a time {calls:10.1} ns per event, {:.2} times plain",
+        calls / plain
     );
 }
 

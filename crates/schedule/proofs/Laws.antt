@@ -144,7 +144,7 @@ module _ (g : Config) (ns bs ws os ts : List ℕ) (refusal : ℕ) (r : refusal �
 abbrev Small : Written → Type 0
 Small l = listing-number (l .says) ≤ 267
 
-list-small : (y : Machine) (w : List ℕ) → Small (list y w)
+pub list-small : (y : Machine) (w : List ℕ) → Small (list y w)
 unfolding list
 list-small y w =
     choose Small (not (sound y) || ltb 64 (length (listed y))) _ _ (λ p. omega arith) (λ p.

@@ -2,7 +2,6 @@
 -- Assumes nothing.
 use Prim.Native.Nat.{ℕ, _/_, min}
 use mathlib.Core.List.{List}
-use mathlib.Core.Bool.{not}
 use lib.Dec.{eqb}
 use lib.ListN.{length}
 use Rattle.spec.specs.declared.Config.{Config}
@@ -10,11 +9,11 @@ use Rattle.spec.specs.declared.Listing.{Listing}
 use Rattle.spec.specs.declared.Listing.the-variants.{Refused}
 use Rattle.spec.specs.Lists.{if_then_else_, concat-map}
 use Rattle.spec.specs.Numbers.{output-words}
-use Rattle.spec.specs.Machine.{Machine, machine-of, config-of, with-version, with-zero-withdrawn}
+use Rattle.spec.specs.Machine.{Machine, machine-of}
 use Rattle.spec.specs.Words.{overwrite}
 use Rattle.spec.specs.Entries.{opening, Written, list}
 use Rattle.spec.specs.Schedule.{Event, schedule}
-use Rattle.schedule_words.specs.Events.{events-of, listing-number}
+use Rattle.schedule_words.specs.Events.{events-of}
 use Rattle.schedule.specs.declared.Outcome.{Outcome}
 
 -- ---- the events that are run
@@ -70,29 +69,3 @@ result-of r ns bs outs tags =
       listing = r .listing;
       tags = tags;
     }
-
--- ---- the same for C, where the answer is one number: of tags listed, or 256 and the refusal's
-
--- T, the version, and the rule for tag 0: 0 the old one, any other number the new one
-abbrev pub c-config : ℕ → ℕ → ℕ → Config
-c-config t v w = with-zero-withdrawn (not (eqb w 0)) (with-version v (config-of t))
-
-pub record CResult : Type 0 where
-  pub number : ℕ
-  pub nodes : List ℕ
-  pub buckets : List ℕ
-  pub outs : List ℕ
-  pub tags : List ℕ
-
-abbrev pub c-result-of : Result → CResult
-c-result-of r =
-    record {
-      number = listing-number (r .listing);
-      nodes = r .machine .nodes;
-      buckets = r .machine .buckets;
-      outs = r .outs;
-      tags = r .tags;
-    }
-
-abbrev pub c-result : ℕ → List ℕ → List ℕ → List ℕ → List ℕ → CResult
-c-result n ns bs outs tags = record { number = n; nodes = ns; buckets = bs; outs = outs; tags = tags }

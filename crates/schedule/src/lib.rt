@@ -16,7 +16,7 @@ ghost use Rattle.spec.specs.Linearizable.{Linearizable};
 ghost use Rattle.spec.specs.ContainsSteps.{ContainsExact};
 ghost use Rattle.lines.specs.Reply.{moved-reply};
 ghost use Rattle.schedule_words.specs.Events.{event-of, events-of};
-ghost use Rattle.schedule.specs.Encoding.{decoded, run-words, result-of, c-config, c-result, c-result-of};
+ghost use Rattle.schedule.specs.Encoding.{decoded, run-words, result-of};
 
 // What a run gives: the opening's refusal, or 0; the number of events run; the state; the list's answer, in whose place the refusal
 // of an opening stands.
@@ -107,34 +107,4 @@ pub fn run(
         state: t,
         listing: l,
     }
-}
-
-// What the opening of C's call is given.
-fn config(tasks: u32, version: u32, withdrawn: u32) -> Config
-    ensures { λ r. ⌜ r ≡ c-config tasks version withdrawn ⌝ }
-{
-    let g = state::config(tasks);
-    let h = state::with_version(g, version);
-    state::with_zero_withdrawn(h, withdrawn != 0)
-}
-
-// The same for C. Gives the number of tags listed, or 256 and the refusal's number.
-#[no_mangle]
-pub extern "C" fn schedule_run(
-    tasks: u32,
-    version: u32,
-    withdrawn: u32,
-    ns: &mut [u32],
-    bs: &mut [u32],
-    events: &[u32],
-    outs: &mut [u32],
-    tags: &mut [u32],
-) -> u32
-    ensures { λ r. ⌜ c-result r (now (ns .exit)) (now (bs .exit)) (now (outs .exit)) (now (tags .exit))
-        ≡ c-result-of (run-words (c-config tasks version withdrawn) (now (ns .entry)) (now (bs .entry)) (now (events .entry)) (now (outs .entry)) (now (tags .entry))) ⌝ }
-{
-    let g = config(tasks, version, withdrawn);
-    let o = run(g, ns, bs, events, outs, tags);
-    let l = o.listing;
-    schedule_words::listing_number(l)
 }

@@ -1,16 +1,16 @@
 -- `schedule_run` gives what `run` gives, with one number for the list's answer, which `number-small` bounds.
 -- Assumes nothing.
-use Prim.Native.Nat.{ℕ}
-use mathlib.Core.Path.{ap, _∙_}
+use Prim.Native.Nat.{ℕ, _≤_}
+use mathlib.Core.Path.{sym, ap, subst, _∙_}
 use denote.Ref.{now}
 use Rattle.spec.specs.declared.Config.{Config}
 use Rattle.schedule_words.specs.Events.{listing-number}
-use Rattle.schedule.specs.Encoding.{Result, run-words, c-result, c-result-of}
+use Rattle.schedule.specs.Encoding.{Result, run-words}
+use Rattle.yard_c.specs.Whole.{c-result, c-result-of}
 use Rattle.schedule.proofs.Laws.{number-small}
-use native.Mathlib.Omega.{arith}
 use borrow.Author.Needs.{needs}
-use Rattle.schedule.proofs.schedule_run.Statement.{statement}
-use Rattle.schedule.proofs.schedule_run.Tie as tie
+use Rattle.yard_c.proofs.schedule_run.Statement.{statement}
+use Rattle.yard_c.proofs.schedule_run.Tie as tie
 
 config-requires : tie.Need-config-requires
 config-requires c κs = search needs
@@ -25,19 +25,27 @@ listing-number-requires c κs =
     let a = at-config .before .before .before .before .before .before .args in
     let e = ap (λ (x : Result). listing-number (x .listing)) (at-run .run .ensures .0) in
     let z = number-small (at-config .config .result) (now (a .ns)) (now (a .bs)) (now (a .events)) (now (a .outs)) (now (a .tags)) in
-    omega arith
+    subst (λ (n : ℕ). n ≤ 267) (sym e) z
 
 same-length : tie.Need-same-length
-same-length c = search needs
+same-length c =
+    let at-run = c .before .before .before .before .before .before .before .before .before in
+    at-run .run .kept .1 .0
 
 same-length-2 : tie.Need-same-length-2
-same-length-2 c = search needs
+same-length-2 c =
+    let at-run = c .before .before .before .before .before .before .before .before .before in
+    at-run .run .kept .1 .1 .0
 
 same-length-3 : tie.Need-same-length-3
-same-length-3 c = search needs
+same-length-3 c =
+    let at-run = c .before .before .before .before .before .before .before .before .before in
+    at-run .run .kept .1 .1 .1 .1 .0
 
 same-length-4 : tie.Need-same-length-4
-same-length-4 c = search needs
+same-length-4 c =
+    let at-run = c .before .before .before .before .before .before .before .before .before in
+    at-run .run .kept .1 .1 .1 .1 .1 .0
 
 returns : tie.Need-returns
 returns c =

@@ -1,0 +1,5 @@
+pub mod StateWords
+pub mod WordRows
+pub mod RoundTrip
+pub mod Changes
+pub mod EntriesStore
