@@ -172,19 +172,19 @@ task-marks w h c e p q s =
 
 -- ---- the tasks in turn
 
-module _ (ts : List Task) (k : ℕ) (d : Task) (h : k < length ts) where
-  pub tasks-next : (f : Task → List ℕ) → concat-map f (drop k ts) ≡ f (getD ts k d) ++ concat-map f (drop (k + 1) ts)
+module _ {A : Type 0} (ts : List A) (k : ℕ) (d : A) (h : k < length ts) where
+  pub tasks-next : (f : A → List ℕ) → concat-map f (drop k ts) ≡ f (getD ts k d) ++ concat-map f (drop (k + 1) ts)
   unfolding concat-map
   tasks-next f = rw (add-one, drop-cons ts k d h)
 
-pub tasks-last : (ts : List Task) (k : ℕ) (f : Task → List ℕ) → length ts ≤ k → concat-map f (drop k ts) ≡ []
+pub tasks-last : {A : Type 0} (ts : List A) (k : ℕ) (f : A → List ℕ) → length ts ≤ k → concat-map f (drop k ts) ≡ []
 unfolding concat-map
 tasks-last ts k f h = rw (drop-of-length-le ts h)
 
 -- ---- a list for each task, one after the other
 
-module _ (f : Task → List ℕ) where
-  pub tasks-turn : {m out o : List Bool} (ts : List Task) (k : ℕ) (d : Task) (ls : List ℕ) → k < length ts
+module _ {A : Type 0} (f : A → List ℕ) where
+  pub tasks-turn : {m out o : List Bool} (ts : List A) (k : ℕ) (d : A) (ls : List ℕ) → k < length ts
       → ((q : List Bool) → Marks out q (concat-map f (drop k ts)) → Marks m q ls)
       → Marks out o (f (getD ts k d))
       → (q : List Bool) → Marks o q (concat-map f (drop (k + 1) ts)) → Marks m q ls

@@ -18,7 +18,7 @@ const NODES: usize = pool::MOST_NODES as usize;
 const BUCKETS: usize = pool::MOST_BUCKETS as usize;
 
 // The mark of a link, if there is one.
-fn mark(m: &mut [bool], l: u32)
+pub fn mark(m: &mut [bool], l: u32)
     ensures { λ _. ⌜ Marks (now (m .entry)) (now (m .exit)) (l ∷ []) ⌝ }
 {
     if l == 0 {
@@ -129,7 +129,7 @@ fn mark_own(s: State, m: &mut [bool])
 // ---- taking
 
 // The link of the first of n records that is not marked after the last, going round; 0 if all are.
-fn first_unmarked(m: &[bool], n: u32, last: u32) -> u32
+pub fn first_unmarked(m: &[bool], n: u32, last: u32) -> u32
     requires { ⌜ (n ≤ length (now m)) × (n ≤ 1024) × (last < n) ⌝ }
     ensures { λ r. ⌜ ((ls : List ℕ) → Exactly (now (m .entry)) ls → r ≡ first-free ls (cyclic-order n last)) ⌝ }
 {

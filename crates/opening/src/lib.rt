@@ -2,9 +2,8 @@
 use spec::Config;
 use spec::State;
 ghost use mathlib.Core.Path.{_≡_};
-ghost use Prim.Native.Nat.{_<_};
-ghost use lib.ListN.{length, replicate};
-ghost use Rattle.spec.specs.Entries.{opening, pool-fits};
+ghost use lib.ListN.{length};
+ghost use Rattle.spec.specs.Entries.{opening};
 ghost use Rattle.spec.specs.Machine.{zero-config, state-of, machine-of};
 ghost use Rattle.opening.specs.Opening.{refusal-of, first-node, first-bucket};
 
@@ -20,24 +19,6 @@ pub struct Opened {
 
 // ---- which refusal
 
-// So many words are records of this width, 1 up to most.
-fn fits(width: usize, most: usize, words: usize) -> bool
-    requires { ⌜ 0 < width ⌝ }
-    ensures { λ r. ⌜ r ≡ pool-fits width most words ⌝ }
-{
-    if words % width != 0 {
-        return false;
-    }
-    let n = words / width;
-    if n < 1 {
-        return false;
-    }
-    if most < n {
-        return false;
-    }
-    true
-}
-
 // The refusal of an opening with these lengths of the slices, 0 for none.
 fn refusal(g: Config, n: usize, m: usize) -> u32
     ensures { λ r. ⌜ r ≡ refusal-of g n m ⌝ }
@@ -45,10 +26,10 @@ fn refusal(g: Config, n: usize, m: usize) -> u32
     if !sound_records::within(1, 8, g.tasks) {
         return 1;
     }
-    if !fits(pool::NODE_WORDS, MOST_NODES, n) {
+    if !pool::fits(pool::NODE_WORDS, MOST_NODES, n) {
         return 2;
     }
-    if !fits(pool::BUCKET_WORDS, MOST_BUCKETS, m) {
+    if !pool::fits(pool::BUCKET_WORDS, MOST_BUCKETS, m) {
         return 3;
     }
     if !sound_records::within(1, 2, g.version) {
@@ -69,21 +50,10 @@ fn not_open(why: u32) -> Opened
 
 // ---- what an accepted opening writes
 
-fn zero(s: &mut [u32])
-    ensures { λ _. ⌜ now (s .exit) ≡ replicate (length (now (s .entry))) 0 ⌝ }
-{
-    let n = s.len();
-    let mut i = 0;
-    while i < n {
-        s[i] = 0;
-        i += 1;
-    }
-}
-
 fn put_first_node(ns: &mut [u32])
     ensures { λ _. ⌜ now (ns .exit) ≡ first-node (length (now (ns .entry))) ⌝ }
 {
-    zero(ns);
+    pool::zero(ns);
     pool::put(ns, 0, 1);
     pool::put(ns, 2, 1);
 }
@@ -91,7 +61,7 @@ fn put_first_node(ns: &mut [u32])
 fn put_first_bucket(bs: &mut [u32])
     ensures { λ _. ⌜ now (bs .exit) ≡ first-bucket (length (now (bs .entry))) ⌝ }
 {
-    zero(bs);
+    pool::zero(bs);
     pool::put(bs, 0, 1);
 }
 

@@ -12,7 +12,7 @@ use lib.Seq.{take-take, drop-drop, getD-take, getD-drop, getD-append-add, length
 use Rattle.laws.specs.Tests.{and-left, and-right}
 use Rattle.spec.specs.Lists.{member, ascending, add-tag, remove-tag}
 use Rattle.spec.specs.Words.{changeable, count, tags, overwrite, node-of, bucket-of}
-use Rattle.spec.specs.Sound.{sound-bucket, zeros}
+use Rattle.spec.specs.Sound.{count-in-bounds, tags-ascend, sound-bucket, zeros}
 use Rattle.bucket.specs.declared.Bucket.{Bucket}
 use Rattle.bucket.specs.declared.Response.{Response}
 use Rattle.bucket.specs.declared.Response.the-variants.{Yes, No, Frozen, Full}
@@ -140,8 +140,8 @@ module _ (w : List ℕ) (k : ℕ) (h : length w / 66 ≤ k) where
   unfolding removed
   remove-past x = rw bucket-past
 
--- a bucket that is sound, by its own words
-module _ (w : List ℕ) (k : ℕ) (s : sound-bucket (drop (66 * k) w) ≡ true) where
+-- the tags of a bucket that has at most 64, whatever its first word
+module _ (w : List ℕ) (k : ℕ) (f : count-in-bounds (drop (66 * k) w) ≡ true) where
   part : List ℕ
   part = drop (66 * k) w
 
@@ -149,17 +149,38 @@ module _ (w : List ℕ) (k : ℕ) (s : sound-bucket (drop (66 * k) w) ≡ true) 
   unfolding part count
   first = getD-drop (66 * k) w 1 0
 
-  pub few : count w k ≤ 64
+  pub few-tags : count w k ≤ 64
   unfolding part
-  few = rw (← first) (leb-true _ _ (fine part s .few))
+  few-tags = rw (← first) (leb-true _ _ f)
 
   tags-front : tags-in (take 66 (drop (66 * k) w)) ≡ tags w k
   unfolding tags part
   tags-front =
-      let f = few in
+      let f = few-tags in
       let e : getD (take 66 part) 1 0 ≡ count w k = getD-take 66 part 1 0 (omega arith) ∙ first in
       let d : drop 2 (take 66 part) ≡ take 64 (drop 2 part) = drop-take 2 66 part in
       rw (e, d, take-take (count w k) 64 (drop 2 part) f, drop-drop 2 (66 * k) w)
+
+  pub ascending-tags : tags-ascend (drop (66 * k) w) ≡ true → ascending (tags w k) ≡ true
+  unfolding part tags
+  ascending-tags u =
+      let e : take (getD part 1 0) (drop 2 part) ≡ tags w k = rw (first, drop-drop 2 (66 * k) w) in
+      rw (← e) u
+
+  module _ (h : 66 * k + 66 ≤ length w) where
+    pub tags-at : tags-in (bucket-at w k .words) ≡ tags w k
+    tags-at = ap (λ (b : Bucket). tags-in (b .words)) (bucket-here w k h) ∙ tags-front
+
+    pub found-at : (x : ℕ) → tags-ascend (drop (66 * k) w) ≡ true → found x (tags-in (bucket-at w k .words)) ≡ member x (tags w k)
+    found-at x u = ap (found x) tags-at ∙ found-member x (tags w k) (ascending-tags u)
+
+-- a bucket that is sound, by its own words
+module _ (w : List ℕ) (k : ℕ) (s : sound-bucket (drop (66 * k) w) ≡ true) where
+  words-fine : Fine (drop (66 * k) w)
+  words-fine = fine (drop (66 * k) w) s
+
+  pub few : count w k ≤ 64
+  few = few-tags w k (words-fine .few)
 
   flag-front : getD (take 66 (drop (66 * k) w)) 0 0 ≡ changeable w k
   unfolding changeable
@@ -168,14 +189,11 @@ module _ (w : List ℕ) (k : ℕ) (s : sound-bucket (drop (66 * k) w) ≡ true) 
       getD-take 66 (drop (66 * k) w) 0 0 (omega arith) ∙ getD-drop (66 * k) w 0 0 ∙ ap (λ (n : ℕ). getD w n 0) z
 
   pub ascends : ascending (tags w k) ≡ true
-  unfolding part tags
-  ascends =
-      let e : take (getD part 1 0) (drop 2 part) ≡ tags w k = rw (first, drop-drop 2 (66 * k) w) in
-      rw (← e) (fine part s .up)
+  ascends = ascending-tags w k (words-fine .few) (words-fine .up)
 
   module _ (h : 66 * k + 66 ≤ length w) where
     pub tags-here : tags-in (bucket-at w k .words) ≡ tags w k
-    tags-here = ap (λ (b : Bucket). tags-in (b .words)) (bucket-here w k h) ∙ tags-front
+    tags-here = tags-at w k (words-fine .few) h
 
     -- the number of its tags is its second word
     pub tags-count : length (tags w k) ≡ count w k
@@ -193,7 +211,7 @@ module _ (w : List ℕ) (k : ℕ) (s : sound-bucket (drop (66 * k) w) ≡ true) 
 
     module _ (x : ℕ) where
       pub found-here : found x (tags-in (bucket-at w k .words)) ≡ member x (tags w k)
-      found-here = ap (found x) tags-here ∙ found-member x (tags w k) ascends
+      found-here = found-at w k (words-fine .few) h x (words-fine .up)
 
       same : store-bucket w k (bucket-at w k) ≡ w
       same = store-here w k h (bucket-at w k) ∙ ap (λ (b : Bucket). overwrite w (66 * k) (b .words)) (bucket-here w k h) ∙ over-same w (66 * k) 66 h

@@ -1,10 +1,13 @@
-// The words of both pools. Here: a node's words read, one word written, a record's words written over. `buckets` has a bucket by its
-// number. Every function takes any words and numbers: a read past the end gives 0, and a write past the end changes nothing.
+// The words of both pools. Here: a node's words read, one word written, a record's words written over, a whole pool's length and zeros.
+// `buckets` has a bucket by its number. Every function takes any words and numbers: a read past the end gives 0, and a write past the
+// end changes nothing.
 pub mod buckets;
 
 use spec::Config;
 ghost use mathlib.Core.Path.{_≡_};
-ghost use lib.ListN.{getD, set};
+ghost use Prim.Native.Nat.{_<_};
+ghost use lib.ListN.{length, getD, set, replicate};
+ghost use Rattle.spec.specs.Entries.{pool-fits};
 ghost use Rattle.spec.specs.Words.{number, size, pred, place};
 ghost use Rattle.spec.specs.Listed.{slot};
 ghost use Rattle.pool.specs.Pool.{write-front, store-node};
@@ -91,6 +94,38 @@ pub fn place_for(ns: &[u32], l: u32, g: Config, tag: u32) -> u32
 {
     let k = number_of(l);
     place_for_at(ns, k, g, tag)
+}
+
+// ---- a whole pool
+
+// So many words are records of this width, 1 up to most.
+pub fn fits(width: usize, most: usize, words: usize) -> bool
+    requires { ⌜ 0 < width ⌝ }
+    ensures { λ r. ⌜ r ≡ pool-fits width most words ⌝ }
+{
+    if words % width != 0 {
+        return false;
+    }
+    let n = words / width;
+    if n < 1 {
+        return false;
+    }
+    if most < n {
+        return false;
+    }
+    true
+}
+
+// Every word becomes 0.
+pub fn zero(s: &mut [u32])
+    ensures { λ _. ⌜ now (s .exit) ≡ replicate (length (now (s .entry))) 0 ⌝ }
+{
+    let n = s.len();
+    let mut i = 0;
+    while i < n {
+        s[i] = 0;
+        i += 1;
+    }
 }
 
 // ---- writes

@@ -2,13 +2,13 @@
 -- Assumes nothing.
 use Prim.Native.Nat.{ℕ, zero, suc, _+_, _*_, _-_, _≤_, _<_}
 use mathlib.Core.Path.{_≡_, refl, sym, ap, _∙_, subst}
-use mathlib.Core.List.{List, [], _∷_, _++_, append-nil, append-assoc}
+use mathlib.Core.List.{List, [], _∷_}
 use mathlib.Core.Bool.{not, _||_}
 use native.Mathlib.Omega.{arith}
 use borrow.Author.Tests.{eq-eqb, ne-eqb, ltb-false}
 use lib.Dec.{eqb, leb, ltb}
-use lib.ListN.{length, getD, take, drop, length-append, take-append-drop}
-use lib.Seq.{length-take-le, take-at, drop-append-add, getD-drop, drop-drop}
+use lib.ListN.{length, getD, drop}
+use lib.Seq.{getD-drop, drop-drop}
 use Rattle.spec.specs.declared.Config.{Config}
 use Rattle.spec.specs.declared.Listing.{Listing}
 use Rattle.spec.specs.declared.Listing.the-variants.{Refused}
@@ -22,26 +22,9 @@ use Rattle.spec.specs.Entries.{opening, Reply, Written, list}
 use Rattle.laws.specs.Tests.{choose, or-none}
 use Rattle.spec.specs.Schedule.{Event, event, run, run-opened, schedule}
 use Rattle.schedule_words.specs.Events.{event-of, events-of, listing-number}
-use Rattle.schedule_words.proofs.Laws.{output-length}
+use Rattle.schedule_words.proofs.Laws.{output-length, over-none, over-then}
 use Rattle.opening.proofs.Laws.{refusal-small}
 use Rattle.schedule.specs.Encoding.{room-for, decoded, list-opened, run-words}
-
--- ---- words written one after the other
-
-pub over-none : (w : List ℕ) (i : ℕ) → overwrite w i [] ≡ w
-unfolding overwrite
-over-none w i = let z : i + 0 ≡ i = omega arith in rw (z, append-nil) (take-append-drop i w)
-
-pub over-then : (w : List ℕ) (i : ℕ) (v u : List ℕ) → i + length v ≤ length w → overwrite w i (v ++ u) ≡ overwrite (overwrite w i v) (i + length v) u
-unfolding overwrite
-over-then w i v u h =
-    let j : ℕ = i + length v in
-    let p : List ℕ = take i w ++ v in
-    let e : length p ≡ j = length-append (take i w) v ∙ ap (λ (n : ℕ). n + length v) (length-take-le i w (omega arith)) in
-    let q : i + (length v + length u) ≡ j + length u = omega arith in
-    let d : drop (j + length u) (p ++ drop j w) ≡ drop (j + length u) w =
-    ap (λ (n : ℕ). drop (n + length u) (p ++ drop j w)) (sym e) ∙ drop-append-add p (drop j w) (length u) ∙ drop-drop (length u) j w in
-    rw (take-at p (drop j w) j e, d, length-append v u, q) (ap (λ (l : List ℕ). l ++ drop (j + length u) w) (sym (append-assoc (take i w) v u)))
 
 -- ---- what is left: the machine and the outputs of a run are those of the events es from the machine y on, whose words go to
 -- word i and after

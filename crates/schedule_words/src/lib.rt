@@ -63,14 +63,21 @@ fn output_words(out: Output) -> [u32; 4]
     }
 }
 
-// Writes the four words of output number i.
+// Writes the four words of any output, the output number i.
+pub fn write_words(outs: &mut [u32], i: usize, w: [u32; 4])
+    requires { ⌜ 4 * i + 4 ≤ length (now outs) ⌝ }
+    ensures { λ _. ⌜ now (outs .exit) ≡ overwrite (now (outs .entry)) (4 * i) w ⌝ }
+{
+    let at = 4 * i;
+    pool::write_over(&mut outs[at..], &w)
+}
+
 pub fn write_output(outs: &mut [u32], i: usize, out: Output)
     requires { ⌜ 4 * i + 4 ≤ length (now outs) ⌝ }
     ensures { λ _. ⌜ now (outs .exit) ≡ overwrite (now (outs .entry)) (4 * i) (output-words out) ⌝ }
 {
     let w = output_words(out);
-    let at = 4 * i;
-    pool::write_over(&mut outs[at..], &w)
+    write_words(outs, i, w)
 }
 
 // The number of events that are run: so many words of events, so many for outputs.

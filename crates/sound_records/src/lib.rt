@@ -1,13 +1,14 @@
 // The records of both pools, tested for soundness: a node, a bucket, and a scan of each pool, which ends with the first record that
 // is not sound.
 ghost use mathlib.Core.Path.{_≡_};
-ghost use mathlib.Core.Bool.{_||_};
+ghost use mathlib.Core.Bool.{_&&_, _||_};
 ghost use Prim.Native.Nat.{_+_, _*_, _≤_};
 ghost use lib.ListN.{length, drop};
 ghost use lib.Dec.{leb, eqb};
 ghost use Rattle.spec.specs.Lists.{member, all-true, every, ascending};
 ghost use Rattle.spec.specs.Machine.{Machine};
-ghost use Rattle.spec.specs.Sound.{within, zeros, listed-size, node-link, sound-node, sound-nodes, sound-bucket, sound-buckets};
+ghost use Rattle.spec.specs.Sound.{within, zeros, listed-size, node-link, count-in-bounds, tags-ascend, zeros-after-tags};
+ghost use Rattle.spec.specs.Sound.{sound-node, sound-nodes, sound-bucket, sound-buckets};
 
 const NODE_WORDS: usize = pool::NODE_WORDS;
 
@@ -173,15 +174,11 @@ pub fn nodes_ok(ns: &[u32], h: u32, b: u32) -> bool
     true
 }
 
-// The bucket whose first word is the part's.
-fn bucket_ok(w: &[u32]) -> bool
+// The count, the tags and the words after them, of the bucket whose first word is the part's.
+pub fn tags_ok(w: &[u32]) -> bool
     requires { ⌜ 66 ≤ length (now w) ⌝ }
-    ensures { λ r. ⌜ r ≡ sound-bucket (now (w .entry)) ⌝ }
+    ensures { λ r. ⌜ r ≡ (count-in-bounds (now (w .entry)) && tags-ascend (now (w .entry)) && zeros-after-tags (now (w .entry))) ⌝ }
 {
-    let f = w[0];
-    if 1 < f {
-        return false;
-    }
     let c = w[1];
     if MOST_COUNT < c {
         return false;
@@ -192,6 +189,18 @@ fn bucket_ok(w: &[u32]) -> bool
         return false;
     }
     zero_words(w, e, MOST_TAGS - n)
+}
+
+// The bucket whose first word is the part's.
+fn bucket_ok(w: &[u32]) -> bool
+    requires { ⌜ 66 ≤ length (now w) ⌝ }
+    ensures { λ r. ⌜ r ≡ sound-bucket (now (w .entry)) ⌝ }
+{
+    let f = w[0];
+    if 1 < f {
+        return false;
+    }
+    tags_ok(w)
 }
 
 pub fn buckets_ok(bs: &[u32], n: usize) -> bool

@@ -1,17 +1,9 @@
--- `write_output` writes them from word 4 i on: what is written over the part that begins there, put back into the whole.
--- Assumes nothing.
-use mathlib.Core.Path.{_≡_, ap, _∙_}
+-- `write_output` writes the words of `output-words`. Assumes nothing.
+use mathlib.Core.Path.{ap, _∙_}
 use mathlib.Core.List.{List}
-use Prim.Native.Nat.{ℕ, _*_, _≤_}
-use native.Mathlib.Omega.{arith}
-use borrow.Author.Tests.{le-leb}
+use Prim.Native.Nat.{ℕ, _*_}
 use denote.Ref.{now}
-use lib.ListN.{length, drop, length-drop}
-use Rattle.spec.specs.Numbers.{output-words}
 use Rattle.spec.specs.Words.{overwrite}
-use Rattle.pool.specs.Pool.{write-front}
-use Rattle.schedule_words.proofs.Laws.{output-length}
-use Rattle.pool.proofs.Part.{rest, back}
 use borrow.Author.Needs.{needs}
 use Rattle.schedule_words.proofs.write_output.Statement.{statement}
 use Rattle.schedule_words.proofs.write_output.Tie as tie
@@ -19,59 +11,18 @@ use Rattle.schedule_words.proofs.write_output.Tie as tie
 output-words-requires : tie.Need-output-words-requires
 output-words-requires c κs = search needs
 
-mul-at : tie.Need-mul-at
-mul-at c = search needs
-
-mul-write-over : tie.Need-mul-write-over
-mul-write-over c = search needs
-
-sub-write-over : tie.Need-sub-write-over
-sub-write-over c = search needs
-
-part-write-over-start : tie.Need-part-write-over-start
-part-write-over-start c = search needs
-
-part-write-over-end : tie.Need-part-write-over-end
-part-write-over-end c = search needs
-
-slice-aggregate-write-over : tie.Need-slice-aggregate-write-over
-slice-aggregate-write-over c = search needs
-
-write-over-requires : tie.Need-write-over-requires
-write-over-requires c κs = search needs
+write-words-requires : tie.Need-write-words-requires
+write-words-requires c κs = search needs
 
 same-length : tie.Need-same-length
 same-length c = search needs
 
 returns : tie.Need-returns
-unfolding write-front
 returns c =
     let at-write = c .before .before in
-    let at-words = at-write .before .before .before in
-    let entry = at-words .before .before in
-    let a = entry .args in
-    let p = now (a .outs) in
-    let i = 4 * a .i in
-    let v = output-words (a .out) in
-    let w = at-words .output-words in
-    let n = output-length (a .out) in
-    let l : length v ≤ length (drop i p) = rw (length-drop i p) (omega (arith, entry .pre)) in
-    let f : write-front (drop i p) v ≡ overwrite (drop i p) 0 v = rw (le-leb (length v) (length (drop i p)) l) in
-    let e = at-write .write-over .ensures ∙ ap (λ (u : List ℕ). write-front u (w .result)) (rest p i)
-    ∙ ap (λ (u : List ℕ). write-front (drop i p) u) (w .ensures) ∙ f in
-    back p i v (at-write .write-over .last .0) e
+    let at-words = at-write .before .before in
+    let a = at-words .before .before .args in
+    at-write .write-words .ensures ∙ ap (λ (w : List ℕ). overwrite (now (a .outs)) (4 * a .i) w) (at-words .output-words .ensures)
 
 pub write-output-spec : {M : Type 1} → statement M
-write-output-spec =
-    tie.close
-    (tie.spec
-    output-words-requires
-    mul-at
-    mul-write-over
-    sub-write-over
-    part-write-over-start
-    part-write-over-end
-    slice-aggregate-write-over
-    write-over-requires
-    same-length
-    returns)
+write-output-spec = tie.close (tie.spec output-words-requires write-words-requires same-length returns)

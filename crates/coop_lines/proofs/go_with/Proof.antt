@@ -1,0 +1,15 @@
+-- `coop_lines::go_with` meets its contract: the record is that of `to-line-with`. Assumes nothing.
+use Rattle.coop_spec.specs.Machine.{to-line-with}
+use borrow.Author.Needs.{needs}
+use Rattle.coop_lines.proofs.go_with.Statement.{statement}
+use Rattle.coop_lines.proofs.go_with.Tie as tie
+
+go-requires : tie.Need-go-requires
+go-requires c κs = search needs
+
+returns : tie.Need-returns
+unfolding to-line-with
+returns c = λ vs. c .go .ensures vs
+
+pub go-with-spec : {M : Type 1} → statement M
+go-with-spec = tie.close (tie.spec go-requires returns)

@@ -1,0 +1,17 @@
+pub mod Numbers
+pub mod Machine
+pub mod Words
+pub mod Sound
+pub mod Held
+pub mod Lines
+pub mod StepRefusals
+pub mod Entries
+pub mod Schedule
+pub mod Atomic
+pub mod History
+pub mod Linearizable
+pub mod Everything
+pub mod Cases
+pub mod Told
+pub mod LineRows
+pub mod SpoiltRows

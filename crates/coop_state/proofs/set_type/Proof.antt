@@ -1,0 +1,24 @@
+-- `coop_state::set_type` meets its contract: the type and the tag are changed of the operation read. Assumes nothing.
+use mathlib.Core.Path.{ap, _∙_}
+use Rattle.coop_spec.specs.declared.Operation.{Operation}
+use Rattle.coop_spec.specs.Machine.{machine-of, with-type, set-operation}
+use borrow.Author.Needs.{needs}
+use Rattle.coop_state.proofs.set_type.Statement.{statement}
+use Rattle.coop_state.proofs.set_type.Tie as tie
+
+operation-requires : tie.Need-operation-requires
+operation-requires c κs = search needs
+
+with-operation-requires : tie.Need-with-operation-requires
+with-operation-requires c κs = search needs
+
+returns : tie.Need-returns
+unfolding with-type
+returns c =
+    let at-operation = c .before in
+    let a = at-operation .before .args in
+    λ vs. c .with-operation .ensures vs
+    ∙ ap (λ (o : Operation). set-operation (a .n) (with-type (a .kind) (a .tag) o) (machine-of (a .s) vs)) (at-operation .operation .ensures vs)
+
+pub set-type-spec : {M : Type 1} → statement M
+set-type-spec = tie.close (tie.spec operation-requires with-operation-requires returns)
