@@ -3,6 +3,7 @@
 
 use crate::machine::MAX_TAGS;
 use crate::model::{self, Coverage};
+use crate::plan;
 use crate::random::{self, Random, Shape};
 use crate::schedule::{self, Opening, Run, EVENT_WORDS, OUTPUT_WORDS, REFUSED};
 use std::fmt::Display;
@@ -249,7 +250,10 @@ fn check_calls(_: u64) -> Result<(), String> {
     Ok(())
 }
 
-/// Checks random schedules with at least `events` events in total, of each kind by turns.
+/// How many lists of calls are planned.
+const PLANS: u64 = 400;
+
+/// Checks random schedules with at least `events` events in total, of each kind by turns, and plans.
 pub fn check(events: u64) -> Result<(), String> {
     check_openings()?;
     check_short_list()?;
@@ -271,5 +275,5 @@ pub fn check(events: u64) -> Result<(), String> {
         ""
     };
     println!("plain implementation agrees with the plain set{compared}");
-    Ok(())
+    plan::check(PLANS)
 }

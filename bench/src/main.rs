@@ -1,7 +1,8 @@
 //! Compares and times implementations of a resizable hash set moved one line at a time.
 //!
-//! `bench check [events]` runs random schedules and then single calls, `bench time` measures, `bench example` prints what
-//! examples/c prints. With the feature `proved` all run the proved implementation from `libyard_c.a`.
+//! `bench check [events]` runs random schedules, plans and single calls, `bench time` measures, `bench example` prints what
+//! examples/c prints. With the feature `proved` all run the proved implementation from `libyard_c.a`; where the variable YARDPLAN names the
+//! proved program, the plans are compared with what it prints.
 
 mod calls;
 mod check;
@@ -12,6 +13,7 @@ mod model;
 mod one_by_one;
 mod owned;
 mod plain;
+mod plan;
 #[cfg(feature = "proved")]
 mod proved;
 mod random;

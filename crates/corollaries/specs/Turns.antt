@@ -24,13 +24,13 @@ use Rattle.turns.specs.Turn.{Turned, turn, refusal-of}
 use Rattle.laws.specs.Tests.{tf}
 use Rattle.laws.specs.SoundFacts.{SoundFacts}
 use Rattle.laws.specs.Soundness.{sound-facts, facts-sound}
-use Rattle.laws.specs.LastChosen.{event-same}
+use Rattle.laws.specs.LastChosen.{Fixed, event-same}
 use Rattle.corollaries.specs.Unchanged.{refused-step-changes-nothing}
 use Rattle.corollaries.specs.TurnOutcome.{Next, TurnOutcome, spoilt, nothing-runs, goes, step-spoilt, turn-outcome}
 
 -- "Only the dispatcher moves it": no start and no step does
 pub only-the-dispatcher : (y : Machine) (e : Event) → event y e .machine .state .chosen ≡ y .state .chosen
-only-the-dispatcher y e = event-same y e .1
+only-the-dispatcher y e = ap (λ (p : Fixed). p .chosen) (event-same y e)
 
 -- "a 7 from a step called directly still changes nothing", as every refusal of an entry
 pub direct-seven-changes-nothing : (y : Machine) (k : ℕ) → step y k .out ≡ Refuse 7 → step y k .machine ≡ y

@@ -15,7 +15,7 @@ use Rattle.turns.specs.Turn.{Turned, turn}
 use Rattle.turns.specs.Moves.{Move, enters, turns, Said, turned, move, moves}
 use Rattle.turns.specs.Promises.{To, Waits, turns-given, NoEightRun}
 use Rattle.laws.specs.Tests.{tf}
-use Rattle.laws.specs.LastChosen.{event-same}
+use Rattle.laws.specs.LastChosen.{Fixed, event-same}
 use Rattle.corollaries.specs.TurnOutcome.{Next, TurnOutcome, spoilt, nothing-runs, goes, step-spoilt, turn-outcome}
 use Rattle.dispatcher.specs.InOrder.{event-tasks, step-tasks}
 
@@ -61,7 +61,7 @@ module _ (t k : ℕ) where
   unfolding moves move turns-given with-chosen with-state state-chosen
   waits [] y d a u w = a .low
   waits (enters e ∷ ms) y d a u w =
-      let at : (event y e .machine .state .chosen + d) % t ≡ k = rw (event-same y e .1) (a .place) in
+      let at : (event y e .machine .state .chosen + d) % t ≡ k = rw (ap (λ (p : Fixed). p .chosen) (event-same y e)) (a .place) in
       waits ms (event y e .machine) d (record { tasks = event-tasks y e ∙ a .tasks; low = a .low; high = a .high; place = at }) (u .1) w
   waits (turns ∷ ms) y d a u w = go (turn-outcome y) u (w .1) (w .2) (waits ms)
     where

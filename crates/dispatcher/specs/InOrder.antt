@@ -3,7 +3,6 @@ use Prim.Native.Nat.{ℕ, _<_}
 use native.Mathlib.Omega.{arith}
 use mathlib.Core.Path.{_≡_, refl, sym, ap, _∙_}
 use mathlib.Core.Bool.{true}
-use Rattle.spec.specs.declared.Config.{Config}
 use Rattle.spec.specs.Machine.{Machine, with-chosen, with-state, state-chosen}
 use Rattle.spec.specs.Sound.{task-count, sound}
 use Rattle.spec.specs.Entries.{step}
@@ -12,13 +11,13 @@ use Rattle.turns.specs.Turn.{Turned}
 use Rattle.turns.specs.Moves.{Move, enters, turns, move}
 use Rattle.laws.specs.Soundness.{sound-facts}
 use Rattle.laws.specs.EntriesKeep.{event-keeps}
-use Rattle.laws.specs.LastChosen.{event-same, sound-apart}
+use Rattle.laws.specs.LastChosen.{Fixed, event-same, sound-apart}
 use Rattle.corollaries.specs.TurnOutcome.{Next, TurnOutcome, spoilt, nothing-runs, goes, step-spoilt, turn-outcome}
 
 -- ---- T stays
 
 pub event-tasks : (y : Machine) (e : Event) → task-count (event y e .machine) ≡ task-count y
-event-tasks y e = ap (λ (g : Config). g .tasks) (event-same y e .0)
+event-tasks y e = ap (λ (p : Fixed). p .config .tasks) (event-same y e)
 
 -- z is what the step of task k leaves
 pub step-tasks : (y : Machine) (k : ℕ) (z : Machine) → step y k .machine ≡ z → task-count z ≡ task-count y

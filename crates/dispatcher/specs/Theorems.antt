@@ -45,7 +45,7 @@ unfolding moves
 in-two-parts [] ns y = refl
 in-two-parts (m ∷ ms) ns y = rw (in-two-parts ms ns (move y m .machine))
 
-moves-tasks : (ms : List Move) (y : Machine) → task-count (moves y ms .machine) ≡ task-count y
+pub moves-tasks : (ms : List Move) (y : Machine) → task-count (moves y ms .machine) ≡ task-count y
 unfolding moves
 moves-tasks [] y = refl
 moves-tasks (m ∷ ms) y = moves-tasks ms (move y m .machine) ∙ move-tasks y m
@@ -79,7 +79,7 @@ module _ (g : Config) (ns bs : List ℕ) (ok : opening g ns bs .refusal ≡ 0) w
   abbrev y₀ : Machine
   y₀ = opening g ns bs .machine
 
-  opened-tasks : task-count y₀ ≡ g .tasks
+  pub opened-tasks : task-count y₀ ≡ g .tasks
   unfolding fresh-machine state-of
   opened-tasks = ap task-count (opened-machine g ns bs ok)
 

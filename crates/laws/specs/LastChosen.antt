@@ -7,6 +7,7 @@ use mathlib.Core.Bool.{Bool, true, false, not, _&&_}
 use borrow.Author.Tests.{lt-ltb}
 use lib.Dec.{ltb}
 use Rattle.spec.specs.declared.Call.{Call}
+use Rattle.spec.specs.declared.Config.{Config}
 use Rattle.spec.specs.declared.Task.{Task}
 use Rattle.spec.specs.Lists.{if_then_else_}
 use Rattle.spec.specs.declared.Answer.{Answer}
@@ -23,45 +24,52 @@ use Rattle.spec.specs.Everything.{everything}
 use Rattle.laws.specs.Tests.{choose}
 use Rattle.laws.specs.AfterWrites.{Kept, apply-kept}
 
--- ---- no start and no step changes what the state keeps of its opening, or the last one chosen
+-- ---- no start and no step changes what the state keeps of its opening, H, B, or the last one chosen
 
-abbrev pub SameYard : Machine → Machine → Type 0
-SameYard y z = (z .state .config ≡ y .state .config) × (z .state .chosen ≡ y .state .chosen)
+pub record Fixed : Type 0 where
+  pub config : Config
+  pub nodes : ℕ
+  pub buckets : ℕ
+  pub chosen : ℕ
 
-finish-same : (y : Machine) (k own : ℕ) (n : Next) → SameYard y (finish y k own n .machine)
+abbrev pub fixed : Machine → Fixed
+fixed y = record { config = y .state .config; nodes = y .state .nodes; buckets = y .state .buckets; chosen = y .state .chosen }
+
+finish-same : (y : Machine) (k own : ℕ) (n : Next) → fixed (finish y k own n .machine) ≡ fixed y
 unfolding finish set-task with-task with-state state-task
-finish-same y k own (on c) = (refl, refl)
-finish-same y k own (ends a l) = (refl, refl)
+finish-same y k own (on c) = refl
+finish-same y k own (ends a l) = refl
 
-accept-same : (y : Machine) (k own : ℕ) (e : Effect) → SameYard y (accept y k own e .machine)
+-- the part that no write changes has it
+abbrev fixed-part : Kept → Fixed
+fixed-part p = record { config = p .config; nodes = p .nodes; buckets = p .buckets; chosen = p .chosen }
+
+accept-same : (y : Machine) (k own : ℕ) (e : Effect) → fixed (accept y k own e .machine) ≡ fixed y
 unfolding accept
-accept-same y k own e =
-    let f = finish-same (apply (e .write) y) k (min (own + 1) 65535) (e .next) in
-    let w = apply-kept (e .write) y in
-    (f .0 ∙ ap (λ (p : Kept). p .config) w, f .1 ∙ ap (λ (p : Kept). p .chosen) w)
+accept-same y k own e = finish-same (apply (e .write) y) k (min (own + 1) 65535) (e .next) ∙ ap fixed-part (apply-kept (e .write) y)
 
 module _ (y : Machine) (k : ℕ) where
   abbrev Same : Reply → Type 0
-  Same r = SameYard y (r .machine)
+  Same r = fixed (r .machine) ≡ fixed y
 
   start-same : (call : Call) (tag : ℕ) → Same (start y k call tag)
   unfolding start refuse set-task with-task with-state state-task
   start-same call tag =
-      choose Same (not (sound y)) _ _ (λ p. (refl, refl)) (λ p.
-      choose Same (not (ltb k (task-count y))) _ _ (λ q. (refl, refl)) (λ q.
-      choose Same (task-of y k .running) _ _ (λ s. (refl, refl)) (λ s.
-      choose Same (withdrawn (y .state .config) call tag) _ _ (λ w. (refl, refl)) (λ w. (refl, refl)))))
+      choose Same (not (sound y)) _ _ (λ p. refl) (λ p.
+      choose Same (not (ltb k (task-count y))) _ _ (λ q. refl) (λ q.
+      choose Same (task-of y k .running) _ _ (λ s. refl) (λ s.
+      choose Same (withdrawn (y .state .config) call tag) _ _ (λ w. refl) (λ w. refl))))
 
   step-same : Same (step y k)
   unfolding step step-running refuse
   step-same =
-      choose Same (not (sound y)) _ _ (λ p. (refl, refl)) (λ p.
-      choose Same (not (ltb k (task-count y))) _ _ (λ q. (refl, refl)) (λ q.
-      choose Same (not (task-of y k .running)) _ _ (λ s. (refl, refl)) (λ s.
-      choose Same (unsound-step y (task-of y k)) _ _ (λ u. (refl, refl)) (λ u.
-      choose Same (all-held y (task-of y k)) _ _ (λ v. (refl, refl)) (λ v. accept-same y k _ (effect y (task-of y k)))))))
+      choose Same (not (sound y)) _ _ (λ p. refl) (λ p.
+      choose Same (not (ltb k (task-count y))) _ _ (λ q. refl) (λ q.
+      choose Same (not (task-of y k .running)) _ _ (λ s. refl) (λ s.
+      choose Same (unsound-step y (task-of y k)) _ _ (λ u. refl) (λ u.
+      choose Same (all-held y (task-of y k)) _ _ (λ v. refl) (λ v. accept-same y k _ (effect y (task-of y k)))))))
 
-pub event-same : (y : Machine) (e : Event) → SameYard y (event y e .machine)
+pub event-same : (y : Machine) (e : Event) → fixed (event y e .machine) ≡ fixed y
 unfolding event
 event-same y (starts k call tag) = start-same y k call tag
 event-same y (steps k) = step-same y k

@@ -22,6 +22,7 @@ pub mod StartedAs
 pub mod FirstPositions
 pub mod Accepted
 pub mod LookupPace
+pub mod EventOutcomes
 pub mod Events
 pub mod Opening
 pub mod Schedules

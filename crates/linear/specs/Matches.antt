@@ -39,6 +39,38 @@ abbrev pub MayResize : Bool → ℕ → Type 0
 MayResize true n = ¬ (n ≡ 32)
 MayResize false n = ¬ (n ≡ 1)
 
+-- the line at which a position stands; 0 where no call runs
+abbrev pub fill-line : Fill → ℕ
+fill-line at-39 = 39
+fill-line (at-40 b) = 40
+fill-line (at-43 s) = 43
+fill-line (at-44 s) = 44
+fill-line (at-46 s) = 46
+fill-line (at-47 s) = 47
+fill-line (at-48 s) = 48
+fill-line (at-52 s) = 52
+fill-line (at-49 s) = 49
+fill-line (at-50 s) = 50
+fill-line at-51 = 51
+
+abbrev pub line-at : Position → ℕ
+line-at no-call = 0
+line-at (lookup k at-12) = 12
+line-at (lookup k (at-13 t)) = 13
+line-at (lookup k (at-15 t)) = 15
+line-at (lookup k (at-16 s)) = 16
+line-at (lookup k (at-17 t)) = 17
+line-at (lookup k (at-18 x)) = 18
+line-at (update b k at-32) = 32
+line-at (update b k (at-33 t)) = 33
+line-at (update b k (at-36 x)) = 36
+line-at (update b k (Update.filling t i l)) = fill-line l
+line-at (resize b at-20) = 20
+line-at (resize b (at-24 t)) = 24
+line-at (resize b (at-27 t)) = 27
+line-at (resize b (at-28 t n)) = 28
+line-at (resize b (Resize.filling t i l)) = fill-line l
+
 module _ (h : Heap) (R : Records) where
   -- m and n of a task that fills place i of t from s: on a grow one bucket of s, on a shrink two
   abbrev pub FromOne : ℕ → ℕ → ℕ → Task → Type 0
@@ -46,19 +78,6 @@ module _ (h : Heap) (R : Records) where
 
   abbrev pub FromTwo : ℕ → ℕ → ℕ → Task → Type 0
   FromTwo s t i c = (h .size s ≡ 2 * h .size t) × (c .m ≡ link (R .bucket s i)) × (c .n ≡ link (R .bucket s (i + h .size t)))
-
-  abbrev pub line-of : Fill → ℕ
-  line-of at-39 = 39
-  line-of (at-40 b) = 40
-  line-of (at-43 s) = 43
-  line-of (at-44 s) = 44
-  line-of (at-46 s) = 46
-  line-of (at-47 s) = 47
-  line-of (at-48 s) = 48
-  line-of (at-52 s) = 52
-  line-of (at-49 s) = 49
-  line-of (at-50 s) = 50
-  line-of at-51 = 51
 
   -- what the lines that fill place i of t have put into b, s, m and n
   abbrev pub FillFields : ℕ → ℕ → Fill → Task → Type 0
@@ -75,7 +94,7 @@ module _ (h : Heap) (R : Records) where
   FillFields t i at-51 c = Unit {0}
 
   pub record FillMatches (call tag t i : ℕ) (l : Fill) (c : Task) : Type 0 where
-    pub call-fields : CallFields c call tag (line-of l)
+    pub call-fields : CallFields c call tag (fill-line l)
     pub t≡ : c .t ≡ link (R .node t)
     pub i≡ : c .i ≡ i
     pub fields : FillFields t i l c
@@ -167,3 +186,26 @@ module _ (h : Heap) (R : Records) (c : Task) (e : c .running ≡ false) where
   idle-no-call (resize u (at-27 t)) m = absurd (tf (m .0 .runs) e)
   idle-no-call (resize u (at-28 t n)) m = absurd (tf (m .0 .runs) e)
   idle-no-call (resize u (Resize.filling t i l)) m = absurd (tf (m .0 .call-fields .runs) e)
+
+-- a task that runs stands at its position's line
+module _ (h : Heap) (R : Records) (c : Task) (e : c .running ≡ true) where
+  pub running-call : (l : Position) → Matches h R l c → ¬ (l ≡ no-call)
+  running-call l m q = tf e (rw q at m)
+
+  pub matches-line : (l : Position) → Matches h R l c → c .line ≡ line-at l
+  matches-line no-call m = absurd (tf e m)
+  matches-line (lookup k at-12) m = m .line≡
+  matches-line (lookup k (at-13 t)) m = m .0 .line≡
+  matches-line (lookup k (at-15 t)) m = m .0 .line≡
+  matches-line (lookup k (at-16 t)) m = m .0 .line≡
+  matches-line (lookup k (at-17 t)) m = m .0 .line≡
+  matches-line (lookup k (at-18 t)) m = m .0 .line≡
+  matches-line (update u k at-32) m = m .0 .line≡
+  matches-line (update u k (at-33 t)) m = m .0 .line≡
+  matches-line (update u k (at-36 t)) m = m .0 .line≡
+  matches-line (update u k (Update.filling t i l)) m = m .call-fields .line≡
+  matches-line (resize u at-20) m = m .0 .line≡
+  matches-line (resize u (at-24 t)) m = m .0 .line≡
+  matches-line (resize u (at-27 t)) m = m .0 .line≡
+  matches-line (resize u (at-28 t n)) m = m .0 .line≡
+  matches-line (resize u (Resize.filling t i l)) m = m .0 .call-fields .line≡

@@ -24,7 +24,7 @@ use Rattle.linear.specs.Events.{Before}
 use Rattle.spec.specs.History.{none-started}
 use Rattle.laws.specs.OpeningSound.{opened-machine, opening-sound}
 
-same-default : {A : Type 0} (n i : ℕ) (a : A) → getD (replicate n a) i a ≡ a
+pub same-default : {A : Type 0} (n i : ℕ) (a : A) → getD (replicate n a) i a ≡ a
 same-default zero i a = refl
 same-default (suc n) zero a = refl
 same-default (suc n) (suc i) a = same-default n i a
@@ -40,7 +40,7 @@ module _ (g : Config) (h b : ℕ) (so : sound (fresh-machine g h b) ≡ true) wh
   unfolding fresh-machine tags count
   no-tags = rw (same-default {A = ℕ} (66 * b - 1) 0 0)
 
-  pub fresh-simulates : Simulates (fresh-machine g h b) (opened (key g)) (λ p. no-call)
+  fresh-simulates : Simulates (fresh-machine g h b) (opened (key g)) (λ p. no-call)
   unfolding fresh-machine state-of size pred place Words.changeable task-of member idle slot
   fresh-simulates = record {
     records = record { node = λ x. 0; bucket = λ x i. 0 };
@@ -68,16 +68,19 @@ module _ (g : Config) (h b : ℕ) (so : sound (fresh-machine g h b) ≡ true) wh
     nodes-apart = λ p q n a. absurd a;
   }
 
-pub opening-before : (g : Config) (ns bs : List ℕ) → opening g ns bs .refusal ≡ 0 → Before 0 none-started [] (opening g ns bs .machine)
-opening-before g ns bs ok =
-    let e = opened-machine g ns bs ok in
-    let so : sound (fresh-machine g (length ns / 34) (length bs / 66)) ≡ true = rw e at (opening-sound g ns bs ok) in
-    rw e
-    (record {
-      configuration = initial (key g);
-      reach = Reachable.initially (key g);
-      clock = refl;
-      sim = fresh-simulates g (length ns / 34) (length bs / 66) so;
-      started-as = λ q. tt;
-      ended = refl;
-    })
+module _ (g : Config) (ns bs : List ℕ) (ok : opening g ns bs .refusal ≡ 0) where
+  pub opening-simulates : Simulates (opening g ns bs .machine) (opened (key g)) (λ p. no-call)
+  opening-simulates =
+      let e = opened-machine g ns bs ok in
+      let so : sound (fresh-machine g (length ns / 34) (length bs / 66)) ≡ true = rw e at (opening-sound g ns bs ok) in
+      rw e (fresh-simulates g (length ns / 34) (length bs / 66) so)
+
+  pub opening-before : Before 0 none-started [] (opening g ns bs .machine)
+  opening-before = record {
+    configuration = initial (key g);
+    reach = Reachable.initially (key g);
+    clock = refl;
+    sim = opening-simulates;
+    started-as = λ q. tt;
+    ended = refl;
+  }

@@ -76,7 +76,7 @@ module _ (y : Machine) (H : List Ended) (z : AtEnd y H) where
 
 -- ---- a schedule, from its opening on
 module _ (g : Config) (ns bs : List ℕ) (ok : opening g ns bs .refusal ≡ 0) (es : List Event) where
-  schedule-runs : schedule g ns bs es ≡ run (opening g ns bs .machine) es
+  pub schedule-runs : schedule g ns bs es ≡ run (opening g ns bs .machine) es
   unfolding schedule run-opened
   schedule-runs = rw (eq-eqb (opening g ns bs .refusal) 0 ok)
 

@@ -53,7 +53,8 @@ pub data Outcome (w : Configuration) (p own : ℕ) : Output → Configuration �
   went-on : {n : ℕ} (g : Heap) (l : Position) → Step (w .heap) (w .position p) g l → Outcome w p own (Outs.At n) (after-step w p g l)
   call-ended : {c : Call} {k : ℕ} {a : Answer} (g : Heap) → EndStep (w .heap) (w .position p) c k g a → {full : Occupancy}
       → Outcome w p own (Outs.End a (min (own + 1) 65535) full) (after-end w p c k g a)
-  resize-ended : (a : Answer) (g : Heap) → Step (w .heap) (w .position p) g no-call → {full : Occupancy}
+  -- the head moves only with done
+  resize-ended : (a : Answer) (g : Heap) → Step (w .heap) (w .position p) g no-call → (g .head ≡ w .heap .head) ⊎ (a ≡ Done) → {full : Occupancy}
       → Outcome w p own (Outs.End a (min (own + 1) 65535) full) (after-step w p g no-call)
 
 pub record StepSimulated (w : Configuration) (p own : ℕ) (m : Reply) : Type 0 where
@@ -140,7 +141,7 @@ module _ {y : Machine} {w : Configuration} {L : List Ended} (sim : Simulates y (
     }
     simulate (ends-resize a line) so = record {
       configuration = after-step w p (w .heap) no-call;
-      outcome = resize-ended a (w .heap) line;
+      outcome = resize-ended a (w .heap) line (inl refl);
       sim = on-still no-call idle (λ x q. absurd q) (rests (w .heap) (sim .records)) refl so;
     }
     simulate (ends-writing {call = call′} {k = k} {a = a} x v ks kx o few oth this e) so =
@@ -199,7 +200,7 @@ module _ {y : Machine} {w : Configuration} {L : List Ended} (sim : Simulates y (
         let R′ = with-node (suc (w .heap .head)) r (sim .records) in
         record {
           configuration = after-step w p g no-call;
-          outcome = resize-ended Done g line;
+          outcome = resize-ended Done g line (inr refl);
           sim = simulates-next sim f i p p< (af .same) no-call idle (good line)
               (represents-fewer (represents-28 f (sim .rep) r n (o .1 refl) n≤ r< new af) J more (head refl) (λ a s q. behind a q))
               (advance-seen f n r (sim .rep .known-bound) more af) (rests g R′) tt

@@ -17,6 +17,24 @@ use Rattle.model.specs.Lines.{NoPred, FillStep, step-39-empty, step-39-f
 use Rattle.model.specs.Filling.{NewSourcesFew, InNode, SourceFrozen, ListedFew, SourceFew, SourcesFew, Ready, source-few-stays, FillFacts}
 use Rattle.model.specs.Slots.{mod-grown, mod-shrunk}
 
+-- no line of filling moves the head
+pub fill-head : {h g : Heap} {t i : ℕ} {l l′ : Fill} → FillStep h t i l g l′ → g .head ≡ h .head
+fill-head (step-39-empty e) = refl
+fill-head (step-39-filled e) = refl
+fill-head step-40-filled = refl
+fill-head (step-40-none b n) = refl
+fill-head (step-40-grown p e) = refl
+fill-head (step-40-shrunk p e) = refl
+fill-head step-43 = refl
+fill-head step-44 = refl
+fill-head step-46 = refl
+fill-head step-47 = refl
+fill-head step-48 = refl
+fill-head step-52 = refl
+fill-head step-49 = refl
+fill-head (step-50-empty e) = refl
+fill-head (step-50-filled e) = refl
+
 -- what a step that ends no set call does
 pub record KeepsTags (h g : Heap) : Type 0 where
   pub inv : HeapInvariant g

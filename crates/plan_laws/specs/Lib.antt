@@ -1,0 +1,9 @@
+pub mod Alone
+pub mod FillingAlone
+pub mod StepsAlone
+pub mod EndsAlone
+pub mod WordsAlone
+pub mod CallFigures
+pub mod CallRuns
+pub mod Theorems
+pub mod BucketOutputs

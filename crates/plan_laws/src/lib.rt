@@ -1,0 +1,1 @@
+// The planner's figures are those of a run: specs/Theorems. Nothing is run from here.

@@ -1,0 +1,75 @@
+-- `planner::plan` meets its contract. The refusals in the definition's order, and the figures. Assumes nothing.
+use mathlib.Core.Path.{_≡_, sym, ap, _∙_}
+use lib.ListN.{length}
+use Rattle.plans.specs.Plan.{plan-array}
+use Rattle.pool.proofs.Laws.{length-mapped}
+use Rattle.planner.proofs.Stored.{refused-low, refused-high, refused-long, plan-figures}
+use borrow.Author.Needs.{needs}
+use Rattle.planner.proofs.plan.Statement.{statement}
+use Rattle.planner.proofs.plan.Tie as tie
+
+room : (c : tie.Start) → length (c .args .calls .call) ≡ 64
+room c = search (needs, length-mapped)
+
+refused-requires : tie.Need-refused-requires
+refused-requires c κs = search needs
+
+returns : tie.Need-returns
+returns c =
+    let a = c .before .before .args in
+    c .refused .ensures ∙ ap plan-array (sym (refused-low (a .version) (a .calls) (c .before .if1 .taken)))
+
+refused-requires-2 : tie.Need-refused-requires-2
+refused-requires-2 c κs = search needs
+
+returns-2 : tie.Need-returns-2
+returns-2 c =
+    let at-if2 = c .before in
+    let a = at-if2 .before .before .args in
+    c .refused2 .ensures ∙ ap plan-array (sym (refused-high (a .version) (a .calls) (at-if2 .before .if1 .left) (at-if2 .if2 .taken)))
+
+refused-requires-3 : tie.Need-refused-requires-3
+refused-requires-3 c κs = search needs
+
+returns-3 : tie.Need-returns-3
+returns-3 c =
+    let at-if3 = c .before in
+    let at-if2 = at-if3 .before in
+    let a = at-if2 .before .before .args in
+    c .refused3 .ensures
+    ∙ ap plan-array (sym (refused-long (a .version) (a .calls) (at-if2 .before .if1 .left) (at-if2 .if2 .left) (at-if3 .if3 .taken)))
+
+config-requires : tie.Need-config-requires
+config-requires c κs = search needs
+
+with-version-requires : tie.Need-with-version-requires
+with-version-requires c κs = search needs
+
+all-figures-requires : tie.Need-all-figures-requires
+all-figures-requires c κs = search needs
+
+returns-4 : tie.Need-returns-4
+unfolding plan-array
+returns-4 c =
+    let at-version = c .before in
+    let at-if3 = at-version .before .before in
+    let at-if2 = at-if3 .before in
+    let entry = at-if2 .before .before in
+    let a = entry .args in
+    rw (plan-figures (a .version) (a .calls) (at-if2 .before .if1 .left) (at-if2 .if2 .left) (room entry) (at-if3 .if3 .left))
+    (rw (c .all-figures .ensures, at-version .with-version .ensures, at-version .before .config .ensures))
+
+pub plan-spec : {M : Type 1} → statement M
+plan-spec =
+    tie.close
+    (tie.spec
+    refused-requires
+    returns
+    refused-requires-2
+    returns-2
+    refused-requires-3
+    returns-3
+    config-requires
+    with-version-requires
+    all-figures-requires
+    returns-4)
