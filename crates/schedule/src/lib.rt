@@ -14,6 +14,7 @@ ghost use Rattle.spec.specs.Words.{overwrite};
 ghost use Rattle.spec.specs.Schedule.{event, run, schedule};
 ghost use Rattle.spec.specs.Linearizable.{Linearizable};
 ghost use Rattle.spec.specs.ContainsSteps.{ContainsExact};
+ghost use Rattle.pace.specs.StepCounts.{none-begun, StepsWithin};
 ghost use Rattle.lines.specs.Reply.{moved-reply};
 ghost use Rattle.schedule_words.specs.Events.{event-of, events-of};
 ghost use Rattle.schedule.specs.Encoding.{decoded, run-words, result-of};
@@ -85,6 +86,8 @@ pub fn run(
         ≡ run-words g (now (ns .entry)) (now (bs .entry)) (now (events .entry)) (now (outs .entry)) (now (tags .entry)) ⌝ }
     ensures linearizable { λ r. ⌜ (r .refusal ≡ 0 → Linearizable g (now (ns .entry)) (now (bs .entry)) (decoded (now (events .entry)) (now (outs .entry)))) ⌝ }
     ensures exact { λ r. ⌜ (r .refusal ≡ 0 → ContainsExact (decoded (now (events .entry)) (now (outs .entry)))
+        (schedule g (now (ns .entry)) (now (bs .entry)) (decoded (now (events .entry)) (now (outs .entry))) .outs)) ⌝ }
+    ensures within { λ r. ⌜ (r .refusal ≡ 0 → StepsWithin none-begun (decoded (now (events .entry)) (now (outs .entry)))
         (schedule g (now (ns .entry)) (now (bs .entry)) (decoded (now (events .entry)) (now (outs .entry))) .outs)) ⌝ }
 {
     let o = opening::open(g, ns, bs);

@@ -1,9 +1,11 @@
 -- `run` gives what `run-words` gives, by `not-run` after a refused opening and `all-run` after an accepted one; that the schedule which
--- it ran is linearizable, and its contains end with three or five own steps, are theorems of the crate linear.
+-- it ran is linearizable, and its contains end with three or five own steps, are theorems of the crate linear, and that its calls make
+-- no more steps than U12 allows is one of the crate pace.
 -- Assumes nothing.
 use denote.Ref.{now}
 use Rattle.schedule.specs.Encoding.{room-for, decoded}
 use Rattle.linear.specs.Theorems.{linearizable, contains-exact}
+use Rattle.pace.specs.Theorems.{steps-within}
 use mathlib.Core.Path.{sym, _∙_}
 use Rattle.schedule.proofs.Laws.{not-run, all-run}
 use borrow.Author.Needs.{needs}
@@ -23,8 +25,10 @@ returns : tie.Need-returns
 returns c =
     let a = c .before .before .before .before .before .before .before .before .before .before .before .before .before .before .args in
     let o = c .before .before .before .before .before .before .«open» .ensures in
-    let d = c .if1 .taken in
-    (not-run (a .g) (now (a .ns)) (now (a .bs)) (now (a .events)) (now (a .outs)) (now (a .tags)) _ (o .0) _ (o .1) d, (λ z. absurd (d z), λ z. absurd (d z)))
+    let d = c .if1 .taken in (
+      not-run (a .g) (now (a .ns)) (now (a .bs)) (now (a .events)) (now (a .outs)) (now (a .tags)) _ (o .0) _ (o .1) d,
+      (λ z. absurd (d z), (λ z. absurd (d z), λ z. absurd (d z))),
+    )
 
 number-of-events-requires : tie.Need-number-of-events-requires
 number-of-events-requires c κs = search needs
@@ -63,7 +67,10 @@ returns-2 c =
     let ok = sym (o .0) ∙ z in
     let es = decoded (now (a .events)) (now (a .outs)) in (
       all-run (a .g) (now (a .ns)) (now (a .bs)) (now (a .events)) (now (a .outs)) (now (a .tags)) _ (o .0) _ (o .1) z _ n _ (r .0) _ (r .1) _ (l .0) _ (l .1),
-      (λ e. linearizable (a .g) (now (a .ns)) (now (a .bs)) ok es, λ e. contains-exact (a .g) (now (a .ns)) (now (a .bs)) ok es),
+      (
+        λ e. linearizable (a .g) (now (a .ns)) (now (a .bs)) ok es,
+        (λ e. contains-exact (a .g) (now (a .ns)) (now (a .bs)) ok es, λ e. steps-within (a .g) (now (a .ns)) (now (a .bs)) ok es),
+      ),
     )
 
 pub run-spec : {M : Type 1} → statement M

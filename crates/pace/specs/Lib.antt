@@ -1,0 +1,11 @@
+pub mod StepCounts
+pub mod Heads
+pub mod Pace
+pub mod CountFits
+pub mod CountsKept
+pub mod Totals
+pub mod NoNewStarts
+pub mod EndsByTurns
+pub mod TurnsLeft
+pub mod Theorems
+pub mod Examples
