@@ -1,0 +1,12 @@
+pub mod Game
+pub mod FirstMove
+pub mod Strategies
+pub mod TurnMoves
+pub mod Forcing
+pub mod HoldingOff
+pub mod MoreTurns
+pub mod Theorems
+pub mod RefusedMoves
+pub mod Rows
+pub mod Text
+pub mod TextRows

@@ -1,0 +1,209 @@
+-- A line taken, and the end of the input, by what the code's calls gave. Assumes nothing.
+use Prim.Native.Nat.{ℕ}
+use mathlib.Core.Path.{_≡_, refl, sym, ap, subst, _∙_}
+use mathlib.Core.List.{List, [], _∷_, _++_}
+use mathlib.Core.Bool.{Bool, true, false, not, _||_}
+use borrow.Author.Tests.{eq-eqb, ne-eqb}
+use lib.Dec.{eqb}
+use lib.ListN.{take, drop, replicate, take-append-drop}
+use Rattle.spec.specs.declared.State.{State}
+use Rattle.spec.specs.Lists.{if_then_else_}
+use Rattle.spec.specs.Machine.{Machine, machine-of}
+use Rattle.spec.specs.Entries as entries
+use Rattle.spec.specs.Entries.{opening}
+use Rattle.session.specs.declared.Decimal.{Decimal}
+use Rattle.session.specs.declared.Decimal.the-variants.{Value, NotDecimal}
+use Rattle.session.specs.declared.Header.{Header}
+use Rattle.session.specs.declared.HeaderLine.{HeaderLine}
+use Rattle.session.specs.declared.HeaderStep.{HeaderStep}
+use Rattle.session.specs.declared.HeaderStep.the-variants.{Next}
+use Rattle.session.specs.Buffer.{Buffer, buffer, append-byte, append}
+use Rattle.session.specs.BufferLaws.{append-both}
+use Rattle.session.specs.Grammar.{InputLine, closed-line, open-line, admissible, parse-header-line}
+use Rattle.session.specs.Print.{refusal-line}
+use Rattle.session_state.specs.declared.Phase.{Phase}
+use Rattle.session_state.specs.declared.Phase.the-variants.{Due, Events}
+use Rattle.session_state.specs.declared.Session.{Session}
+use Rattle.session_state.specs.declared.Handled.{Handled}
+use Rattle.session_state.specs.Handling.{session, reads-events, LineEffect, LineHandled, node-extent, bucket-extent, node-part, bucket-part}
+use Rattle.session_state.specs.Handling.{session-machine, with-machine}
+use Rattle.session_state.proofs.Laws.{nothing-appended, puts-back}
+use Rattle.game.specs.declared.Verdict.{Verdict}
+use Rattle.game.specs.Game.{verdict}
+use Rattle.game.specs.Text.{game-key, verdict-line, parse-game-line}
+use Rattle.game_text.specs.declared.Asked.{Asked}
+use Rattle.game_text.specs.declared.Asked.the-variants.{NotYet, Turns}
+use Rattle.game_text.specs.declared.Standing.{Standing}
+use Rattle.game_text.specs.Reading.{standing, refused-with, Place, place, refusing, opened, after-event, take-event, take-unasked, take-asked}
+use Rattle.game_text.specs.Reading.{take-turn, if-opened, header-taken, phase-taken, on-line, asked-at-end, ends-as, StandsAt, EndsAt}
+use Rattle.game_text.specs.OutsideLines.{same-outside}
+
+-- a place given by its parts
+pub at-place : (p : Place) (t : Standing) (ns bs : List ℕ) → StandsAt p t ns bs → place t ns bs ≡ p
+at-place p t ns bs s = rw (s .next, s .nodes, s .buckets)
+
+-- with the pools as they were
+pub stays-at : (t u : Standing) (ns bs : List ℕ) → u ≡ t → StandsAt (place t ns bs) u ns bs
+stays-at t u ns bs e = record { next = e; nodes = refl; buckets = refl }
+
+-- ---- the opening
+
+module _ (h : Header) (ns bs : List ℕ) (a b : ℕ) (ea : a ≡ node-extent h ns) (eb : b ≡ bucket-extent h bs) where
+  module _ (m : State) (n' b' : List ℕ) (refusal : ℕ)
+      (hr : refusal ≡ opening (h .config) (take a ns) (take b bs) .refusal)
+      (hm : machine-of m n' b' ≡ opening (h .config) (take a ns) (take b bs) .machine) where
+    same-opening : opening (h .config) (take a ns) (take b bs) ≡ opening (h .config) (node-part h ns) (bucket-part h bs)
+    same-opening =
+        ap (λ (n : ℕ). opening (h .config) (take n ns) (take b bs)) ea
+        ∙ ap (λ (n : ℕ). opening (h .config) (node-part h ns) (take n bs)) eb
+
+    pub opened-at : (t : Standing) → t ≡ standing (session Events h m) refusal NotYet → StandsAt (opened h ns bs) t (n' ++ drop a ns) (b' ++ drop b bs)
+    unfolding opened
+    opened-at t e =
+        let o = opening (h .config) (node-part h ns) (bucket-part h bs) in
+        let machine-is = hm ∙ ap (λ (x : entries.Opened). x .machine) same-opening in
+        let refusal-is = hr ∙ ap (λ (x : entries.Opened). x .refusal) same-opening in
+        let d = puts-back h ns bs a b ea eb Events [] (o .machine) m n' b' 0 [] [] machine-is (nothing-appended (buffer [] 0)) in
+        record {
+          next =
+              e ∙ ap (λ (s : Session). standing s refusal NotYet) (d .next)
+              ∙ ap (λ (r : ℕ). standing (with-machine Events [] (o .machine) h ns bs .session) r NotYet) refusal-is;
+          nodes = d .nodes;
+          buckets = d .buckets;
+        }
+
+-- ---- a line after the header
+
+-- the session handled it
+pub event-at : (e : LineEffect) (d : Handled) (ns bs before after : List ℕ) → LineHandled e d ns bs before after → (b : Bool) → b ≡ reads-events (d .session .phase)
+    → (r : ℕ) → r ≡ (if b then 0 else 10) → (t : Standing) → t ≡ standing (d .session) r NotYet → StandsAt (after-event e) t ns bs
+unfolding after-event
+event-at e d ns bs before after h b f r g t w =
+    let told = g ∙ ap (λ (x : Bool). if x then 0 else 10) (f ∙ ap (λ (s : Session). reads-events (s .phase)) (h .next)) in
+    record {
+      next = w ∙ ap (λ (s : Session). standing s r NotYet) (h .next) ∙ ap (λ (n : ℕ). standing (e .session) n NotYet) told;
+      nodes = h .nodes;
+      buckets = h .buckets;
+    }
+
+module _ (t : Standing) (ns bs : List ℕ) (l : InputLine) where
+  turn-at : (a : Asked) → t .asked ≡ a → (u : Standing) (ns' bs' : List ℕ) → StandsAt (take-asked a (place t ns bs) l) u ns' bs'
+      → StandsAt (take-turn (place t ns bs) l) u ns' bs'
+  unfolding take-turn
+  turn-at a e u ns' bs' s = subst (λ (x : Asked). StandsAt (take-asked x (place t ns bs) l) u ns' bs') (sym e) s
+
+  unasked-at : t .asked ≡ NotYet → (d : Decimal) → d ≡ parse-header-line game-key l → (x : Decimal) → d ≡ x → (u : Standing) (ns' bs' : List ℕ)
+      → StandsAt (take-unasked x (place t ns bs) l) u ns' bs' → StandsAt (take-turn (place t ns bs) l) u ns' bs'
+  unfolding take-asked parse-game-line
+  unasked-at e d f x g u ns' bs' s =
+      turn-at NotYet e u ns' bs' (subst (λ (y : Decimal). StandsAt (take-unasked y (place t ns bs) l) u ns' bs') (sym g ∙ f) s)
+
+  -- a game's line, an event's, and one after a game's
+  pub game-at : t .asked ≡ NotYet → (d : Decimal) → d ≡ parse-header-line game-key l → (n : ℕ) → d ≡ Value n → (u : Standing)
+      → u ≡ standing (t .session) 0 (Turns n) → StandsAt (take-turn (place t ns bs) l) u ns bs
+  unfolding take-unasked
+  game-at e d f n g u w = unasked-at e d f (Value n) g u ns bs (record { next = w; nodes = refl; buckets = refl })
+
+  pub no-game-at : t .asked ≡ NotYet → (d : Decimal) → d ≡ parse-header-line game-key l → d ≡ NotDecimal → (u : Standing) (ns' bs' : List ℕ)
+      → StandsAt (take-event (place t ns bs) l) u ns' bs' → StandsAt (take-turn (place t ns bs) l) u ns' bs'
+  unfolding take-unasked
+  no-game-at e d f g u ns' bs' s = unasked-at e d f NotDecimal g u ns' bs' s
+
+  pub after-game-at : (n : ℕ) → t .asked ≡ Turns n → (u : Standing) → u ≡ refused-with 10 t → StandsAt (take-turn (place t ns bs) l) u ns bs
+  unfolding take-asked
+  after-game-at n e u w = turn-at (Turns n) e u ns bs (record { next = w; nodes = refl; buckets = refl })
+
+-- ---- a line where a header line is due
+
+-- what the line says
+pub says : (a x : HeaderStep) → a ≡ x → (p : Place) (l : InputLine) (u : Standing) (ns bs : List ℕ) → StandsAt (header-taken x p l) u ns bs
+    → StandsAt (header-taken a p l) u ns bs
+says a x e p l u ns bs s = subst (λ (y : HeaderStep). StandsAt (header-taken y p l) u ns bs) (sym e) s
+
+pub next-at : (t : Standing) (ns bs : List ℕ) (l : InputLine) (due : HeaderLine) (h : Header) (u : Standing)
+    → u ≡ standing (session (Due due) h (t .session .state)) 0 NotYet → StandsAt (header-taken (Next due h) (place t ns bs) l) u ns bs
+unfolding header-taken
+next-at t ns bs l due h u w = record { next = w; nodes = refl; buckets = refl }
+
+-- a line in the place of one that may be left out: the opening is refused, or the line is one after the header
+module _ (p : Place) (l : InputLine) (o : Standing) (ns bs : List ℕ) (s : StandsAt p o ns bs) where
+  pub not-opened-at : (o .refused ≡ 0 → ⊥) → StandsAt (if-opened p l) o ns bs
+  unfolding if-opened
+  not-opened-at r = rw (ne-eqb (p .standing .refused) 0 (λ z. r (ap (λ (t : Standing). t .refused) (s .next) ∙ z))) s
+
+  pub opened-then-at : o .refused ≡ 0 → (u : Standing) (ns' bs' : List ℕ) → StandsAt (take-turn (place o ns bs) l) u ns' bs'
+      → StandsAt (if-opened p l) u ns' bs'
+  unfolding if-opened
+  opened-then-at z u ns' bs' w =
+      rw (eq-eqb (p .standing .refused) 0 (sym (ap (λ (t : Standing). t .refused) (s .next)) ∙ z))
+      (subst (λ (q : Place). StandsAt (take-turn q l) u ns' bs') (at-place p o ns bs s) w)
+
+-- ---- any line
+
+module _ (t : Standing) (ns bs : List ℕ) (l : InputLine) where
+  pub refused-at : (t .refused ≡ 0 → ⊥) → StandsAt (on-line (place t ns bs) l) t ns bs
+  unfolding on-line
+  refused-at r = rw (ne-eqb (t .refused) 0 r) (record { next = refl; nodes = refl; buckets = refl })
+
+  pub phase-at : t .refused ≡ 0 → (q : Phase) → t .session .phase ≡ q → (u : Standing) (ns' bs' : List ℕ)
+      → StandsAt (phase-taken q (place t ns bs) l) u ns' bs' → StandsAt (on-line (place t ns bs) l) u ns' bs'
+  unfolding on-line
+  phase-at z q e u ns' bs' s =
+      rw (eq-eqb (t .refused) 0 z) (subst (λ (x : Phase). StandsAt (phase-taken x (place t ns bs) l) u ns' bs') (sym e) s)
+
+-- ---- the end
+
+module _ (closed : Bool) (t : Standing) where
+  pub not-closed : closed ≡ false → NotYet ≡ asked-at-end closed t
+  unfolding asked-at-end
+  not-closed e = rw e
+
+  pub closed-refused : closed ≡ true → (t .refused ≡ 0 → ⊥) → NotYet ≡ asked-at-end closed t
+  unfolding asked-at-end
+  closed-refused e r = rw (e, ne-eqb (t .refused) 0 r)
+
+  pub closed-asked : closed ≡ true → t .refused ≡ 0 → (a : Asked) → a ≡ t .asked → a ≡ asked-at-end closed t
+  unfolding asked-at-end
+  closed-asked e z a w = w ∙ rw (e, eq-eqb (t .refused) 0 z)
+
+-- a game is asked for, or none
+module _ (a : Asked) (t : Standing) (ns bs : List ℕ) where
+  pub played-to : (n : ℕ) → a ≡ Turns n → (count : ℕ) (ns' bs' before after : List ℕ)
+      → (buffer after count ≡ append (verdict-line (verdict n (session-machine (t .session) ns bs))) (buffer before 0)) × (ns' ≡ ns) × (bs' ≡ bs)
+      → EndsAt (ends-as a (place t ns bs)) count ns' bs' before after
+  unfolding ends-as
+  played-to n e count ns' bs' before after w =
+      subst (λ (x : Asked). EndsAt (ends-as x (place t ns bs)) count ns' bs' before after) (sym e)
+      (record { nodes = w .1; buckets = w .2; wrote = w .0 })
+
+  pub refused-to : a ≡ NotYet → (u : Standing) (ns' bs' : List ℕ) → StandsAt (on-line (place t ns bs) (closed-line (replicate 41 0))) u ns' bs'
+      → (count : ℕ) (before after : List ℕ) → buffer after count ≡ append (refusal-line (u .refused)) (buffer before 0)
+      → EndsAt (ends-as a (place t ns bs)) count ns' bs' before after
+  unfolding ends-as admissible
+  refused-to e u ns' bs' s count before after w =
+      let same = same-outside (place t ns bs) (closed-line (replicate 41 0)) (open-line []) refl refl in
+      subst (λ (x : Asked). EndsAt (ends-as x (place t ns bs)) count ns' bs' before after) (sym e)
+      (record {
+        nodes = s .nodes ∙ ap (λ (p : Place). p .nodes) same;
+        buckets = s .buckets ∙ ap (λ (p : Place). p .buckets) same;
+        wrote = w ∙ ap (λ (p : Standing). append (refusal-line (p .refused)) (buffer before 0)) (s .next ∙ ap (λ (p : Place). p .standing) same);
+      })
+
+-- the game over the session's part of the pools, which is put back as it was
+module _ (s : Session) (n : ℕ) (ns bs : List ℕ) (a b : ℕ) (ea : a ≡ node-extent (s .header) ns) (eb : b ≡ bucket-extent (s .header) bs) where
+  pub part-played : (v : Verdict) (n' b' : List ℕ)
+      → (v ≡ verdict n (machine-of (s .state) (take a ns) (take b bs))) × (n' ≡ take a ns) × (b' ≡ take b bs)
+      → (count : ℕ) (before after : List ℕ) → buffer after count ≡ append (verdict-line v) (buffer before 0)
+      → (buffer after count ≡ append (verdict-line (verdict n (session-machine s ns bs))) (buffer before 0)) × (n' ++ drop a ns ≡ ns) × (b' ++ drop b bs ≡ bs)
+  part-played v n' b' g count before after w =
+      let same = ap (λ (k : ℕ). machine-of (s .state) (take k ns) (take b bs)) ea
+      ∙ ap (λ (k : ℕ). machine-of (s .state) (take (node-extent (s .header) ns) ns) (take k bs)) eb in (
+        w ∙ ap (λ (x : Verdict). append (verdict-line x) (buffer before 0)) (g .0 ∙ ap (λ (y : Machine). verdict n y) same),
+        ap (λ (l : List ℕ). l ++ drop a ns) (g .1) ∙ take-append-drop a ns,
+        ap (λ (l : List ℕ). l ++ drop b bs) (g .2) ∙ take-append-drop b bs,
+      )
+
+-- a word, closed
+pub word-line : (w : List ℕ) (t u v : Buffer) → u ≡ append w t → v ≡ append-byte 10 u → v ≡ append (w ++ (10 ∷ [])) t
+unfolding append
+word-line w t u v e f = f ∙ ap (append-byte 10) e ∙ sym (append-both w (10 ∷ []) t)

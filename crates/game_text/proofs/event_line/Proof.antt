@@ -1,0 +1,75 @@
+-- `game_text::event_line` meets its contract: where the session reads no more events the line was outside the grammar. Assumes nothing.
+use mathlib.Core.Path.{sym, ap, _∙_}
+use mathlib.Core.Bool.{Bool}
+use Prim.Native.Nat.{ℕ}
+use borrow.Author.Needs.{needs}
+use Rattle.spec.specs.Lists.{if_then_else_}
+use Rattle.game_text.specs.Reading.{take-event}
+use Rattle.game_text.proofs.Laws.{event-at}
+use Rattle.game_text.proofs.event_line.Statement.{statement}
+use Rattle.game_text.proofs.event_line.Tie as tie
+
+slice-aggregate-handle-line : tie.Need-slice-aggregate-handle-line
+slice-aggregate-handle-line c = search needs
+
+handle-line-requires : tie.Need-handle-line-requires
+handle-line-requires c κs = search needs
+
+reads-events-requires : tie.Need-reads-events-requires
+reads-events-requires c κs = search needs
+
+stands-requires : tie.Need-stands-requires
+stands-requires c κs = search needs
+
+same-length : tie.Need-same-length
+same-length c = search needs
+
+same-length-2 : tie.Need-same-length-2
+same-length-2 c = search needs
+
+returns : tie.Need-returns
+unfolding take-event
+returns c =
+    let at-if1 = c .before in
+    let at-reads-events = at-if1 .before in
+    let at-handle-line = at-reads-events .before .before .before .before .before .before .before in
+    let d = at-handle-line .handle-line in
+    let b = at-reads-events .reads-events in
+    event-at _ (d .result) _ _ _ _ (d .ensures) (b .result) (b .ensures) 0 (sym (ap (λ (x : Bool). if x then 0 else 10) (at-if1 .if1 .taken)))
+    _ (c .stands .ensures)
+
+stands-requires-2 : tie.Need-stands-requires-2
+stands-requires-2 c κs = search needs
+
+same-length-3 : tie.Need-same-length-3
+same-length-3 c = search needs
+
+same-length-4 : tie.Need-same-length-4
+same-length-4 c = search needs
+
+returns-2 : tie.Need-returns-2
+unfolding take-event
+returns-2 c =
+    let at-if1 = c .before in
+    let at-reads-events = at-if1 .before in
+    let at-handle-line = at-reads-events .before .before .before .before .before .before .before in
+    let d = at-handle-line .handle-line in
+    let b = at-reads-events .reads-events in
+    event-at _ (d .result) _ _ _ _ (d .ensures) (b .result) (b .ensures) 10 (sym (ap (λ (x : Bool). if x then 0 else 10) (at-if1 .if1 .left)))
+    _ (c .stands2 .ensures)
+
+pub event-line-spec : {M : Type 1} → statement M
+event-line-spec =
+    tie.close
+    (tie.spec
+    slice-aggregate-handle-line
+    handle-line-requires
+    reads-events-requires
+    stands-requires
+    same-length
+    same-length-2
+    returns
+    stands-requires-2
+    same-length-3
+    same-length-4
+    returns-2)

@@ -1,0 +1,19 @@
+-- `game_text::outside` meets its contract. Assumes nothing.
+use borrow.Author.Needs.{needs}
+use Rattle.game_text.specs.Reading.{refused-with}
+use Rattle.game_text.proofs.outside.Statement.{statement}
+use Rattle.game_text.proofs.outside.Tie as tie
+
+stands-requires : tie.Need-stands-requires
+stands-requires c κs = search needs
+
+returns : tie.Need-returns
+unfolding refused-with
+returns c = c .stands .ensures
+
+pub outside-spec : {M : Type 1} → statement M
+outside-spec =
+    tie.close
+    (tie.spec
+    stands-requires
+    returns)

@@ -1,0 +1,29 @@
+-- `play::is_win` meets its contract: by the three kinds of verdict. Assumes nothing.
+use borrow.Author.Needs.{needs}
+use Rattle.game.specs.Game.{is-win}
+use Rattle.play.proofs.is_win.Statement.{statement}
+use Rattle.play.proofs.is_win.Tie as tie
+
+enum-told : tie.Need-enum-told
+enum-told c = search needs
+
+enum-told-2 : tie.Need-enum-told-2
+enum-told-2 c = search needs
+
+enum-told-3 : tie.Need-enum-told-3
+enum-told-3 c = search needs
+
+returns : tie.Need-returns
+unfolding is-win
+returns c = rw (c .enum-told .given .1)
+
+returns-2 : tie.Need-returns-2
+unfolding is-win
+returns-2 c = rw (c .enum-told2 .given .1)
+
+returns-3 : tie.Need-returns-3
+unfolding is-win
+returns-3 c = rw (c .enum-told3 .given .1)
+
+pub is-win-spec : {M : Type 1} → statement M
+is-win-spec = tie.close (tie.spec enum-told enum-told-2 enum-told-3 returns returns-2 returns-3)

@@ -1,0 +1,68 @@
+-- `undo::store_words` meets its contract: 34 words over the part that begins at the node's first. Assumes nothing.
+use Prim.Native.Nat.{_*_, _/_, _<_}
+use mathlib.Core.Path.{_≡_, sym, _∙_}
+use native.Mathlib.Omega.{arith}
+use borrow.Author.Needs.{needs}
+use borrow.Author.Tests.{lt-ltb, le-ltb}
+use denote.Ref.{now}
+use lib.ListN.{length}
+use Rattle.pool.proofs.Part.{back}
+use Rattle.undo.specs.Undo.{store-words}
+use Rattle.undo.proofs.Laws.{front-over}
+use Rattle.undo.proofs.store_words.Statement.{statement}
+use Rattle.undo.proofs.store_words.Tie as tie
+
+returns : tie.Need-returns
+unfolding store-words
+returns c = rw (le-ltb _ _ (c .if1 .taken))
+
+mul-at : tie.Need-mul-at
+mul-at c = search needs
+
+mul-write-over : tie.Need-mul-write-over
+mul-write-over c = search needs
+
+sub-write-over : tie.Need-sub-write-over
+sub-write-over c = search needs
+
+part-write-over-start : tie.Need-part-write-over-start
+part-write-over-start c = search needs
+
+part-write-over-end : tie.Need-part-write-over-end
+part-write-over-end c = search needs
+
+slice-aggregate-write-over : tie.Need-slice-aggregate-write-over
+slice-aggregate-write-over c = search needs
+
+write-over-requires : tie.Need-write-over-requires
+write-over-requires c κs = search needs
+
+same-length : tie.Need-same-length
+same-length c = search needs
+
+returns-2 : tie.Need-returns-2
+unfolding store-words
+returns-2 c =
+    let at-write-over = c .before .before in
+    let at-if1 = at-write-over .before .before .before in
+    let a = at-if1 .before .before .args in
+    let p = now (a .ns) in
+    let here : a .k < length p / 34 = at-if1 .if1 .left in
+    back p (34 * a .k) (a .t3) (at-write-over .write-over .last .0)
+    (at-write-over .write-over .ensures ∙ front-over p (a .t3) (34 * a .k) (search needs) (omega arith))
+    ∙ rw (lt-ltb _ _ here)
+
+pub store-words-spec : {M : Type 1} → statement M
+store-words-spec =
+    tie.close
+    (tie.spec
+    returns
+    mul-at
+    mul-write-over
+    sub-write-over
+    part-write-over-start
+    part-write-over-end
+    slice-aggregate-write-over
+    write-over-requires
+    same-length
+    returns-2)

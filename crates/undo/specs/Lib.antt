@@ -1,0 +1,4 @@
+pub mod Undo
+pub mod SameBut
+pub mod StepWrites
+pub mod StepUndone
