@@ -1,14 +1,13 @@
 -- What is left to run of a schedule, and a turn of the loop that runs it: an event, and its output's words written.
 -- Assumes nothing.
-use Prim.Native.Nat.{ℕ, zero, suc, _+_, _*_, _-_, _≤_, _<_}
+use Prim.Native.Nat.{ℕ, suc, _+_, _*_, _-_, _≤_, _<_}
 use mathlib.Core.Path.{_≡_, refl, sym, ap, _∙_, subst}
 use mathlib.Core.List.{List, [], _∷_}
 use mathlib.Core.Bool.{not, _||_}
 use native.Mathlib.Omega.{arith}
 use borrow.Author.Tests.{eq-eqb, ne-eqb, ltb-false}
 use lib.Dec.{eqb, leb, ltb}
-use lib.ListN.{length, getD, drop}
-use lib.Seq.{getD-drop, drop-drop}
+use lib.ListN.{length, drop}
 use Rattle.spec.specs.declared.Config.{Config}
 use Rattle.spec.specs.declared.Listing.{Listing}
 use Rattle.spec.specs.declared.Listing.the-variants.{Refused}
@@ -21,7 +20,8 @@ use Rattle.spec.specs.Listed.{listed}
 use Rattle.spec.specs.Entries.{opening, Reply, Written, list}
 use Rattle.laws.specs.Tests.{choose, or-none}
 use Rattle.spec.specs.Schedule.{Event, event, run, run-opened, schedule}
-use Rattle.schedule_words.specs.Events.{event-of, events-of, listing-number}
+use Rattle.schedule_words.specs.Events.{events-of, listing-number}
+use Rattle.schedule_words.specs.EventLaws.{events-length, event-at, events-on, events-end}
 use Rattle.schedule_words.proofs.Laws.{output-length, over-none, over-then}
 use Rattle.opening.proofs.Laws.{refusal-small}
 use Rattle.schedule.specs.Encoding.{room-for, decoded, list-opened, run-words}
@@ -57,40 +57,25 @@ module _ {y₀ : Machine} {w₀ : List ℕ} {es₀ : List Event} {y : Machine} {
 -- ---- event i of n
 
 module _ (ws : List ℕ) (n i : ℕ) where
-  abbrev pub event-at : Event
-  event-at = event-of (getD ws (4 * i) 0) (getD ws (4 * i + 1) 0) (getD ws (4 * i + 2) 0)
-
-  pub events-on : i < n → events-of (n - i) (drop (4 * i) ws) ≡ event-at ∷ events-of (n - (i + 1)) (drop (4 * (i + 1)) ws)
-  unfolding events-of
-  events-on h =
-      let less : n - i ≡ suc (n - (i + 1)) = omega arith in
-      let z : 4 * i + 0 ≡ 4 * i = omega arith in
-      let q : 4 * i + 4 ≡ 4 * (i + 1) = omega arith in
-      rw (less, getD-drop (4 * i) ws 0 0, z, getD-drop (4 * i) ws 1 0, getD-drop (4 * i) ws 2 0, drop-drop 4 (4 * i) ws, q)
-
   pub rest-start : (y : Machine) (w : List ℕ) → Rest y w (events-of n ws) y w (4 * 0) (events-of (n - 0) (drop (4 * 0) ws))
   rest-start y w = let z : n - 0 ≡ n = omega arith in rw z (rest-all y w (events-of n ws))
-
-  events-end : n ≤ i → (v : List ℕ) → events-of (n - i) v ≡ []
-  unfolding events-of
-  events-end h v = let z : n - i ≡ 0 = omega arith in rw z
 
   -- a turn of the loop
   pub turn : {y₀ : Machine} {w₀ : List ℕ} {es₀ : List Event} {y : Machine} {w : List ℕ} → i < n → 4 * i + 4 ≤ length w
       → Rest y₀ w₀ es₀ y w (4 * i) (events-of (n - i) (drop (4 * i) ws))
-      → (r : Reply) → r ≡ event y event-at → (v : List ℕ) → v ≡ overwrite w (4 * i) (output-words (r .out))
+      → (r : Reply) → r ≡ event y (event-at ws i) → (v : List ℕ) → v ≡ overwrite w (4 * i) (output-words (r .out))
       → Rest y₀ w₀ es₀ (r .machine) v (4 * (i + 1)) (events-of (n - (i + 1)) (drop (4 * (i + 1)) ws))
   turn {y₀} {w₀} {es₀} {y} {w} h f l r e v g =
       let later = events-of (n - (i + 1)) (drop (4 * (i + 1)) ws) in
       let q : 4 * i + 4 ≡ 4 * (i + 1) = omega arith in
-      let written = overwrite w (4 * i) (output-words (event y event-at .out)) in
-      rw (g, e) (subst (λ (j : ℕ). Rest y₀ w₀ es₀ (event y event-at .machine) written j later) q (rest-on event-at later (rw (events-on h) at l) f))
+      let written = overwrite w (4 * i) (output-words (event y (event-at ws i) .out)) in
+      rw (g, e) (subst (λ (j : ℕ). Rest y₀ w₀ es₀ (event y (event-at ws i) .machine) written j later) q (rest-on (event-at ws i) later (rw (events-on ws n i h) at l) f))
 
   -- after the last
   pub finished : {y₀ : Machine} {w₀ : List ℕ} {es₀ : List Event} {y : Machine} {w : List ℕ} → n ≤ i
       → Rest y₀ w₀ es₀ y w (4 * i) (events-of (n - i) (drop (4 * i) ws))
       → (y ≡ run y₀ es₀ .machine) × (w ≡ overwrite w₀ 0 (concat-map output-words (run y₀ es₀ .outs)))
-  finished h l = rest-none (rw (events-end h (drop (4 * i) ws)) at l)
+  finished h l = rest-none (rw (events-end n i h (drop (4 * i) ws)) at l)
 
 -- ---- as many outputs as events
 
@@ -98,11 +83,6 @@ outs-length : (y : Machine) (es : List Event) → length (run y es .outs) ≡ le
 unfolding run
 outs-length y [] = refl
 outs-length y (e ∷ es) = ap suc (outs-length (event y e .machine) es)
-
-events-length : (n : ℕ) (w : List ℕ) → length (events-of n w) ≡ n
-unfolding events-of
-events-length zero w = refl
-events-length (suc n) w = ap suc (events-length n (drop 4 w))
 
 -- ---- the whole
 

@@ -31,7 +31,7 @@ pub fn asked_by(kind: u32) -> Asked
     }
 }
 
-fn answer_number(a: Answer) -> u32
+pub fn answer_number(a: Answer) -> u32
     ensures { λ r. ⌜ r ≡ answer-number a ⌝ }
 {
     match a {

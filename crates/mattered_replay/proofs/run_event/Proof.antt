@@ -1,0 +1,66 @@
+-- `run_event` gives what `event` gives of the event that the words name. Assumes nothing.
+use Rattle.spec.specs.Schedule.{event}
+use Rattle.schedule_words.specs.Events.{event-asked}
+use borrow.Author.Needs.{needs}
+use Rattle.mattered_replay.proofs.run_event.Statement.{statement}
+use Rattle.mattered_replay.proofs.run_event.Tie as tie
+
+asked-by-requires : tie.Need-asked-by-requires
+asked-by-requires c κs = search needs
+
+enum-known-call : tie.Need-enum-known-call
+enum-known-call c = search needs
+
+start-requires : tie.Need-start-requires
+start-requires c κs = search needs
+
+enum-told : tie.Need-enum-told
+enum-told c = search needs
+
+step-requires : tie.Need-step-requires
+step-requires c κs = search needs
+
+same-length : tie.Need-same-length
+same-length c = search needs
+
+same-length-2 : tie.Need-same-length-2
+same-length-2 c = search needs
+
+returns : tie.Need-returns
+unfolding event event-asked
+returns c =
+    let at-call = c .before .before .before .before in
+    let at-asked = at-call .before .before in
+    let a = at-asked .before .before .before .args in
+    rw (at-asked .asked-by .ensures (a .task) (a .tag), at-call .call .given .1) (c .start .ensures)
+
+same-length-3 : tie.Need-same-length-3
+same-length-3 c = search needs
+
+same-length-4 : tie.Need-same-length-4
+same-length-4 c = search needs
+
+returns-2 : tie.Need-returns-2
+unfolding event event-asked
+returns-2 c =
+    let at-step = c .before .before .before .before in
+    let at-told = at-step .before .before .before in
+    let at-asked = at-told .before .before in
+    let a = at-asked .before .before .before .args in
+    rw (at-asked .asked-by .ensures (a .task) (a .tag), at-told .enum-told .given .1) (at-step .step .ensures)
+
+pub run-event-spec : {M : Type 1} → statement M
+run-event-spec =
+    tie.close
+    (tie.spec
+    asked-by-requires
+    enum-known-call
+    start-requires
+    enum-told
+    step-requires
+    same-length
+    same-length-2
+    returns
+    same-length-3
+    same-length-4
+    returns-2)

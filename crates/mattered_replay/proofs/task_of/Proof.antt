@@ -1,0 +1,34 @@
+-- `task_of` reads one of the eight records; past them it is idle. Assumes nothing.
+use mathlib.Core.Path.{_≡_, refl, sym, _∙_}
+use lib.ListN.{length, List·getD-eq-default}
+use Rattle.pool.proofs.Laws.{length-mapped}
+use Rattle.spec.specs.Machine.{idle}
+use native.Mathlib.Omega.{arith}
+use borrow.Author.Needs.{needs}
+use Rattle.mattered_replay.proofs.task_of.Statement.{statement}
+use Rattle.mattered_replay.proofs.task_of.Tie as tie
+
+eight : (c : tie.Start) → length (c .args .t1 .task) ≡ 8
+eight c = search (needs, length-mapped)
+
+mul-result : tie.Need-mul-result
+mul-result c = search needs
+
+element-copy-out-result : tie.Need-element-copy-out-result
+element-copy-out-result c = search needs
+
+returns : tie.Need-returns
+unfolding idle
+returns c = refl
+
+idle-requires : tie.Need-idle-requires
+idle-requires c κs = search needs
+
+returns-2 : tie.Need-returns-2
+returns-2 c =
+    let entry = c .before .before in
+    c .idle .ensures ∙ sym (List·getD-eq-default (entry .args .t1 .task) idle (omega (arith, c .before .if1 .left, eight entry)))
+
+pub task-of-spec : {M : Type 1} → statement M
+task-of-spec =
+    tie.close (tie.spec mul-result element-copy-out-result returns idle-requires returns-2)

@@ -1,0 +1,85 @@
+-- `first_step` runs all events, notes the calls that end, and searches. Assumes nothing.
+use denote.Ref.{now}
+use Prim.Native.Nat.{_*_}
+use mathlib.Core.Path.{sym, ap, _∙_}
+use lib.Seq.{length-take-le}
+use Rattle.spec.specs.Machine.{Machine}
+use Rattle.schedule_words.specs.Events.{events-of}
+use Rattle.mattered.specs.Mattered.{mattered}
+use Rattle.mattered_run.proofs.Verdicts.{all-words-read, again-accepted, again-machine}
+use native.Mathlib.Omega.{arith}
+use borrow.Author.Needs.{needs}
+use Rattle.mattered_run.proofs.first_step.Statement.{statement}
+use Rattle.mattered_run.proofs.first_step.Tie as tie
+
+room-requires : tie.Need-room-requires
+room-requires c κs = search needs
+
+slice-aggregate-run-without : tie.Need-slice-aggregate-run-without
+slice-aggregate-run-without c = search needs
+
+run-without-requires : tie.Need-run-without-requires
+run-without-requires c κs = search needs
+
+mul-at : tie.Need-mul-at
+mul-at c = search needs
+
+array-share-prefix-calls : tie.Need-array-share-prefix-calls
+array-share-prefix-calls c = search needs
+
+slice-aggregate-search : tie.Need-slice-aggregate-search
+slice-aggregate-search c =
+    let at-run = c .before .before .before .before .before .before .before .before in
+    let at-room = at-run .before .before .before .before in
+    let start = at-room .before .before .before .before in
+    let r = at-run .run-without in
+    let few = r .ensures .few in
+    let long = r .kept .1 .1 .1 .1 .1 .1 .0 in
+    sym (length-take-le (4 * r .result) (r .last .1 .1 .1 .1 .1 .1 .0) (omega (arith, few, long, at-room .room .ensures, start .pre .0)))
+
+search-requires : tie.Need-search-requires
+search-requires c κs =
+    let at-run = c .before .before .before .before .before .before .before .before in
+    let start = at-run .before .before .before .before .before .before .before .before in
+    let a = start .args in
+    let r = at-run .run-without in
+    let p = r .kept .1 .1 .1 .1 .0 in
+    let q = r .kept .1 .1 .1 .1 .1 .0 in
+    let same = again-machine (a .g) (now (a .ns)) (now (a .bs)) (r .last .1 .1 .1 .1 .0) (r .last .1 .1 .1 .1 .1 .0) p q (start .pre .1) in (
+      start .pre .0,
+      again-accepted (a .g) (now (a .ns)) (now (a .bs)) (r .last .1 .1 .1 .1 .0) (r .last .1 .1 .1 .1 .1 .0) p q (start .pre .1),
+      all-words-read (now (a .events)) (a .n) _ _ same _ _ (r .result) (r .ensures .count) (r .ensures .words),
+    )
+
+same-length : tie.Need-same-length
+same-length c = search needs
+
+same-length-2 : tie.Need-same-length-2
+same-length-2 c = search needs
+
+returns : tie.Need-returns
+returns c =
+    let at-search = c .before .before .before .before in
+    let at-run = at-search .before .before .before .before .before .before .before .before .before in
+    let start = at-run .before .before .before .before .before .before .before .before in
+    let a = start .args in
+    let r = at-run .run-without in
+    let p = r .kept .1 .1 .1 .1 .0 in
+    let q = r .kept .1 .1 .1 .1 .1 .0 in
+    let same = again-machine (a .g) (now (a .ns)) (now (a .bs)) (r .last .1 .1 .1 .1 .0) (r .last .1 .1 .1 .1 .1 .0) p q (start .pre .1) in
+    at-search .search .ensures ∙ ap (λ (y : Machine). mattered y (events-of (a .n) (now (a .events)))) same
+
+pub first-step-spec : {M : Type 1} → statement M
+first-step-spec =
+    tie.close
+    (tie.spec
+    room-requires
+    slice-aggregate-run-without
+    run-without-requires
+    mul-at
+    array-share-prefix-calls
+    slice-aggregate-search
+    search-requires
+    same-length
+    same-length-2
+    returns)

@@ -1,0 +1,29 @@
+-- `refusal_of_opening` opens, and gives of it the refusal alone. Assumes nothing.
+use mathlib.Core.Path.{ap}
+use Rattle.spec.specs.Machine.{Machine}
+use borrow.Author.Needs.{needs}
+use Rattle.mattered_run.proofs.refusal_of_opening.Statement.{statement}
+use Rattle.mattered_run.proofs.refusal_of_opening.Tie as tie
+
+open-requires : tie.Need-open-requires
+open-requires c κs = search needs
+
+same-length : tie.Need-same-length
+same-length c = search needs
+
+same-length-2 : tie.Need-same-length-2
+same-length-2 c = search needs
+
+returns : tie.Need-returns
+returns c =
+    let o = c .before .before .before .before .«open» .ensures in
+    (o .0, ap (λ (y : Machine). y .nodes) (o .1), ap (λ (y : Machine). y .buckets) (o .1))
+
+pub refusal-of-opening-spec : {M : Type 1} → statement M
+refusal-of-opening-spec =
+    tie.close
+    (tie.spec
+    open-requires
+    same-length
+    same-length-2
+    returns)

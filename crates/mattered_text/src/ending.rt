@@ -1,0 +1,90 @@
+// What is said at the end of the input, one line: the step that mattered, or a refusal. The machine is opened here, over pools that are large enough
+// for any session.
+use crate::Standing;
+use mattered::Verdict;
+use session::Header;
+use session_state::Phase;
+ghost use mathlib.Core.Path.{_≡_};
+ghost use Prim.Native.Nat.{_≤_};
+ghost use lib.ListN.{length};
+ghost use Rattle.session.specs.Buffer.{buffer, append};
+ghost use Rattle.session.specs.Transcript.{session-opening};
+ghost use Rattle.schedule_words.specs.Events.{events-of};
+ghost use Rattle.mattered.specs.Text.{verdict-line};
+ghost use Rattle.mattered_text.specs.Reading.{place, header-complete, opened-says, said-at-end};
+
+// 64 nodes of 34 words. The `ensures` gives the length, which lending the array needs.
+fn node_words() -> [u32; 2176]
+    ensures { λ r. ⌜ 2176 ≡ length r ⌝ }
+{
+    [0; 2176]
+}
+
+// 200 buckets of 66 words.
+fn bucket_words() -> [u32; 13200]
+    ensures { λ r. ⌜ 13200 ≡ length r ⌝ }
+{
+    [0; 13200]
+}
+
+// Whether an input may end where it stands so.
+fn header_complete(phase: Phase) -> bool
+    ensures { λ r. ⌜ r ≡ header-complete phase ⌝ }
+{
+    match phase {
+        Phase::Due(due) => session_parse::optional(due),
+        Phase::Events => true,
+        Phase::Stopped => false,
+    }
+}
+
+// After a complete header, with n events: the opening's own number; else 10 if a line was outside the grammar; else what the events say.
+fn judge(
+    h: Header,
+    outside: bool,
+    n: usize,
+    ns: &mut [u32],
+    bs: &mut [u32],
+    events: &[u32],
+) -> Verdict
+    requires { ⌜ (2176 ≤ length (now ns)) × (13200 ≤ length (now bs)) ⌝ }
+    ensures { λ r. ⌜ r ≡ opened-says (session-opening h) outside (events-of n (now (events .entry))) ⌝ }
+{
+    let a = session_state::pools::node_extent(h.nodes, ns.len());
+    let b = session_state::pools::bucket_extent(h.buckets, bs.len());
+    let config = h.config;
+    if outside {
+        let o = opening::open(config, &mut ns[..a], &mut bs[..b]);
+        let why = o.refusal;
+        if why != 0 {
+            return Verdict::Refused(why);
+        }
+        return Verdict::Refused(10);
+    }
+    mattered_run::earliest(config, &mut ns[..a], &mut bs[..b], events, n)
+}
+
+// What is said of an input whose last line is closed or is not.
+pub fn verdict(t: Standing, closed: bool, events: &[u32]) -> Verdict
+    ensures { λ r. ⌜ r ≡ said-at-end closed (place t (now (events .entry))) ⌝ }
+{
+    let phase = t.phase;
+    if !header_complete(phase) {
+        return Verdict::Refused(10);
+    }
+    let header = t.header;
+    let outside = !closed | t.outside;
+    let mut ns = node_words();
+    let mut bs = bucket_words();
+    judge(header, outside, t.count, &mut ns, &mut bs, events)
+}
+
+pub fn print(out: &mut [u8], v: Verdict) -> usize
+    ensures { λ r. ⌜ buffer (now (out .exit)) r ≡ append (verdict-line v) (buffer (now (out .entry)) 0) ⌝ }
+{
+    match v {
+        Verdict::Place(n) => session_bytes::key_line(out, 0, b"event=", n as u64),
+        Verdict::NoStep => session_bytes::all_bytes(out, 0, b"none\n"),
+        Verdict::Refused(n) => session_bytes::refusal(out, 0, n),
+    }
+}
