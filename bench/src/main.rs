@@ -1,11 +1,12 @@
 //! Compares and times implementations of a resizable hash set moved one line at a time.
 //!
-//! `bench check [events]` runs random schedules, plans and single calls, `bench time` measures, `bench example` prints what
-//! examples/c prints. With the feature `proved` all run the proved implementation from `libyard_c.a`; where the variable YARDPLAN names the
-//! proved program, the plans are compared with what it prints.
+//! `bench check [events]` runs random schedules, plans and single calls, `bench time` measures, `bench count` is one run to be
+//! measured, `bench example` prints what examples/c prints. With the feature `proved` all run the proved implementation from
+//! `libyard_c.a`; where the variable YARDPLAN names the proved program, the plans are compared with what it prints.
 
 mod calls;
 mod check;
+mod count;
 mod example;
 mod machine;
 mod model;
@@ -17,6 +18,8 @@ mod plan;
 #[cfg(feature = "proved")]
 mod proved;
 mod random;
+mod rows;
+mod scan;
 mod schedule;
 mod time;
 mod yard;
@@ -30,15 +33,18 @@ use std::env;
 use std::process::ExitCode;
 
 const DEFAULT_EVENTS: u64 = 4_000_000;
-const USAGE: &str = "usage: bench check [events] | bench time | bench example";
+const USAGE: &str = "usage: bench check [events] | bench time | bench count ROW plain|schedule|calls EVENTS | bench example";
 
 fn command(arguments: &[&str]) -> Result<(), String> {
     match arguments {
         ["check"] => check::check(DEFAULT_EVENTS),
         ["check", events] => check::check(events.parse().map_err(|_| USAGE.to_string())?),
         ["time"] => {
-            time::time();
+            time::time::<Implementation>();
             Ok(())
+        }
+        ["count", row, implementation, events] => {
+            count::count(row, implementation, events).ok_or(USAGE.to_string())
         }
         ["example"] => {
             example::example::<Implementation>().map_err(|refused| format!("{refused:?}"))

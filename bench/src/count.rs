@@ -1,0 +1,29 @@
+//! `bench count`: one run of one implementation, for a tool that counts its instructions. A row's schedule is always made
+//! whole and its first events are run, so that two runs that differ in their number alone differ by the instructions of the
+//! events between. The script `counts` prints the table.
+
+use crate::machine::MAX_TAGS;
+use crate::rows::{IMPLEMENTATIONS, ROWS};
+use crate::schedule::{EVENT_WORDS, OUTPUT_WORDS};
+use std::hint::black_box;
+
+/// The row by its number, from 1. Prints how many events were run: at most so many.
+pub fn count(row: &str, implementation: &str, at_most: &str) -> Option<()> {
+    let row = ROWS.get(row.parse::<usize>().ok()?.checked_sub(1)?)?;
+    let (_, run) = IMPLEMENTATIONS
+        .into_iter()
+        .find(|&(name, _)| name == implementation)?;
+    let count = row.counted.min(at_most.parse().ok()?);
+    let shape = row.shape();
+    let schedule = row.schedule(row.counted);
+    black_box(run(
+        shape.opening,
+        &mut vec![0; shape.node_words()],
+        &mut vec![0; shape.bucket_words()],
+        &schedule[..count * EVENT_WORDS],
+        &mut vec![0; row.counted * OUTPUT_WORDS],
+        &mut [0; MAX_TAGS],
+    ));
+    println!("{count}");
+    Some(())
+}
