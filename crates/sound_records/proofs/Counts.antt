@@ -1,5 +1,5 @@
--- Counting what fails a test, with no exit on the way: none fails exactly where the test passes throughout. One law for a turn of
--- the loop that counts, whichever way the test goes. Assumes nothing.
+-- Counting neighbours that do not ascend, with no exit on the way: there is none exactly where all ascend. One law for a turn of the
+-- loop that counts, whichever way the test goes. Assumes nothing.
 use mathlib.Core.Path.{_≡_, refl, sym, ap, _∙_}
 use mathlib.Core.List.{List, [], _∷_}
 use mathlib.Core.Bool.{Bool, true, false, _&&_}
@@ -8,40 +8,9 @@ use native.Mathlib.Numerals.{add-one}
 use native.Mathlib.Omega.{arith}
 use borrow.Author.Tests.{le-ltb, lt-ltb, ne-eqb}
 use lib.Dec.{ltb, eqb}
-use lib.ListN.{length, getD, drop, take, drop-of-length-le, length-drop}
+use lib.ListN.{length, getD, drop, length-drop}
 use lib.Seq.{drop-cons}
-use Rattle.spec.specs.Lists.{if_then_else_, every, ascending}
-use Rattle.spec.specs.Sound.{zeros}
-
--- ---- elements that fail
-
-unfoldable pub fails : (ℕ → Bool) → List ℕ → ℕ
-fails f [] = 0
-fails f (x ∷ xs) = if f x then fails f xs else suc (fails f xs)
-
-pub every-fails : (f : ℕ → Bool) (xs : List ℕ) → every f xs ≡ eqb (fails f xs) 0
-unfolding every fails
-every-fails f [] = refl
-every-fails f (x ∷ xs) = go (f x) (every-fails f xs)
-  where
-    go : (b : Bool) → every f xs ≡ eqb (fails f xs) 0 → (b && every f xs) ≡ eqb (if b then fails f xs else suc (fails f xs)) 0
-    go true ih = ih
-    go false ih = sym (ne-eqb (suc (fails f xs)) 0 (λ e. omega arith))
-
-module _ (f : ℕ → Bool) (s : List ℕ) (i : ℕ) (h : i < length s) where
-  pub fails-pass : f (getD s i 0) ≡ true → fails f (drop i s) ≡ fails f (drop (i + 1) s)
-  unfolding fails
-  fails-pass e = rw (add-one, drop-cons s i 0 h, e)
-
-  pub fails-fail : f (getD s i 0) ≡ false → fails f (drop i s) ≡ suc (fails f (drop (i + 1) s))
-  unfolding fails
-  fails-fail e = rw (add-one, drop-cons s i 0 h, e)
-
-pub fails-end : (f : ℕ → Bool) (s : List ℕ) (i : ℕ) → length s ≤ i → fails f (drop i s) ≡ 0
-unfolding fails
-fails-end f s i h = rw (drop-of-length-le s h)
-
--- ---- neighbours that do not ascend
+use Rattle.spec.specs.Lists.{if_then_else_, ascending}
 
 unfoldable pub falls : List ℕ → ℕ
 falls [] = 0

@@ -2,14 +2,14 @@
 -- Assumes nothing.
 use mathlib.Core.Path.{_≡_}
 use mathlib.Core.List.{List}
-use mathlib.Core.Bool.{Bool, true, false}
+use mathlib.Core.Bool.{true, false}
 use Prim.Native.Nat.{ℕ, suc, _+_, _-_, _*_, _<_, _≤_}
 use native.Mathlib.Numerals.{add-one}
 use native.Mathlib.Omega.{arith}
 use borrow.Author.Tests.{eq-eqb, ne-eqb}
 use lib.ListN.{length, getD, drop, drop-of-length-le}
 use lib.Seq.{drop-cons, drop-drop}
-use Rattle.spec.specs.Lists.{member, all-true}
+use Rattle.spec.specs.Lists.{member}
 use Rattle.spec.specs.Machine.{Machine}
 use Rattle.spec.specs.Sound.{sound-node, sound-nodes, sound-bucket, sound-buckets}
 
@@ -25,21 +25,6 @@ module _ (s : List ℕ) (i : ℕ) (h : i < length s) where
 pub member-end : (x : ℕ) (s : List ℕ) (i : ℕ) → length s ≤ i → member x (drop i s) ≡ false
 unfolding member
 member-end x s i h = rw (drop-of-length-le s h)
-
--- ---- conditions, one by one
-
-module _ (w : List Bool) (i : ℕ) (h : i < length w) where
-  pub all-on : getD w i false ≡ true → all-true (drop i w) ≡ all-true (drop (i + 1) w)
-  unfolding all-true
-  all-on e = rw (add-one, drop-cons w i false h, e)
-
-  pub all-not : getD w i false ≡ false → all-true (drop i w) ≡ false
-  unfolding all-true
-  all-not e = rw (drop-cons w i false h, e)
-
-pub all-end : (w : List Bool) (i : ℕ) → length w ≤ i → all-true (drop i w) ≡ true
-unfolding all-true
-all-end w i h = rw (drop-of-length-le w h)
 
 -- ---- the pools, record by record
 

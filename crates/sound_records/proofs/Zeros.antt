@@ -1,9 +1,9 @@
 -- Words that are all 0, tested by their bitwise or: it is 0 exactly where each is. One law for the loop's start, one for a turn
 -- and one for its end.
 -- Assumes nothing.
-use mathlib.Core.Path.{_≡_, refl}
+use mathlib.Core.Path.{_≡_}
 use mathlib.Core.List.{List}
-use mathlib.Core.Bool.{Bool, true, false, _&&_}
+use mathlib.Core.Bool.{_&&_}
 use Prim.Native.Nat.{ℕ, zero, suc, _+_, _-_, _<_, _≤_}
 use native.Mathlib.Omega.{arith}
 use borrow.Author.Tests.{ne-eqb}
@@ -12,6 +12,7 @@ use lib.Dec.{eqb}
 use lib.ListN.{length, getD, drop}
 use lib.Seq.{drop-cons}
 use Rattle.spec.specs.Sound.{zeros}
+use Rattle.sound_records.proofs.Joined.{and-assoc, and-true}
 
 or-of-nonzero : (a x : ℕ) → (a ≡ 0 → ⊥) → bitOr a x ≡ 0 → ⊥
 or-of-nonzero a x h e =
@@ -36,16 +37,8 @@ module _ (w : List ℕ) (f n j a : ℕ) where
   or-turn h l =
       let e : n - j ≡ suc (n - (j + 1)) = omega arith in
       let d : f + (j + 1) ≡ suc (f + j) = omega arith in
-      rw (e, d, drop-cons w (f + j) 0 l, or-zero a (getD w (f + j) 0)) (assoc (eqb a 0) (eqb (getD w (f + j) 0) 0) (zeros (n - (j + 1)) (drop (suc (f + j)) w)))
-    where
-      assoc : (p q r : Bool) → ((p && q) && r) ≡ (p && (q && r))
-      assoc true q r = refl
-      assoc false q r = refl
+      rw (e, d, drop-cons w (f + j) 0 l, or-zero a (getD w (f + j) 0)) (and-assoc (eqb a 0) (eqb (getD w (f + j) 0) 0) (zeros (n - (j + 1)) (drop (suc (f + j)) w)))
 
   pub or-end : n ≤ j → (eqb a 0 && zeros (n - j) (drop (f + j) w)) ≡ eqb a 0
   unfolding zeros
-  or-end h = let e : n - j ≡ 0 = omega arith in rw e (right (eqb a 0))
-    where
-      right : (p : Bool) → (p && true) ≡ p
-      right true = refl
-      right false = refl
+  or-end h = let e : n - j ≡ 0 = omega arith in rw e (and-true (eqb a 0))

@@ -29,19 +29,18 @@ pub fn within(lo: u32, hi: u32, n: u32) -> bool
     n <= hi
 }
 
-// Each of the conditions holds.
+// Each of the conditions holds. Here and in the loops over a record's words below there is no exit on the way, so that the loop is
+// compiled to vector instructions; a scan exits between records.
 pub fn all_true(w: &[bool]) -> bool
     ensures { λ r. ⌜ r ≡ all-true (now (w .entry)) ⌝ }
 {
+    let mut all = true;
     let mut i = 0;
     while i < w.len() {
-        let holds = w[i];
-        if !holds {
-            return false;
-        }
+        all = all & w[i];
         i += 1;
     }
-    true
+    all
 }
 
 pub fn among(x: u32, s: &[u32]) -> bool
@@ -57,8 +56,7 @@ pub fn among(x: u32, s: &[u32]) -> bool
     false
 }
 
-// The n words from this one on are 0: their bitwise or is. Here and in the two loops below, which count the words that fail, there is
-// no exit on the way, so that the loop is compiled to vector instructions; a scan exits between records.
+// The n words from this one on are 0: their bitwise or is.
 pub fn zero_words(w: &[u32], first: usize, n: usize) -> bool
     requires { ⌜ first + n ≤ length (now w) ⌝ }
     ensures { λ r. ⌜ r ≡ zeros n (drop first (now (w .entry))) ⌝ }
@@ -109,17 +107,16 @@ pub fn all_within(s: &[u32], b: u32) -> bool
     requires { ⌜ length (now s) ≤ 64 ⌝ }
     ensures { λ r. ⌜ r ≡ every (λ l. leb l b) (now (s .entry)) ⌝ }
 {
-    let mut bad: u32 = 0;
+    let mut all = true;
     let mut i = 0;
     while i < s.len() {
-        if b < s[i] {
-            bad += 1;
-        }
+        all = all & (s[i] <= b);
         i += 1;
     }
-    bad == 0
+    all
 }
 
+// Those that do not ascend are counted: of tests joined as above the compiler makes more instructions here.
 fn is_ascending(s: &[u32]) -> bool
     requires { ⌜ length (now s) ≤ 64 ⌝ }
     ensures { λ r. ⌜ r ≡ ascending (now (s .entry)) ⌝ }
@@ -148,14 +145,15 @@ fn node_ok(w: &[u32], ns: &[u32], h: u32, b: u32) -> bool
     if !link_ok(ns, h, p) {
         return false;
     }
-    if !all_within(&w[2..NODE_WORDS], b) {
-        return false;
-    }
     if pool::PLACES < z {
         return false;
     }
     let n = z as usize;
-    zero_words(w, 2 + n, PLACES - n)
+    let e = 2 + n;
+    if !all_within(&w[2..e], b) {
+        return false;
+    }
+    zero_words(w, e, PLACES - n)
 }
 
 pub fn nodes_ok(ns: &[u32], h: u32, b: u32) -> bool

@@ -1,33 +1,27 @@
--- `sound_records::all_true` meets its contract: whether all hold is whether all that are left do. Assumes nothing.
+-- `sound_records::all_true` meets its contract: those passed hold and those to come hold, exactly where all do. Assumes nothing.
 use mathlib.Core.Path.{_≡_, refl, sym, _∙_}
+use mathlib.Core.Bool.{_&&_}
 use Prim.Native.Nat.{_≤_, _-_}
 use denote.Ref.{now}
-use borrow.Author.Tests.{not-true, not-false}
 use lib.ListN.{length, drop}
 use Rattle.spec.specs.Lists.{all-true}
-use Rattle.sound_records.proofs.Laws.{all-on, all-not, all-end}
+use Rattle.sound_records.proofs.Joined.{all-turn, all-end}
 use native.Mathlib.Omega.{arith}
 use borrow.Author.Needs.{needs}
 use Rattle.sound_records.proofs.all_true.Statement.{statement}
 use Rattle.sound_records.proofs.all_true.Tie as tie
 
 abbrev Inv-loop : tie.InvT-loop
-Inv-loop w i₀ i = (i ≤ length w) × (all-true w ≡ all-true (drop i w))
+Inv-loop w all₀ i₀ all i = (i ≤ length w) × ((all && all-true (drop i w)) ≡ all-true w)
 
 abbrev μ-loop : tie.MeasureT-loop
-μ-loop w i₀ i = length w - i
+μ-loop w all₀ i₀ all i = length w - i
 
 loop-holds : tie.Need-loop-holds Inv-loop μ-loop
 loop-holds c = (omega arith, refl)
 
-shared-slice-read-holds : tie.Need-shared-slice-read-holds Inv-loop μ-loop
-shared-slice-read-holds c = search needs
-
-returns : tie.Need-returns Inv-loop μ-loop
-returns c =
-    let loop = c .before .before .before .loop in
-    let w = now (c .before .before .before .before .args .w) in
-    sym (loop .inv .1 ∙ all-not w (loop .i) (omega arith) (not-true _ (c .if1 .taken)))
+shared-slice-read-all : tie.Need-shared-slice-read-all Inv-loop μ-loop
+shared-slice-read-all c = search needs
 
 add-i : tie.Need-add-i Inv-loop μ-loop
 add-i c = search needs
@@ -37,25 +31,15 @@ loop-less c = search needs
 
 loop-again : tie.Need-loop-again Inv-loop μ-loop
 loop-again c =
-    let loop = c .before .before .before .loop in
-    let w = now (c .before .before .before .before .args .w) in
-    (omega arith, loop .inv .1 ∙ all-on w (loop .i) (omega arith) (not-false _ (c .if1 .left)))
+    let loop = c .before .before .loop in
+    let w = c .before .before .before .args .w .now in
+    (omega arith, all-turn w (loop .i) (loop .all) (omega arith) ∙ loop .inv .1)
 
-returns-2 : tie.Need-returns-2 Inv-loop μ-loop
-returns-2 c =
+returns : tie.Need-returns Inv-loop μ-loop
+returns c =
     let loop = c .before .loop in
-    sym (loop .inv .1 ∙ all-end (now (c .before .before .args .w)) (loop .i) (omega arith))
+    let w = now (c .before .before .args .w) in
+    sym (all-end w (loop .i) (loop .all) (omega arith)) ∙ loop .inv .1
 
 pub all-true-spec : {M : Type 1} → statement M
-all-true-spec =
-    tie.close
-    (tie.spec
-    Inv-loop
-    μ-loop
-    loop-holds
-    shared-slice-read-holds
-    returns
-    add-i
-    loop-less
-    loop-again
-    returns-2)
+all-true-spec = tie.close (tie.spec Inv-loop μ-loop loop-holds shared-slice-read-all add-i loop-less loop-again returns)
