@@ -21,7 +21,7 @@ pub and-true : (p : Bool) → (p && true) ≡ p
 and-true true = refl
 and-true false = refl
 
-and-false : (p : Bool) → (p && false) ≡ false
+pub and-false : (p : Bool) → (p && false) ≡ false
 and-false true = refl
 and-false false = refl
 

@@ -1,14 +1,18 @@
 -- Laws of a list of conditions and of the loop over the tasks.
 -- Assumes nothing.
-use mathlib.Core.Path.{_≡_, refl}
+use mathlib.Core.Path.{_≡_, refl, sym, ap, _∙_}
 use mathlib.Core.List.{List, [], _∷_}
-use mathlib.Core.Bool.{Bool, true, false}
-use Prim.Native.Nat.{ℕ, _+_, _<_, _≤_}
+use mathlib.Core.Bool.{Bool, true, false, not, _&&_}
+use Prim.Native.Nat.{ℕ, suc, _+_, _<_, _≤_}
 use native.Mathlib.Numerals.{add-one}
-use lib.ListN.{length, getD, drop, drop-of-length-le}
+use lib.ListN.{length, getD, drop, drop-of-length-le, List·getD-eq-default}
 use lib.Seq.{drop-cons}
-use Rattle.spec.specs.Machine.{Machine}
-use Rattle.spec.specs.Sound.{sound-task, sound-tasks}
+use borrow.Author.Tests.{le-ltb}
+use Rattle.spec.specs.Lists.{if_then_else_}
+use Rattle.spec.specs.Machine.{Machine, idle, task-of}
+use Rattle.spec.specs.Sound.{zero-task, sound-running, sound-task, sound-tasks}
+use Rattle.sound_records.proofs.Joined.{and-assoc, and-true, and-false}
+use Rattle.soundness.specs.Told.{told}
 use Rattle.spec.specs.declared.Task.{Task}
 
 -- ---- conditions as they are tested and as they are defined, one by one
@@ -24,7 +28,20 @@ same-list (_also_ e l) = rw (e, same-list l)
 
 -- ---- the tasks
 
+-- a task from T on
+pub from-T : (y : Machine) (k : ℕ) (c : Task) → y .state .config .tasks ≤ k → sound-task y k c ≡ (zero-task c && not (c .running))
+unfolding sound-task sound-running
+from-T y k c h = rw (le-ltb k (y .state .config .tasks) h) (go (c .running) (zero-task c))
+  where
+    go : (b z : Bool) → (if b then false else z) ≡ (z && not b)
+    go true z = sym (and-false z)
+    go false z = sym (and-true z)
+
 module _ (y : Machine) (ts : List Task) (k : ℕ) (d : Task) (h : k < length ts) where
+  pub tasks-joined : (a : Bool) → ((a && sound-task y k (getD ts k d)) && sound-tasks y (k + 1) (drop (k + 1) ts)) ≡ (a && sound-tasks y k (drop k ts))
+  unfolding sound-tasks
+  tasks-joined a = rw (add-one, drop-cons ts k d h) (and-assoc a (sound-task y k (getD ts k d)) (sound-tasks y (suc k) (drop (suc k) ts)))
+
   pub tasks-on : sound-task y k (getD ts k d) ≡ true → sound-tasks y k (drop k ts) ≡ sound-tasks y (k + 1) (drop (k + 1) ts)
   unfolding sound-tasks
   tasks-on e = rw (add-one, drop-cons ts k d h, e)
@@ -36,3 +53,20 @@ module _ (y : Machine) (ts : List Task) (k : ℕ) (d : Task) (h : k < length ts)
 pub tasks-end : (y : Machine) (ts : List Task) (k : ℕ) → length ts ≤ k → sound-tasks y k (drop k ts) ≡ true
 unfolding sound-tasks
 tasks-end y ts k h = rw (drop-of-length-le ts h)
+
+-- what is told of all by those joined and those to come
+pub joined-none : (a r : Bool) {t : Bool} → (a && r) ≡ t → a ≡ false → t ≡ false
+joined-none a r e f = sym e ∙ ap (λ (b : Bool). b && r) f
+
+pub joined-all : (a r : Bool) {t : Bool} → (a && r) ≡ t → a ≡ true → r ≡ true → t ≡ true
+joined-all a r e f g = sym e ∙ ap (λ (b : Bool). b && r) f ∙ g
+
+-- ---- the record that goes with a check
+
+pub told-sound : {b : Bool} {c : Task} → b ≡ true → told b c ≡ record { sound = true; task = c }
+unfolding told
+told-sound e = rw e
+
+pub no-such-task : (y : Machine) (j : ℕ) → length (y .state .task) ≡ 8 → 8 ≤ j → task-of y j ≡ idle
+unfolding task-of
+no-such-task y j l h = List·getD-eq-default (y .state .task) idle (rw l h)

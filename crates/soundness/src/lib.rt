@@ -4,15 +4,33 @@ use spec::Config;
 use spec::State;
 use spec::Task;
 ghost use mathlib.Core.Path.{_≡_};
-ghost use mathlib.Core.Bool.{not, _&&_, _||_};
+ghost use mathlib.Core.Bool.{false, not, _&&_, _||_};
 ghost use mathlib.Core.List.{[], _∷_};
-ghost use Prim.Native.Nat.{_*_};
+ghost use Prim.Native.Nat.{ℕ, _*_, _≤_};
 ghost use lib.Dec.{eqb, ltb};
 ghost use lib.ListN.{length};
 ghost use Rattle.spec.specs.Lists.{member, every};
-ghost use Rattle.spec.specs.Machine.{Machine, machine-of};
+ghost use Rattle.spec.specs.Machine.{Machine, machine-of, task-of};
 ghost use Rattle.spec.specs.Words.{size};
 ghost use Rattle.spec.specs.Sound.{config-sound, node-link, resizes, zero-task, sound-running, lines-of, sound-task, sound-tasks, sound-numbers, sound};
+ghost use Rattle.soundness.specs.Told.{told, checked-of};
+
+// What a check of all memory gives: whether it is sound and, where it is, the record of one task; an idle record elsewhere.
+pub struct Checked {
+    pub sound: bool,
+    pub task: Task,
+}
+
+// Memory is not sound.
+fn unsound() -> Checked
+    ensures { λ r. ⌜ ((c : Task) → r ≡ told false c) ⌝ }
+{
+    let c = state::idle();
+    Checked {
+        sound: false,
+        task: c,
+    }
+}
 
 // A line of the call, by its number.
 fn line_ok(call: u32, line: u32) -> bool
@@ -117,22 +135,54 @@ fn task_ok(c: Task, k: u32, t: u32, ns: &[u32], h: u32, b: u32) -> bool
     idle_ok(c)
 }
 
-fn tasks_ok(s: State, ns: &[u32]) -> bool
-    ensures { λ r. ⌜ ((y : Machine) → y .nodes ≡ now (ns .entry) → y .state ≡ s → r ≡ sound-tasks y 0 (s .task)) ⌝ }
+// A task from T on: it does not run, and its record is zeros.
+fn unused_ok(c: Task) -> bool
+    ensures { λ r. ⌜ ((y : Machine) (k : ℕ) → y .state .config .tasks ≤ k → r ≡ sound-task y k c) ⌝ }
+{
+    let running = c.running;
+    idle_ok(c) & !running
+}
+
+// The records of the tasks below T one by one, then those from T on, with no exit on the way; and the record of task j. All in one
+// function: each that indexes the records makes a copy of them.
+fn tasks_ok(s: State, j: u32, ns: &[u32]) -> Checked
+    requires { ⌜ s .config .tasks ≤ 8 ⌝ }
+    ensures { λ r. ⌜ ((y : Machine) → y .nodes ≡ now (ns .entry) → y .state ≡ s → r ≡ told (sound-tasks y 0 (s .task)) (task-of y j)) ⌝ }
 {
     let ts = s.task;
     let t = s.config.tasks;
     let h = s.nodes;
     let b = s.buckets;
+    let n = t as usize;
     let mut k: usize = 0;
-    while k < 8 {
+    while k < n {
         let c = ts[k];
         if !task_ok(c, k as u32, t, ns, h, b) {
-            return false;
+            return unsound();
         }
         k += 1;
     }
-    true
+    let mut all = true;
+    while k < 8 {
+        let c = ts[k];
+        all = all & unused_ok(c);
+        k += 1;
+    }
+    if !all {
+        return unsound();
+    }
+    if 8 <= j {
+        let c = state::idle();
+        return Checked {
+            sound: true,
+            task: c,
+        };
+    }
+    let c = ts[j as usize];
+    Checked {
+        sound: true,
+        task: c,
+    }
 }
 
 // What the state keeps of its opening: a line for each condition of `config-sound`.
@@ -170,20 +220,28 @@ fn numbers_ok(s: State, ns: &[u32], bs: &[u32]) -> bool
     sound_records::all_true(&w)
 }
 
-// Refusal 8, as far as it does not depend on the entry called.
-pub fn sound(s: State, ns: &[u32], bs: &[u32]) -> bool
-    ensures { λ r. ⌜ r ≡ sound (machine-of s (now (ns .entry)) (now (bs .entry))) ⌝ }
+// Refusal 8, as far as it does not depend on the entry called, and the record of task j.
+pub fn check(s: State, j: u32, ns: &[u32], bs: &[u32]) -> Checked
+    ensures { λ r. ⌜ r ≡ checked-of (machine-of s (now (ns .entry)) (now (bs .entry))) j ⌝ }
 {
     if !numbers_ok(s, ns, bs) {
-        return false;
+        return unsound();
     }
     let h = s.nodes;
     let b = s.buckets;
     if !sound_records::nodes_ok(ns, h, b) {
-        return false;
+        return unsound();
     }
     if !sound_records::buckets_ok(bs, b as usize) {
-        return false;
+        return unsound();
     }
-    tasks_ok(s, ns)
+    tasks_ok(s, j, ns)
+}
+
+// Refusal 8 alone.
+pub fn sound(s: State, ns: &[u32], bs: &[u32]) -> bool
+    ensures { λ r. ⌜ r ≡ sound (machine-of s (now (ns .entry)) (now (bs .entry))) ⌝ }
+{
+    let d = check(s, 0, ns, bs);
+    d.sound
 }

@@ -1,86 +1,17 @@
--- `soundness::sound` meets its contract: each early return is one of the four parts of `sound` that fails. Assumes nothing.
-use mathlib.Core.Path.{refl, sym, _∙_}
-use denote.Ref.{now}
-use borrow.Author.Tests.{not-true, not-false}
-use Rattle.spec.specs.Machine.{Machine, machine-of}
-use Rattle.spec.specs.Sound.{sound}
-use Rattle.pool.proofs.Laws.{numbers}
-use native.Mathlib.Omega.{arith}
+-- `soundness::sound` meets its contract: it is the first part of what `check` gives. Assumes nothing.
+use mathlib.Core.Path.{ap}
 use borrow.Author.Needs.{needs}
+use Rattle.soundness.specs.Told.{told}
+use Rattle.soundness.specs.declared.Checked.{Checked}
 use Rattle.soundness.proofs.sound.Statement.{statement}
 use Rattle.soundness.proofs.sound.Tie as tie
 
-numbers-ok-requires : tie.Need-numbers-ok-requires
-numbers-ok-requires c κs = search needs
+check-requires : tie.Need-check-requires
+check-requires c κs = search needs
 
 returns : tie.Need-returns
-unfolding sound
-returns c = rw (sym (c .before .numbers-ok .ensures) ∙ not-true _ (c .if1 .taken))
-
-nodes-ok-requires : tie.Need-nodes-ok-requires
-nodes-ok-requires c κs =
-    let a = c .before .before .before .before .args in
-    let Y : Machine = machine-of (a .s) (now (a .ns)) (now (a .bs)) in
-    let n = numbers Y (sym (c .before .numbers-ok .ensures) ∙ not-false _ (c .if1 .left)) in
-    omega arith
-
-returns-2 : tie.Need-returns-2
-unfolding sound
-returns-2 c =
-    let at-if1 = c .before .before in
-    let a = at-if1 .before .before .before .before .args in
-    let Y : Machine = machine-of (a .s) (now (a .ns)) (now (a .bs)) in
-    let numbers-sound = sym (at-if1 .before .numbers-ok .ensures) ∙ not-false _ (at-if1 .if1 .left) in
-    rw (numbers-sound, sym (c .before .nodes-ok .ensures Y refl refl refl) ∙ not-true _ (c .if2 .taken))
-
-cast-buckets-ok : tie.Need-cast-buckets-ok
-cast-buckets-ok c = search needs
-
-buckets-ok-requires : tie.Need-buckets-ok-requires
-buckets-ok-requires c κs =
-    let at-if1 = c .before .before in
-    let a = at-if1 .before .before .before .before .args in
-    let Y : Machine = machine-of (a .s) (now (a .ns)) (now (a .bs)) in
-    let n = numbers Y (sym (at-if1 .before .numbers-ok .ensures) ∙ not-false _ (at-if1 .if1 .left)) in
-    omega arith
-
-returns-3 : tie.Need-returns-3
-unfolding sound
-returns-3 c =
-    let at-if2 = c .before .before in
-    let at-if1 = at-if2 .before .before in
-    let a = at-if1 .before .before .before .before .args in
-    let Y : Machine = machine-of (a .s) (now (a .ns)) (now (a .bs)) in
-    let numbers-sound = sym (at-if1 .before .numbers-ok .ensures) ∙ not-false _ (at-if1 .if1 .left) in
-    let nodes-sound = sym (at-if2 .before .nodes-ok .ensures Y refl refl refl) ∙ not-false _ (at-if2 .if2 .left) in
-    rw (numbers-sound, nodes-sound, sym (c .before .buckets-ok .ensures) ∙ not-true _ (c .if3 .taken))
-
-tasks-ok-requires : tie.Need-tasks-ok-requires
-tasks-ok-requires c κs = search needs
-
-returns-4 : tie.Need-returns-4
-unfolding sound
-returns-4 c =
-    let at-if3 = c .before in
-    let at-if2 = at-if3 .before .before in
-    let at-if1 = at-if2 .before .before in
-    let a = at-if1 .before .before .before .before .args in
-    let Y : Machine = machine-of (a .s) (now (a .ns)) (now (a .bs)) in
-    let numbers-sound = sym (at-if1 .before .numbers-ok .ensures) ∙ not-false _ (at-if1 .if1 .left) in
-    let nodes-sound = sym (at-if2 .before .nodes-ok .ensures Y refl refl refl) ∙ not-false _ (at-if2 .if2 .left) in
-    let buckets-sound = sym (at-if3 .before .buckets-ok .ensures) ∙ not-false _ (at-if3 .if3 .left) in
-    rw (numbers-sound, nodes-sound, buckets-sound) (c .tasks-ok .ensures Y refl refl)
+unfolding told
+returns c = ap (λ (d : Checked). d .sound) (c .check .ensures)
 
 pub sound-spec : {M : Type 1} → statement M
-sound-spec =
-    tie.close
-    (tie.spec
-    numbers-ok-requires
-    returns
-    nodes-ok-requires
-    returns-2
-    cast-buckets-ok
-    buckets-ok-requires
-    returns-3
-    tasks-ok-requires
-    returns-4)
+sound-spec = tie.close (tie.spec check-requires returns)
