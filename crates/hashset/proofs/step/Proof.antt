@@ -5,8 +5,11 @@ use borrow.Author.Needs.{needs}
 use Rattle.hashset.proofs.step.Statement.{statement}
 use Rattle.hashset.proofs.step.Tie as tie
 
-moved-by-step-requires : tie.Need-moved-by-step-requires
-moved-by-step-requires c κs = search needs
+check-requires : tie.Need-check-requires
+check-requires c κs = search needs
+
+step-checked-requires : tie.Need-step-checked-requires
+step-checked-requires c κs = search needs
 
 settle-requires : tie.Need-settle-requires
 settle-requires c κs = search needs
@@ -18,8 +21,8 @@ same-length-2 : tie.Need-same-length-2
 same-length-2 c = search needs
 
 returns : tie.Need-returns
-returns c = c .settle .ensures _ _ ∙ c .before .before .before .before .before .moved-by-step .ensures .reply
+returns c = c .settle .ensures _ _ ∙ c .before .before .before .before .before .step-checked .ensures .reply
 
 pub step-spec : {M : Type 1} → statement M
 step-spec =
-    tie.close (tie.spec moved-by-step-requires settle-requires same-length same-length-2 returns)
+    tie.close (tie.spec check-requires step-checked-requires settle-requires same-length same-length-2 returns)
