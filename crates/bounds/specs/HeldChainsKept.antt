@@ -33,7 +33,8 @@ use Rattle.laws.specs.AfterWrites.{after-task, after-place, after-pred, after-n
 use Rattle.laws.specs.Held.{HeldNode, the-head, as-t, as-s, before}
 use Rattle.laws.specs.Taking.{some-node}
 use Rattle.laws.specs.StepRefusals.{StepSound, step-sound-facts, not-all-held}
-use Rattle.laws.specs.EntriesKeep.{StartOutcome, StepOutcome, start-no-task, start-running, start-withdrawn, start-accepted, start-outcome, step-no-task, step-idle}
+use Rattle.laws.specs.EntriesKeep.{StartOutcome, StepOutcome, start-no-task, start-running, start-withdrawn, start-accepted, start-outcome, step-no-task}
+use Rattle.laws.specs.EntriesKeep.{step-idle}
 use Rattle.laws.specs.EntriesKeep.{step-unsound, step-all-held, step-accepted, step-outcome}
 use Rattle.model.specs.Positions.{Fill, at-39, at-40, at-43, at-44, at-46, at-47, at-48, at-52, at-49, at-50, at-51, at-12, at-13, at-15, at-16}
 use Rattle.model.specs.Positions.{at-17, at-18, Update, at-32, at-33, at-36, Resize, at-20, at-24, at-27, at-28, Position, no-call, lookup, update}

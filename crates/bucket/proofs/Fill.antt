@@ -35,7 +35,8 @@ length-add x (y ∷ ys) = go (ltb x y) (eqb x y) (length-add x ys)
     go false false h = omega arith
 
 pub length-put : (x : ℕ) (ts : List ℕ) → found x ts ≡ false → length (add-tag x ts) ≡ length ts + 1
-length-put x ts m = rw (add-rank x ts m, length-append (take (rank x ts) ts) (x ∷ drop (rank x ts) ts), length-take (rank x ts) ts, length-drop (rank x ts) ts) (omega arith)
+length-put x ts m =
+    rw (add-rank x ts m, length-append (take (rank x ts) ts) (x ∷ drop (rank x ts) ts), length-take (rank x ts) ts, length-drop (rank x ts) ts) (omega arith)
 
 -- what `added` makes of a changeable bucket with the tags ts
 pub record Adds (a : Changed) (ts : List ℕ) (x : ℕ) : Type 0 where

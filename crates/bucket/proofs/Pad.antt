@@ -71,7 +71,8 @@ module _ (ws : List ℕ) where
   tags-front p h = ap (λ (l : List ℕ). take p l) tags-words ∙ take-take p (length (tags-in ws)) (drop 2 ws) h
 
   pub tags-back : (p : ℕ) → drop p (tags-in ws) ≡ take (length (tags-in ws) - p) (drop (2 + p) ws)
-  tags-back p = ap (λ (l : List ℕ). drop p l) tags-words ∙ drop-take p (length (tags-in ws)) (drop 2 ws) ∙ ap (λ (l : List ℕ). take (length (tags-in ws) - p) l) (drop-drop p 2 ws)
+  tags-back p = ap (λ (l : List ℕ). drop p l) tags-words ∙ drop-take p (length (tags-in ws)) (drop 2 ws)
+      ∙ ap (λ (l : List ℕ). take (length (tags-in ws) - p) l) (drop-drop p 2 ws)
 
 -- two copies with a word between
 module _ (f n p : ℕ) (ws : List ℕ) (len : length ws ≡ 66) (en : n ≡ length (tags-in ws)) (o₁ o₂ : List ℕ) where
@@ -144,7 +145,8 @@ module _ (f n p : ℕ) (ws : List ℕ) (len : length ws ≡ 66) (en : n ≡ leng
       cut-words hn hp e₁ e₂ ∙ words-bucket f (cutAt p (tags-in ws)) ∙ rw (ep, remove-rank x (tags-in ws) m)
 
 -- the tags in a bucket with the flag f
-pub fresh-words : (f : ℕ) (ws o : List ℕ) → length ws ≡ 66 → o ≡ paste (set (set (replicate 66 0) 0 f) 1 (length (tags-in ws))) 2 (drop 2 ws) (length (tags-in ws))
+pub fresh-words : (f : ℕ) (ws o : List ℕ) → length ws ≡ 66 → o ≡ paste (set (set (replicate 66 0) 0 f) 1 (length (tags-in ws))) 2 (drop 2 ws)
+    (length (tags-in ws))
     → o ≡ wordsOf f (tags-in ws)
 unfolding padded
 fresh-words f ws o len e =

@@ -126,7 +126,8 @@ impl Bucket {
 
     // The changeable bucket with a tag more, at position p.
     fn put(self, n: usize, p: usize, tag: u32) -> Bucket
-        requires { ⌜ (n ≡ length (tags-in (self .words))) × (n < 64) × (p ≤ n) × (p ≡ rank tag (tags-in (self .words))) × (found tag (tags-in (self .words)) ≡ false) ⌝ }
+        requires { ⌜ (n ≡ length (tags-in (self .words))) × (n < 64) × (p ≤ n) × (p ≡ rank tag (tags-in (self .words)))
+            × (found tag (tags-in (self .words)) ≡ false) ⌝ }
         ensures { λ r. ⌜ r .words ≡ bucket-of 1 (add-tag tag (tags-in (self .words))) ⌝ }
     {
         let w = self.words;
@@ -141,7 +142,8 @@ impl Bucket {
 
     // The changeable bucket without the tag at position p.
     fn cut(self, n: usize, p: usize, tag: u32) -> Bucket
-        requires { ⌜ (n ≡ length (tags-in (self .words))) × (n ≤ 64) × (p < n) × (p ≡ rank tag (tags-in (self .words))) × (found tag (tags-in (self .words)) ≡ true) ⌝ }
+        requires { ⌜ (n ≡ length (tags-in (self .words))) × (n ≤ 64) × (p < n) × (p ≡ rank tag (tags-in (self .words)))
+            × (found tag (tags-in (self .words)) ≡ true) ⌝ }
         ensures { λ r. ⌜ r .words ≡ bucket-of 1 (remove-tag tag (tags-in (self .words))) ⌝ }
     {
         let w = self.words;

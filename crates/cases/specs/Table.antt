@@ -9,7 +9,8 @@ use Rattle.spec.specs.Lists.{range}
 use Rattle.spec.specs.Machine.{config-of}
 use Rattle.spec.specs.Schedule.{starts, steps}
 use Rattle.spec.specs.Everything.{everything}
-use Rattle.spec.specs.Rows.{Case, expected, observed, stepping, calling, inserting, times, in-three, gaining, ended, counted, filling, first-grow, grow-to-24, grow-filling, waiting, waiting-outs}
+use Rattle.spec.specs.Rows.{Case, expected, observed, stepping, calling, inserting, times, in-three, gaining, ended, counted, filling, first-grow}
+use Rattle.spec.specs.Rows.{grow-to-24, grow-filling, waiting, waiting-outs}
 
 unfoldable pub table : List Case
 table =

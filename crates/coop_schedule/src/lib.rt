@@ -36,7 +36,8 @@ fn run_event(s: State, kind: u32, task: u32, n: u32, tag: u32, vs: &mut [u32]) -
 fn run_events(s: State, n: usize, events: &[u32], vs: &mut [u32], outs: &mut [u32]) -> State
     requires { ⌜ (4 * n ≤ length (now events)) × (4 * n ≤ length (now outs)) ⌝ }
     ensures { λ r. ⌜ (machine-of r (now (vs .exit)) ≡ run (machine-of s (now (vs .entry))) (events-of n (now (events .entry))) .machine)
-        × (now (outs .exit) ≡ overwrite (now (outs .entry)) 0 (concat-map output-words (run (machine-of s (now (vs .entry))) (events-of n (now (events .entry))) .outs))) ⌝ }
+        × (now (outs .exit) ≡ overwrite (now (outs .entry)) 0 (concat-map output-words
+        (run (machine-of s (now (vs .entry))) (events-of n (now (events .entry))) .outs))) ⌝ }
 {
     let mut t = s;
     let mut i = 0;
@@ -95,7 +96,8 @@ pub extern "C" fn coop_schedule_run(
     events: &[u32],
     outs: &mut [u32],
 ) -> u32
-    ensures { λ r. ⌜ c-result r (now (vs .exit)) (now (outs .exit)) ≡ c-result-of (run-words tasks (now (vs .entry)) (now (events .entry)) (now (outs .entry))) ⌝ }
+    ensures { λ r. ⌜ c-result r (now (vs .exit)) (now (outs .exit))
+        ≡ c-result-of (run-words tasks (now (vs .entry)) (now (events .entry)) (now (outs .entry))) ⌝ }
 {
     let o = run(tasks, vs, events, outs);
     if o.refusal != 0 {

@@ -21,7 +21,9 @@ use Rattle.laws.specs.Withdrawn.{InsertOfZero}
 use Rattle.laws.specs.StepRefusals.{StepSound}
 use Rattle.laws.specs.Held.{HeldNode, HeldBucket}
 use Rattle.laws.specs.Taking.{AllHeld, all-nodes, all-buckets}
-use Rattle.corollaries.specs.Tables.{Within, Records, OpeningRefused, StartRefused, StepRefused, ListRefused, opening-refused, start-refused, step-refused, list-refused, is-1, is-2, is-3, is-4, is-5, is-6, is-7, is-8, is-8-step, is-8-list, is-9, is-11, is-14}
+use Rattle.corollaries.specs.Tables.{Within, Records, OpeningRefused, StartRefused, StepRefused, ListRefused, opening-refused, start-refused}
+use Rattle.corollaries.specs.Tables.{step-refused, list-refused, is-1, is-2, is-3, is-4, is-5, is-6, is-7, is-8, is-8-step, is-8-list, is-9, is-11}
+use Rattle.corollaries.specs.Tables.{is-14}
 
 module _ (g : Config) (ns bs : List ℕ) where
   -- 1: T is not 1 to 8
@@ -46,7 +48,8 @@ module _ (g : Config) (ns bs : List ℕ) where
 
   -- 3: both are right, and the bucket slice is not 66 × B words with B from 1 to 1,024
   pub refusal-3 : opening g ns bs .refusal ≡ 3 ↔ (Within 1 8 (g .tasks) × Records 34 64 ns × (¬ Records 66 1024 bs))
-  refusal-3 = ((λ e. go (opening-refused g ns bs 3 (λ z. omega arith) .0 e)), (λ h. opening-refused g ns bs 3 (λ z. omega arith) .1 (is-3 refl (h .0) (h .1) (h .2))))
+  refusal-3 =
+      ((λ e. go (opening-refused g ns bs 3 (λ z. omega arith) .0 e)), (λ h. opening-refused g ns bs 3 (λ z. omega arith) .1 (is-3 refl (h .0) (h .1) (h .2))))
     where
       go : OpeningRefused g ns bs 3 → Within 1 8 (g .tasks) × Records 34 64 ns × (¬ Records 66 1024 bs)
       go (is-1 e n) = absurd (omega arith)
@@ -56,7 +59,10 @@ module _ (g : Config) (ns bs : List ℕ) where
 
   -- 11: all three are right, and the version is neither 1 nor 2
   pub refusal-11 : opening g ns bs .refusal ≡ 11 ↔ (Within 1 8 (g .tasks) × Records 34 64 ns × Records 66 1024 bs × (¬ Within 1 2 (g .version)))
-  refusal-11 = ((λ e. go (opening-refused g ns bs 11 (λ z. omega arith) .0 e)), (λ h. opening-refused g ns bs 11 (λ z. omega arith) .1 (is-11 refl (h .0) (h .1) (h .2) (h .3))))
+  refusal-11 = (
+    (λ e. go (opening-refused g ns bs 11 (λ z. omega arith) .0 e)),
+    (λ h. opening-refused g ns bs 11 (λ z. omega arith) .1 (is-11 refl (h .0) (h .1) (h .2) (h .3))),
+  )
     where
       go : OpeningRefused g ns bs 11 → Within 1 8 (g .tasks) × Records 34 64 ns × Records 66 1024 bs × (¬ Within 1 2 (g .version))
       go (is-1 e n) = absurd (omega arith)

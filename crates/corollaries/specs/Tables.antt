@@ -94,7 +94,8 @@ module _ (g : Config) (ns bs : List ℕ) (r : ℕ) where
   why-opening d =
       choose Why (not (within 1 8 (g .tasks))) _ _ (λ p e. is-1 (sym e) (never (within 1 8 (g .tasks)) (means-within 1 8 (g .tasks)) (not-true _ p))) (λ p.
       let t-ok = within-means 1 8 (g .tasks) (not-false _ p) in
-      choose Why (not (pool-fits 34 64 (length ns))) _ _ (λ q e. is-2 (sym e) t-ok (never (pool-fits 34 64 (length ns)) (means-fits 34 64 ns (omega arith)) (not-true _ q))) (λ q.
+      choose Why (not (pool-fits 34 64 (length ns))) _ _
+      (λ q e. is-2 (sym e) t-ok (never (pool-fits 34 64 (length ns)) (means-fits 34 64 ns (omega arith)) (not-true _ q))) (λ q.
       let n-ok = fits-means 34 64 ns (not-false _ q) in
       choose Why (not (pool-fits 66 1024 (length bs))) _ _ (λ s e.
       is-3 (sym e) t-ok n-ok (never (pool-fits 66 1024 (length bs)) (means-fits 66 1024 bs (omega arith)) (not-true _ s))) (λ s.
@@ -110,9 +111,16 @@ module _ (g : Config) (ns bs : List ℕ) (r : ℕ) where
   unfolding opening not-opened
   opening-why (is-1 e n) = rw (e, fails (within 1 8 (g .tasks)) (within-means 1 8 (g .tasks)) n)
   opening-why (is-2 e p n) = rw (e, means-within 1 8 (g .tasks) p, fails (pool-fits 34 64 (length ns)) (fits-means 34 64 ns) n)
-  opening-why (is-3 e p q n) = rw (e, means-within 1 8 (g .tasks) p, means-fits 34 64 ns (omega arith) q, fails (pool-fits 66 1024 (length bs)) (fits-means 66 1024 bs) n)
+  opening-why (is-3 e p q n) =
+      rw (e, means-within 1 8 (g .tasks) p, means-fits 34 64 ns (omega arith) q, fails (pool-fits 66 1024 (length bs)) (fits-means 66 1024 bs) n)
   opening-why (is-11 e p q s n) =
-      rw (e, means-within 1 8 (g .tasks) p, means-fits 34 64 ns (omega arith) q, means-fits 66 1024 bs (omega arith) s, fails (version-known g) (within-means 1 2 (g .version)) n)
+      rw (
+        e,
+        means-within 1 8 (g .tasks) p,
+        means-fits 34 64 ns (omega arith) q,
+        means-fits 66 1024 bs (omega arith) s,
+        fails (version-known g) (within-means 1 2 (g .version)) n,
+      )
 
   -- the opening is refused with a number exactly if the table has it
   pub opening-refused : ¬ (r ≡ 0) → opening g ns bs .refusal ≡ r ↔ OpeningRefused g ns bs r
@@ -181,7 +189,8 @@ pub data StepRefused (y : Machine) (k r : ℕ) : Type 0 where
   -- "In a step, before 7, also if its line goes through an empty place, .."
   is-8-step : r ≡ 8 → SoundFacts y → k < y .state .config .tasks → task-of y k .running ≡ true → ¬ StepSound y (task-of y k) → StepRefused y k r
   -- "line 27 or 49 finds every node or every bucket held"
-  is-7 : r ≡ 7 → SoundFacts y → k < y .state .config .tasks → task-of y k .running ≡ true → StepSound y (task-of y k) → AllHeld y (task-of y k) → StepRefused y k r
+  is-7 : r ≡ 7 → SoundFacts y → k < y .state .config .tasks → task-of y k .running ≡ true → StepSound y (task-of y k) → AllHeld y (task-of y k)
+      → StepRefused y k r
 
 module _ (y : Machine) (k r : ℕ) where
   abbrev c : Task
@@ -244,7 +253,8 @@ module _ (y : Machine) (w : List ℕ) (r : ℕ) where
   why-list =
       choose Why (not (sound y) || ltb 64 n) _ _ (λ p e. spoilt-list e (bool? (sound y)) p) (λ p.
       let b = or-none (not (sound y)) (ltb 64 n) p in
-      choose Why (not (leb 64 (length w))) _ _ (λ q e. is-9 (same-list e) (sound-facts y (not-false _ (b .0))) (ltb-false _ _ (b .1)) (leb-false _ _ (not-true _ q))) (λ q e.
+      choose Why (not (leb 64 (length w))) _ _ (λ q e. is-9 (same-list e) (sound-facts y (not-false _ (b .0))) (ltb-false _ _ (b .1))
+      (leb-false _ _ (not-true _ q))) (λ q e.
       absurd (let z : _≡_ {A = ℕ} 0 1 = cc in omega arith)))
     where
       Why : Written → Type 0

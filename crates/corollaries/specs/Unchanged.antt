@@ -78,7 +78,8 @@ refused-list-changes-nothing y w r =
     Same x = x .says ≡ Refused r → x .words ≡ w
 
 -- a refused opening leaves both slices as they were, and gives a state of zeros
-pub refused-opening-changes-nothing : (g : Config) (ns bs : List ℕ) → ¬ (opening g ns bs .refusal ≡ 0) → opening g ns bs .machine ≡ machine-of (state-of zero-config 0 0) ns bs
+pub refused-opening-changes-nothing : (g : Config) (ns bs : List ℕ) → ¬ (opening g ns bs .refusal ≡ 0)
+    → opening g ns bs .machine ≡ machine-of (state-of zero-config 0 0) ns bs
 unfolding opening not-opened
 refused-opening-changes-nothing g ns bs =
     choose Same (not (within 1 8 (g .tasks))) _ _ (λ p e. refl) (λ p.

@@ -122,7 +122,8 @@ fn state_of(d: Turned) -> State
 
 // One turn on the lent state and the lent pools.
 pub fn turn_lent(s: &mut State, ns: &mut [u32], bs: &mut [u32]) -> Turn
-    ensures { λ r. ⌜ gives r (machine-of (now (s .exit)) (now (ns .exit)) (now (bs .exit))) ≡ turn (machine-of (now (s .entry)) (now (ns .entry)) (now (bs .entry))) ⌝ }
+    ensures { λ r. ⌜ gives r (machine-of (now (s .exit)) (now (ns .exit)) (now (bs .exit)))
+        ≡ turn (machine-of (now (s .entry)) (now (ns .entry)) (now (bs .entry))) ⌝ }
 {
     let old = *s;
     let d = turn(old, ns, bs);

@@ -75,7 +75,8 @@ module _ (h : Header) (ns bs : List ℕ) (a b : ℕ) (ea : a ≡ node-extent h n
 -- ---- a line after the header
 
 -- the session handled it
-pub event-at : (e : LineEffect) (d : Handled) (ns bs before after : List ℕ) → LineHandled e d ns bs before after → (b : Bool) → b ≡ reads-events (d .session .phase)
+pub event-at : (e : LineEffect) (d : Handled) (ns bs before after : List ℕ) → LineHandled e d ns bs before after → (b : Bool)
+    → b ≡ reads-events (d .session .phase)
     → (r : ℕ) → r ≡ (if b then 0 else 10) → (t : Standing) → t ≡ standing (d .session) r NotYet → StandsAt (after-event e) t ns bs
 unfolding after-event
 event-at e d ns bs before after h b f r g t w =

@@ -44,7 +44,8 @@ outside-unasked p l ph e =
     (ap (λ (q : Phase). after-event (phase-effect q s (p .nodes) (p .buckets) l)) ph
     ∙ ap (λ (x : EventLine). after-event (event-effect x s (p .nodes) (p .buckets))) (outside-event l e))
 
-outside-turn : (p : Place) (l k : InputLine) → p .standing .session .phase ≡ Events → admissible l ≡ false → admissible k ≡ false → take-turn p l ≡ take-turn p k
+outside-turn : (p : Place) (l k : InputLine) → p .standing .session .phase ≡ Events → admissible l ≡ false → admissible k ≡ false
+    → take-turn p l ≡ take-turn p k
 unfolding take-turn take-asked
 outside-turn p l k ph e f = go (p .standing .asked)
   where
@@ -67,7 +68,8 @@ unfolding opened with-machine
 opened-reads h ns bs = refl
 
 -- what the opening gives, if it is refused; else what the line gives
-if-opened-line : (p : Place) (l k : InputLine) → p .standing .session .phase ≡ Events → admissible l ≡ false → admissible k ≡ false → if-opened p l ≡ if-opened p k
+if-opened-line : (p : Place) (l k : InputLine) → p .standing .session .phase ≡ Events → admissible l ≡ false → admissible k ≡ false
+    → if-opened p l ≡ if-opened p k
 unfolding if-opened
 if-opened-line p l k ph e f = ap (λ (q : Place). if eqb (p .standing .refused) 0 then q else p) (outside-turn p l k ph e f)
 

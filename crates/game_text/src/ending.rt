@@ -37,7 +37,8 @@ fn print(out: &mut [u8], v: Verdict) -> usize
 
 // Plays from where the session stands, within n turns of the lanes. The pools hold afterwards what they held before.
 fn play(s: Session, n: u32, ns: &mut [u32], bs: &mut [u32], out: &mut [u8]) -> usize
-    ensures { λ r. ⌜ (buffer (now (out .exit)) r ≡ append (verdict-line (verdict n (session-machine s (now (ns .entry)) (now (bs .entry))))) (buffer (now (out .entry)) 0))
+    ensures { λ r. ⌜ (buffer (now (out .exit)) r ≡ append (verdict-line (verdict n (session-machine s (now (ns .entry)) (now (bs .entry)))))
+        (buffer (now (out .entry)) 0))
         × (now (ns .exit) ≡ now (ns .entry)) × (now (bs .exit) ≡ now (bs .entry)) ⌝ }
 {
     let header = s.header;
@@ -65,7 +66,8 @@ fn asked_at_end(t: Standing, closed: bool) -> Asked
 // The end of an input whose last line is closed or is not. An input without a game, or with a last line that is not closed, is refused as
 // one with a line that is too long.
 pub fn finish(t: Standing, closed: bool, ns: &mut [u32], bs: &mut [u32], out: &mut [u8]) -> usize
-    ensures { λ r. ⌜ EndsAt (ends-as (asked-at-end closed t) (place t (now (ns .entry)) (now (bs .entry)))) r (now (ns .exit)) (now (bs .exit)) (now (out .entry)) (now (out .exit)) ⌝ }
+    ensures { λ r. ⌜ EndsAt (ends-as (asked-at-end closed t) (place t (now (ns .entry)) (now (bs .entry)))) r (now (ns .exit)) (now (bs .exit))
+        (now (out .entry)) (now (out .exit)) ⌝ }
 {
     match asked_at_end(t, closed) {
         Asked::Turns(n) => {

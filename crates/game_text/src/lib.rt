@@ -74,7 +74,8 @@ fn open_machine(h: Header, ns: &mut [u32], bs: &mut [u32]) -> Standing
 
 // A line that is no game's: the session handles it, and what it would print is dropped.
 fn event_line(t: Standing, ns: &mut [u32], bs: &mut [u32], line: &[u8]) -> Standing
-    ensures { λ r. ⌜ StandsAt (take-event (place t (now (ns .entry)) (now (bs .entry))) (closed-line (now (line .entry)))) r (now (ns .exit)) (now (bs .exit)) ⌝ }
+    ensures { λ r. ⌜ StandsAt (take-event (place t (now (ns .entry)) (now (bs .entry))) (closed-line (now (line .entry)))) r (now (ns .exit))
+        (now (bs .exit)) ⌝ }
 {
     let s = t.session;
     let mut dropped = [0u8; 1];
@@ -89,7 +90,8 @@ fn event_line(t: Standing, ns: &mut [u32], bs: &mut [u32], line: &[u8]) -> Stand
 
 // A line after the header. Nothing stands after a game's line.
 fn turn_line(t: Standing, ns: &mut [u32], bs: &mut [u32], line: &[u8]) -> Standing
-    ensures { λ r. ⌜ StandsAt (take-turn (place t (now (ns .entry)) (now (bs .entry))) (closed-line (now (line .entry)))) r (now (ns .exit)) (now (bs .exit)) ⌝ }
+    ensures { λ r. ⌜ StandsAt (take-turn (place t (now (ns .entry)) (now (bs .entry))) (closed-line (now (line .entry)))) r (now (ns .exit))
+        (now (bs .exit)) ⌝ }
 {
     let asked = t.asked;
     match asked {
@@ -113,7 +115,8 @@ fn header_line(
     bs: &mut [u32],
     line: &[u8],
 ) -> Standing
-    ensures { λ r. ⌜ StandsAt (header-taken (header-step due (t .session .header) (closed-line (now (line .entry)))) (place t (now (ns .entry)) (now (bs .entry)))
+    ensures { λ r. ⌜ StandsAt (header-taken (header-step due (t .session .header) (closed-line (now (line .entry))))
+        (place t (now (ns .entry)) (now (bs .entry)))
         (closed-line (now (line .entry)))) r (now (ns .exit)) (now (bs .exit)) ⌝ }
 {
     let s = t.session;

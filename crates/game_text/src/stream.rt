@@ -63,7 +63,8 @@ pub fn feed_bytes(r: Reading, input: &[u8], ns: &mut [u32], bs: &mut [u32]) -> R
 
 // The end of the input: what is printed, from the buffer's first byte on, and how many bytes these are.
 pub fn end_input(r: Reading, ns: &mut [u32], bs: &mut [u32], out: &mut [u8]) -> usize
-    ensures { λ n. ⌜ EndsAt (stream-end (progress r (now (ns .entry)) (now (bs .entry)))) n (now (ns .exit)) (now (bs .exit)) (now (out .entry)) (now (out .exit)) ⌝ }
+    ensures { λ n. ⌜ EndsAt (stream-end (progress r (now (ns .entry)) (now (bs .entry)))) n (now (ns .exit)) (now (bs .exit)) (now (out .entry))
+        (now (out .exit)) ⌝ }
 {
     let t = r.standing;
     let h = r.line;
@@ -74,8 +75,10 @@ pub fn end_input(r: Reading, ns: &mut [u32], bs: &mut [u32], out: &mut [u8]) -> 
 // A whole input as a slice, over lent pools. What is printed for it is written from the buffer's first byte on, as far as there is room,
 // and its length given. With 2,176 node words and 13,200 bucket words or more it is the input's answer.
 pub fn answer(input: &[u8], ns: &mut [u32], bs: &mut [u32], out: &mut [u8]) -> usize
-    ensures all { λ n. ⌜ AnsweredAs (now (input .entry)) (now (ns .entry)) (now (bs .entry)) (now (out .entry)) n (now (ns .exit)) (now (bs .exit)) (now (out .exit)) ⌝ }
-    ensures whole { λ n. ⌜ (2176 ≤ length (now (ns .entry)) → 13200 ≤ length (now (bs .entry)) → Written (game-answer (now (input .entry))) (now (out .entry)) (now (out .exit)) n) ⌝ }
+    ensures all { λ n. ⌜ AnsweredAs (now (input .entry)) (now (ns .entry)) (now (bs .entry)) (now (out .entry)) n (now (ns .exit)) (now (bs .exit))
+        (now (out .exit)) ⌝ }
+    ensures whole { λ n. ⌜ (2176 ≤ length (now (ns .entry)) → 13200 ≤ length (now (bs .entry))
+        → Written (game-answer (now (input .entry))) (now (out .entry)) (now (out .exit)) n) ⌝ }
 {
     let r = new_reading();
     let s = feed_bytes(r, input, ns, bs);

@@ -35,7 +35,8 @@ pub both : {m r q : List Bool} {xs ys : List ℕ} → Marks m r xs → Marks r q
 both {m} {r} {q} {xs} {ys} a b =
     record {
       long = b .long ∙ a .long;
-      each = λ k z h. b .each k z (let e = a .long in omega arith) ∙ ap (λ (t : Bool). t || member k ys) (a .each k z h) ∙ or-assoc (marked m k) (member k xs) (member k ys)
+      each = λ k z h. b .each k z (let e = a .long in omega arith) ∙ ap (λ (t : Bool). t || member k ys) (a .each k z h)
+          ∙ or-assoc (marked m k) (member k xs) (member k ys)
           ∙ ap (λ (t : Bool). marked m k || t) (sym (member-append k xs ys));
     }
 

@@ -77,7 +77,8 @@ module _ (y : Machine) (nodes : List Bool) (n : length nodes ≡ 64) (x : Exactl
       let r = range-low i 0 64 (q .1) in
       let e : link i - 1 ≡ i = omega arith in
       let m : member (link i) (held-nodes y) ≡ true = sym (x .each (link i) (omega arith) (omega arith)) ∙ ap (λ (j : ℕ). getD nodes j false) e ∙ q .0 in
-      let g : member (link i) (filter low (held-nodes y)) ≡ true = member-filter (link i) low (held-nodes y) ∙ all2 (low (link i)) (member (link i) (held-nodes y)) (le-leb (link i) 64 (omega arith)) m in
+      let g : member (link i) (filter low (held-nodes y)) ≡ true =
+      member-filter (link i) low (held-nodes y) ∙ all2 (low (link i)) (member (link i) (held-nodes y)) (le-leb (link i) 64 (omega arith)) m in
       from-join of-link k (link i) (filter low (held-nodes y)) g (rw e (p .2))
 
   backward : (k : ℕ) → member k (placed-low y) ≡ true → member k (concat-map (places (y .nodes)) (marked-numbers nodes)) ≡ true
@@ -90,7 +91,8 @@ module _ (y : Machine) (nodes : List Bool) (n : length nodes ≡ 64) (x : Exactl
       let b = leb-true l 64 (q .0) in
       let i : 0 < l = omega (arith, z) in
       let m : is-marked (number l) ≡ true = x .each l i (omega arith) ∙ q .1 in
-      let g : member (number l) (filter is-marked (range 0 64)) ≡ true = member-filter (number l) is-marked (range 0 64) ∙ all2 (is-marked (number l)) (member (number l) (range 0 64)) m (range-has (number l) 0 64 (omega arith) (omega arith)) in
+      let g : member (number l) (filter is-marked (range 0 64)) ≡ true = member-filter (number l) is-marked (range 0 64)
+      ∙ all2 (is-marked (number l)) (member (number l) (range 0 64)) m (range-has (number l) 0 64 (omega arith) (omega arith)) in
       from-join (places (y .nodes)) k (number l) (filter is-marked (range 0 64)) g (p .2)
 
   pub same-places : (k : ℕ) → member k (concat-map (places (y .nodes)) (marked-numbers nodes)) ≡ member k (placed-low y)
@@ -172,5 +174,6 @@ bucket-sound y s =
     let H = f .H-high in
     let b : Bucket-bounds y = (let h = f .head in omega arith, f .B-high, f .last-bucket) in
     let low : (l : ℕ) → member l (held-nodes y) ≡ true → leb l 64 ≡ true =
-    λ l e. (let p = filled-link l (held-filled y l e) in let k = p .0 in let q = p .1 in let h = held-node-below y f k (member-held y k (rw q at e)) in le-leb l 64 (omega arith)) in
+    λ l e. (let p = filled-link l (held-filled y l e) in let k = p .0 in let q = p .1 in let h = held-node-below y f k
+    (member-held y k (rw q at e)) in le-leb l 64 (omega arith)) in
     bucket-in y b ∙ rw (filter-whole (λ l. leb l 64) (held-nodes y) low)

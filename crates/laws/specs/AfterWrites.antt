@@ -10,8 +10,10 @@ use lib.Seq.{getD-set-same, getD-set-other, set-out}
 use Rattle.spec.specs.declared.Task.{Task}
 use Rattle.spec.specs.declared.Config.{Config}
 use Rattle.spec.specs.declared.State.{State}
-use Rattle.spec.specs.Machine.{Machine, idle, state-head, state-last-node, state-last-bucket, state-task, with-state, with-nodes, with-buckets, with-head, with-last-node, with-last-bucket, with-task, set-task, task-of}
-use Rattle.spec.specs.Words.{size, pred, place, changeable, count, tags, Write, apply, nothing, set-head, set-place, clear-pred, freeze, put-tags, new-node, new-bucket}
+use Rattle.spec.specs.Machine.{Machine, idle, state-head, state-last-node, state-last-bucket, state-task, with-state, with-nodes, with-buckets, with-head}
+use Rattle.spec.specs.Machine.{with-last-node, with-last-bucket, with-task, set-task, task-of}
+use Rattle.spec.specs.Words.{size, pred, place, changeable, count, tags, Write, apply, nothing, set-head, set-place, clear-pred, freeze, put-tags, new-node}
+use Rattle.spec.specs.Words.{new-bucket}
 use Rattle.spec.specs.Sound.{node-count, bucket-count}
 use Rattle.laws.specs.Tests.{At, hit, miss}
 use Rattle.laws.specs.NodeWords.{sp-size, cp-size, cp-pred, cp-place, sp-pred, nn-length, sp-place, nn-size, nn-pred, nn-place}

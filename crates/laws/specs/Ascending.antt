@@ -107,7 +107,8 @@ unfolding member filter
 member-filter n p [] = sym (and-false (p n))
 member-filter n p (x ∷ l) = go (bool? (p x)) (ℕ-discrete n x) (member-filter n p l)
   where
-    go : (p x ≡ true) ⊎ (p x ≡ false) → Dec (n ≡ x) → member n (filter p l) ≡ (p n && member n l) → member n (filter p (x ∷ l)) ≡ (p n && (eqb n x || member n l))
+    go : (p x ≡ true) ⊎ (p x ≡ false) → Dec (n ≡ x) → member n (filter p l) ≡ (p n && member n l)
+        → member n (filter p (x ∷ l)) ≡ (p n && (eqb n x || member n l))
     go (inl t) (yes q) ih = ap (member n) (filter-in p x l t) ∙ (let pn : p n ≡ true = ap p q ∙ t in rw (eq-eqb n x q, pn))
     go (inl t) (no d) ih = ap (member n) (filter-in p x l t) ∙ rw (ne-eqb n x d) ih
     go (inr t) (yes q) ih = ap (member n) (filter-out p x l t) ∙ (let pn : p n ≡ false = ap p q ∙ t in ih ∙ rw pn)

@@ -4,7 +4,8 @@ use mathlib.Core.Path.{_≡_, refl, sym, ap, _∙_}
 use mathlib.Core.List.{List, _++_}
 use native.Mathlib.Omega.{arith}
 use native.Mathlib.Decide.{ℕ-discrete, decLt}
-use lib.ListN.{length, getD, set, take, drop, replicate, length-set, length-append, length-take, length-drop, length-replicate, getD-replicate, List·getD-append, List·getD-eq-default}
+use lib.ListN.{length, getD, set, take, drop, replicate, length-set, length-append, length-take, length-drop, length-replicate, getD-replicate}
+use lib.ListN.{List·getD-append, List·getD-eq-default}
 use lib.Seq.{getD-set-same, getD-set-other, getD-append-add, getD-drop, getD-take, ext-getD}
 use Rattle.spec.specs.Words.{changeable, count, tags, overwrite, bucket-of}
 use Rattle.laws.specs.Tests.{At, hit, miss, at-hit, at-miss}
@@ -42,11 +43,13 @@ module _ (w : List ℕ) (B : ℕ) (fits : length w ≡ 66 * B) (k : ℕ) (below 
     bk-length = over-length w (66 * k) (bucket-of 1 ks) bk-fits
 
     -- word b of bucket j
-    pub bk-word : (j b : ℕ) → b < 66 → At (j ≡ k) (getD (bucket-of 1 ks) b 0) (getD w (66 * j + b) 0) (getD (overwrite w (66 * k) (bucket-of 1 ks)) (66 * j + b) 0)
+    pub bk-word : (j b : ℕ) → b < 66 → At (j ≡ k) (getD (bucket-of 1 ks) b 0) (getD w (66 * j + b) 0)
+        (getD (overwrite w (66 * k) (bucket-of 1 ks)) (66 * j + b) 0)
     bk-word j b h = go (ℕ-discrete j k)
       where
         go : Dec (j ≡ k) → At (j ≡ k) (getD (bucket-of 1 ks) b 0) (getD w (66 * j + b) 0) (getD (overwrite w (66 * k) (bucket-of 1 ks)) (66 * j + b) 0)
-        go (yes q) = hit q (ap (λ (n : ℕ). getD (overwrite w (66 * k) (bucket-of 1 ks)) (66 * n + b) 0) q ∙ over-in w (66 * k) (bucket-of 1 ks) bk-fits b (rw bk-long h))
+        go (yes q) =
+            hit q (ap (λ (n : ℕ). getD (overwrite w (66 * k) (bucket-of 1 ks)) (66 * n + b) 0) q ∙ over-in w (66 * k) (bucket-of 1 ks) bk-fits b (rw bk-long h))
         go (no n) = miss n (over-out w (66 * k) (bucket-of 1 ks) bk-fits (66 * j + b) (rw bk-long (apart-66 j k b n h)))
 
     pub bk-changeable : (j : ℕ) → At (j ≡ k) 1 (changeable w j) (changeable (overwrite w (66 * k) (bucket-of 1 ks)) j)

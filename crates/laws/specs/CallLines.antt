@@ -25,7 +25,8 @@ resize-lines = 20 ∷ 24 ∷ 27 ∷ 28 ∷ 39 ∷ 40 ∷ 43 ∷ 44 ∷ 46 ∷ 47
 -- whatever call has line a has line b
 unfoldable pub follows : ℕ → ℕ → Bool
 follows a b =
-    (not (member a update-lines) || member b update-lines) && (not (member a lookup-lines) || member b lookup-lines) && (not (member a resize-lines) || member b resize-lines)
+    (not (member a update-lines) || member b update-lines) && (not (member a lookup-lines) || member b lookup-lines)
+    && (not (member a resize-lines) || member b resize-lines)
 
 implied : (a b : Bool) → (not a || b) ≡ true → a ≡ true → b ≡ true
 implied true b e h = e
@@ -76,7 +77,8 @@ pick-one P (x ∷ l) a n e = elim (member-cons n x l e) [ inl p ↦ rw p (a .0) 
 
 part-of : (l m : List ℕ) → every (λ x. member x m) l ≡ true → (n : ℕ) → member n l ≡ true → member n m ≡ true
 part-of [] m h n e = absurd (no-member n e)
-part-of (x ∷ l) m h n e = elim (member-cons n x l e) [ inl p ↦ rw p (every-head (λ x. member x m) x l h) | inr p ↦ part-of l m (every-tail (λ x. member x m) x l h) n p ]
+part-of (x ∷ l) m h n e =
+    elim (member-cons n x l e) [ inl p ↦ rw p (every-head (λ x. member x m) x l h) | inr p ↦ part-of l m (every-tail (λ x. member x m) x l h) n p ]
 
 pub one-of-all : (n call : ℕ) → member n (lines-of call) ≡ true → member n every-line ≡ true
 unfolding lines-of fill-lines every-line every member

@@ -109,7 +109,8 @@ module _ (w : List ℕ) (H : ℕ) (links : (k : ℕ) → k < H → pred w k ≤ 
             | inr r ↦ ih (pred w m) (λ k t. cl m k (s m q) t) x r
           ]
 
-  module _ (n : ℕ) (M : ℕ → Bool) (l : ℕ) (front : (x j : ℕ) → M x ≡ true → pred w x ≡ link j → (M j ≡ true) ⊎ (l ≡ link j)) (start : (m : ℕ) → l ≡ link m → M m ≡ true) where
+  module _ (n : ℕ) (M : ℕ → Bool) (l : ℕ) (front : (x j : ℕ) → M x ≡ true → pred w x ≡ link j → (M j ≡ true) ⊎ (l ≡ link j))
+      (start : (m : ℕ) → l ≡ link m → M m ≡ true) where
     shut : (x j : ℕ) → M x ≡ true → pred w x ≡ link j → M j ≡ true
     shut x j e p = elim (front x j e p) [ inl q ↦ q | inr q ↦ start j q ]
 

@@ -42,7 +42,8 @@ pub data StepOutcome (y : Machine) (k : ℕ) : Reply → Type 0 where
   step-no-task : y .state .config .tasks ≤ k → StepOutcome y k (refuse 4 y)
   step-idle : k < y .state .config .tasks → task-of y k .running ≡ false → StepOutcome y k (refuse 6 y)
   step-unsound : k < y .state .config .tasks → task-of y k .running ≡ true → unsound-step y (task-of y k) ≡ true → StepOutcome y k (refuse 8 y)
-  step-all-held : k < y .state .config .tasks → task-of y k .running ≡ true → unsound-step y (task-of y k) ≡ false → all-held y (task-of y k) ≡ true → StepOutcome y k (refuse 7 y)
+  step-all-held : k < y .state .config .tasks → task-of y k .running ≡ true → unsound-step y (task-of y k) ≡ false → all-held y (task-of y k) ≡ true
+      → StepOutcome y k (refuse 7 y)
   step-accepted : k < y .state .config .tasks → task-of y k .running ≡ true → unsound-step y (task-of y k) ≡ false → all-held y (task-of y k) ≡ false
       → StepOutcome y k (accept y k (task-of y k .own) (effect y (task-of y k)))
 
@@ -70,7 +71,8 @@ pub start-outcome : (y : Machine) (k : ℕ) (call : Call) (tag : ℕ) → sound 
 unfolding start
 start-outcome y k call tag e =
     choose (StartOutcome y k call tag) (not (sound y)) _ _ (λ q. absurd (tf e (not-true (sound y) q)))
-    (λ q. choose (StartOutcome y k call tag) (not (ltb k (y .state .config .tasks))) _ _ (λ a. start-no-task (ltb-false k (y .state .config .tasks) (not-true _ a)))
+    (λ q. choose (StartOutcome y k call tag) (not (ltb k (y .state .config .tasks))) _ _
+    (λ a. start-no-task (ltb-false k (y .state .config .tasks) (not-true _ a)))
     (λ a. let lt = ltb-true k (y .state .config .tasks) (not-false _ a) in
     choose (StartOutcome y k call tag) (task-of y k .running) _ _ (λ b. start-running lt b)
     (λ b. choose (StartOutcome y k call tag) (withdrawn (y .state .config) call tag) _ _ (λ c. start-withdrawn lt b c) (λ c. start-accepted lt b c))))

@@ -132,7 +132,8 @@ module _ (y : Machine) where
 
   task-source : (j x : ℕ) → NodeNamed (task-of y j) x → member x (sources y) ≡ true
   unfolding task-of
-  task-source j x p = member-there x (link (y .state .head)) _ (at-join task-nodes idle x (y .state .task) (idle-nodes x) j (in-nodes (getD (y .state .task) j idle) x p))
+  task-source j x p =
+      member-there x (link (y .state .head)) _ (at-join task-nodes idle x (y .state .task) (idle-nodes x) j (in-nodes (getD (y .state .task) j idle) x p))
 
   chain-held : (n l : ℕ) → ((k : ℕ) → l ≡ link k → HeldNode y k) → (x : ℕ) → member (link x) (chain (y .nodes) n l) ≡ true → HeldNode y x
   unfolding chain member
@@ -175,7 +176,8 @@ module _ (y : Machine) where
   pub member-held-bucket : (k : ℕ) → member (link k) (held-buckets y) ≡ true → HeldBucket y k
   unfolding held-buckets task-of
   member-held-bucket k e =
-      go (or-e _ _ (rw (member-append (link k) (concat-map (λ l. places (y .nodes) (number l)) (held-nodes y)) (concat-map task-buckets (y .state .task))) at e))
+      go (or-e _ _ (rw (member-append (link k) (concat-map (λ l. places (y .nodes) (number l)) (held-nodes y)) (concat-map task-buckets (y .state .task)))
+      at e))
     where
       task : (j : ℕ) → BucketNamed (getD (y .state .task) j idle) (link k) → HeldBucket y k
       task j (r, one p) = as-b j r (sym p)
@@ -183,7 +185,8 @@ module _ (y : Machine) where
       task j (r, three p) = as-n j r (sym p)
       task j (r, four p) = as-new j r (sym p)
 
-      go : (member (link k) (concat-map (λ l. places (y .nodes) (number l)) (held-nodes y)) ≡ true) ⊎ (member (link k) (concat-map task-buckets (y .state .task)) ≡ true)
+      go : (member (link k) (concat-map (λ l. places (y .nodes) (number l)) (held-nodes y)) ≡ true) ⊎
+          (member (link k) (concat-map task-buckets (y .state .task)) ≡ true)
           → HeldBucket y k
       go (inl p) =
           let q = join-from (λ l. places (y .nodes) (number l)) (link k) (held-nodes y) p in

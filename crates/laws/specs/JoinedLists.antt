@@ -35,7 +35,8 @@ unfolding concat-map member
 join-from f n [] e = absurd (tf e refl)
 join-from f n (x ∷ l) e = go (or-e (member n (f x)) (member n (concat-map f l)) (rw (member-append n (f x) (concat-map f l)) at e)) (join-from f n l)
   where
-    go : (member n (f x) ≡ true) ⊎ (member n (concat-map f l) ≡ true) → (member n (concat-map f l) ≡ true → (z : ℕ) × (member z l ≡ true) × (member n (f z) ≡ true))
+    go : (member n (f x) ≡ true) ⊎ (member n (concat-map f l) ≡ true)
+        → (member n (concat-map f l) ≡ true → (z : ℕ) × (member z l ≡ true) × (member n (f z) ≡ true))
         → (z : ℕ) × (member z (x ∷ l) ≡ true) × (member n (f z) ≡ true)
     go (inl p) ih = (x, member-here x x l refl, p)
     go (inr p) ih = let q = ih p in (q .0, member-there (q .0) x l (q .1), q .2)
@@ -45,7 +46,8 @@ unfolding concat-map member
 from-join f n x [] e g = absurd (tf e refl)
 from-join f n x (z ∷ l) e g = rw (member-append n (f z) (concat-map f l)) (go (member-cons x z l e) (from-join f n x l))
   where
-    go : (x ≡ z) ⊎ (member x l ≡ true) → (member x l ≡ true → member n (f x) ≡ true → member n (concat-map f l) ≡ true) → (member n (f z) || member n (concat-map f l)) ≡ true
+    go : (x ≡ z) ⊎ (member x l ≡ true) → (member x l ≡ true → member n (f x) ≡ true → member n (concat-map f l) ≡ true)
+        → (member n (f z) || member n (concat-map f l)) ≡ true
     go (inl p) ih = or-l _ _ (rw p at g)
     go (inr p) ih = or-r (member n (f z)) _ (ih p g)
 
@@ -56,7 +58,8 @@ take-has x zero l e = absurd (tf e refl)
 take-has x (suc n) [] e = absurd (tf e refl)
 take-has x (suc n) (z ∷ l) e = go (member-cons x z (take n l) e) (take-has x n l)
   where
-    go : (x ≡ z) ⊎ (member x (take n l) ≡ true) → (member x (take n l) ≡ true → (i : ℕ) × (i < n) × (getD l i 0 ≡ x)) → (i : ℕ) × (i < suc n) × (getD (z ∷ l) i 0 ≡ x)
+    go : (x ≡ z) ⊎ (member x (take n l) ≡ true) → (member x (take n l) ≡ true → (i : ℕ) × (i < n) × (getD l i 0 ≡ x))
+        → (i : ℕ) × (i < suc n) × (getD (z ∷ l) i 0 ≡ x)
     go (inl p) ih = (0, omega arith, sym p)
     go (inr p) ih = let q = ih p in (suc (q .0), omega arith, q .2)
 

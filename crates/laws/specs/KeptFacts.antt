@@ -80,5 +80,6 @@ module _ (y z : Machine) (same : SameState y z) (sized : (j : ℕ) → ¬ (size 
     chosen = rw (same .chosen≡, same .config≡) (f .chosen);
     node = λ k q. ns k (rw (same .H≡) at q);
     bucket = λ k q. bs k (rw (same .B≡) at q);
-    task = λ k. subst (λ (c : Task). TaskFacts z k c) (ap (λ (ts : List Task). getD ts k idle) (sym (same .task≡))) (task-kept k (getD (y .state .task) k idle) (f .task k));
+    task = λ k. subst (λ (c : Task). TaskFacts z k c) (ap (λ (ts : List Task). getD ts k idle) (sym (same .task≡)))
+        (task-kept k (getD (y .state .task) k idle) (f .task k));
   }

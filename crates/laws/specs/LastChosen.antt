@@ -12,7 +12,8 @@ use Rattle.spec.specs.declared.Task.{Task}
 use Rattle.spec.specs.Lists.{if_then_else_}
 use Rattle.spec.specs.declared.Answer.{Answer}
 use Rattle.spec.specs.declared.Answer.the-variants.{Yes, No, Full, Done, Lost, Limit}
-use Rattle.spec.specs.Machine.{Machine, state-head, state-last-node, state-last-bucket, state-chosen, state-task, with-state, with-nodes, with-buckets, with-head, with-last-node, with-last-bucket, with-chosen, with-task, set-task, task-of}
+use Rattle.spec.specs.Machine.{Machine, state-head, state-last-node, state-last-bucket, state-chosen, state-task, with-state, with-nodes, with-buckets}
+use Rattle.spec.specs.Machine.{with-head, with-last-node, with-last-bucket, with-chosen, with-task, set-task, task-of}
 use Rattle.spec.specs.Words.{changeable, Write, nothing, set-head, set-place, clear-pred, freeze, put-tags, new-node, new-bucket, apply}
 use Rattle.spec.specs.Sound.{task-count, sound-numbers, node-link, bucket-link, sound-node, sound-nodes, sound-running, sound-task, sound-tasks, sound}
 use Rattle.spec.specs.Lines.{Next, on, ends, Effect, insert-write, answer-36, insert-36, remove-36, line-36, effect}
@@ -134,7 +135,8 @@ module _ (y : Machine) (l : ℕ) where
   effect-apart c = rw (line-36-apart c)
 
   apply-apart : (w : Write) → apply w z ≡ with-chosen l (apply w y)
-  unfolding apply with-chosen with-state with-head with-nodes with-buckets with-last-node with-last-bucket state-head state-last-node state-last-bucket state-chosen
+  unfolding apply with-chosen with-state with-head with-nodes with-buckets with-last-node with-last-bucket state-head state-last-node state-last-bucket
+      state-chosen
   apply-apart nothing = refl
   apply-apart (set-head k) = refl
   apply-apart (set-place k i p) = refl

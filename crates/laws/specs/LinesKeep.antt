@@ -16,7 +16,9 @@ use Rattle.spec.specs.Words.{number, filled, size, Write, put-tags, new-node, n
 use Rattle.spec.specs.Sound.{node-count, bucket-count, lines-of, resizes, within}
 use Rattle.spec.specs.Held.{free-node, free-bucket}
 use Rattle.spec.specs.Listed.{size-of, pred-of, place-of, slot, place-for, tags-of, head-of, listed}
-use Rattle.spec.specs.Lines.{answer-36, insert-write, on, writes, answers-of, frozen, at-limit, resized, gathered, line-12, line-13, line-15, line-16, line-17, line-18, line-32, line-33, insert-36, remove-36, line-36, line-20, line-24, line-27, line-28, line-39, after-40, line-40, line-43, line-44, line-46, line-47, line-48, line-52, line-49, line-50, line-51, all-lines, find-line, effect}
+use Rattle.spec.specs.Lines.{answer-36, insert-write, on, writes, answers-of, frozen, at-limit, resized, gathered, line-12, line-13, line-15, line-16}
+use Rattle.spec.specs.Lines.{line-17, line-18, line-32, line-33, insert-36, remove-36, line-36, line-20, line-24, line-27, line-28, line-39, after-40}
+use Rattle.spec.specs.Lines.{line-40, line-43, line-44, line-46, line-47, line-48, line-52, line-49, line-50, line-51, all-lines, find-line, effect}
 use Rattle.spec.specs.StepRefusals.{all-held, gains}
 use Rattle.laws.specs.Tests.{At as Seen, hit, miss, bool?}
 use Rattle.laws.specs.SoundFacts.{NodeLink, RunFacts, SoundFacts}
@@ -32,10 +34,12 @@ use Rattle.laws.specs.Answers.{insert-writes-nothing, gains-yes, insert-
 use Rattle.laws.specs.StepAt.{through-t, through-s}
 use Rattle.laws.specs.StepRefusals.{StepSound, not-all-held}
 use Rattle.laws.specs.WritesKeep.{WriteSound, sound-put, sound-pred, sound-head, sound-freeze, sound-new-bucket, write-keeps, sound-new-node, sound-place}
-use Rattle.laws.specs.CallLines.{follows, every-line, pick-one, update-lines, next-of-call, one-of-all, lookup-lines, resize-lines, lines-24, lines-36, All}
+use Rattle.laws.specs.CallLines.{follows, every-line, pick-one, update-lines, next-of-call, one-of-all, lookup-lines, resize-lines, lines-24}
+use Rattle.laws.specs.CallLines.{lines-36, All}
 use Rattle.laws.specs.TaskKeeps.{run-to, run-b, run-new-bucket, run-t, run-s, run-i, run-m, run-n, run-emptied, no-link, run-new-node}
 use Rattle.laws.specs.KeptFacts.{run-kept}
-use Rattle.laws.specs.EffectSound.{NextSound, EffectSound, tags-rising, place-low, sound-moves, sound-ends, place-for-low, sound-if, goes, either, pred-of-link}
+use Rattle.laws.specs.EffectSound.{NextSound, EffectSound, tags-rising, place-low, sound-moves, sound-ends, place-for-low, sound-if, goes, either}
+use Rattle.laws.specs.EffectSound.{pred-of-link}
 use mathlib.Core.Logic.{_⊎_, inr, inl}
 use native.Mathlib.Nat.{mod-lt}
 
@@ -44,7 +48,8 @@ line-definitions : ℕ
 unfolding follows update-lines lookup-lines resize-lines member with-line with-i with-t with-s with-b with-m with-n with-new-node with-new-bucket without-places
 line-definitions = 0
 
-module _ (y : Machine) (f : SoundFacts y) (k : ℕ) (c : Task) (going : c .running ≡ true) (r : RunFacts y k c) (u : StepSound y c) (x : all-held y c ≡ false) where
+module _ (y : Machine) (f : SoundFacts y) (k : ℕ) (c : Task) (going : c .running ≡ true) (r : RunFacts y k c) (u : StepSound y c)
+    (x : all-held y c ≡ false) where
   pub at : (ls : List ℕ) (n : ℕ) → member n ls ≡ true → c .line ≡ n → member (c .line) ls ≡ true
   at ls n h e = ap (λ (m : ℕ). member m ls) e ∙ h
 
@@ -71,27 +76,31 @@ module _ (y : Machine) (f : SoundFacts y) (k : ℕ) (c : Task) (going : c .runni
   unfolding line-13 line-definitions
   sound-line-13 e =
       let b = place-for y (c .t) (c .tag) in
-      sound-moves y k _ (goes going (run-to y k (with-b b c) (run-b y k c r b (place-for-low y f (c .t) (r .t) (t-filled 13 refl e) (c .tag))) (if filled b then 18 else 15)
+      sound-moves y k _ (goes going (run-to y k (with-b b c) (run-b y k c r b (place-for-low y f (c .t) (r .t) (t-filled 13 refl e) (c .tag)))
+      (if filled b then 18 else 15)
       (either (filled b) 18 15 (lines-of (c .call)) (next-line 13 18 refl e) (next-line 13 15 refl e))))
 
   sound-line-15 : c .line ≡ 15 → EffectSound y k (line-15 y c)
   unfolding line-15 line-definitions
   sound-line-15 e =
       let s = pred-of y (c .t) in
-      sound-moves y k _ (goes going (run-to y k (with-s s c) (run-s y k c r s (pred-of-link y f (c .t) (r .t) (t-filled 15 refl e))) (if filled s then 16 else 17)
+      sound-moves y k _ (goes going (run-to y k (with-s s c) (run-s y k c r s (pred-of-link y f (c .t) (r .t) (t-filled 15 refl e)))
+      (if filled s then 16 else 17)
       (either (filled s) 16 17 (lines-of (c .call)) (next-line 15 16 refl e) (next-line 15 17 refl e))))
 
   sound-line-16 : c .line ≡ 16 → EffectSound y k (line-16 y c)
   unfolding line-16 line-definitions
   sound-line-16 e =
       let b = place-for y (c .s) (c .tag) in
-      sound-moves y k _ (goes going (run-to y k (with-b b c) (run-b y k c r b (place-for-low y f (c .s) (r .s) (s-filled 16 refl e) (c .tag))) 18 (next-line 16 18 refl e)))
+      sound-moves y k _ (goes going (run-to y k (with-b b c) (run-b y k c r b (place-for-low y f (c .s) (r .s) (s-filled 16 refl e) (c .tag))) 18
+      (next-line 16 18 refl e)))
 
   sound-line-17 : c .line ≡ 17 → EffectSound y k (line-17 y c)
   unfolding line-17 line-definitions
   sound-line-17 e =
       let b = place-for y (c .t) (c .tag) in
-      sound-moves y k _ (goes going (run-to y k (with-b b c) (run-b y k c r b (place-for-low y f (c .t) (r .t) (t-filled 17 refl e) (c .tag))) 18 (next-line 17 18 refl e)))
+      sound-moves y k _ (goes going (run-to y k (with-b b c) (run-b y k c r b (place-for-low y f (c .t) (r .t) (t-filled 17 refl e) (c .tag))) 18
+      (next-line 17 18 refl e)))
 
   sound-line-18 : c .line ≡ 18 → EffectSound y k (line-18 y c)
   unfolding line-18
@@ -137,7 +146,8 @@ module _ (y : Machine) (f : SoundFacts y) (k : ℕ) (c : Task) (going : c .runni
   unfolding insert-36
   sound-insert e z q = go (answer-36 y c) (u .room e z q) (bool? _)
     where
-      go : (a : Answer) → (a ≡ Yes → length (tags-of y (c .b)) < 64) → (gains a ≡ true) ⊎ (gains a ≡ false) → EffectSound y k (answers-of (c .b) (insert-write y c a) a)
+      go : (a : Answer) → (a ≡ Yes → length (tags-of y (c .b)) < 64) → (gains a ≡ true) ⊎ (gains a ≡ false)
+          → EffectSound y k (answers-of (c .b) (insert-write y c a) a)
       go a room (inr g) = rw (insert-writes-nothing y c a g) (sound-ends y k a _)
       go a room (inl g) =
           let h = room (gains-yes a g) in
@@ -165,12 +175,14 @@ module _ (y : Machine) (f : SoundFacts y) (k : ℕ) (c : Task) (going : c .runni
   unfolding line-20 line-definitions
   sound-line-20 e = sound-if y k (at-limit (c .call) (size-of y (head-of y))) _ _ (λ q. sound-ends y k _ _)
       (λ q. sound-moves y k _
-      (goes going (run-to y k (with-i 0 (with-t (head-of y) c)) (run-i y k (with-t (head-of y) c) (run-t y k c r (head-of y) (head-link y f)) 0 (omega arith)) 39
+      (goes going (run-to y k (with-i 0 (with-t (head-of y) c))
+      (run-i y k (with-t (head-of y) c) (run-t y k c r (head-of y) (head-link y f)) 0 (omega arith)) 39
       (next-line 20 39 refl e))))
 
   sound-line-24 : c .line ≡ 24 → EffectSound y k (line-24 y c)
   unfolding line-24 line-definitions
-  sound-line-24 e = sound-writes _ _ (sound-pred (named y f (c .t) (r .t) (t-filled 24 refl e) .below)) (goes going (run-to y k c r 27 (next-line 24 27 refl e)))
+  sound-line-24 e =
+      sound-writes _ _ (sound-pred (named y f (c .t) (r .t) (t-filled 24 refl e) .below)) (goes going (run-to y k c r 27 (next-line 24 27 refl e)))
 
   sound-line-27 : c .line ≡ 27 → EffectSound y k (line-27 y c)
   unfolding line-27 line-definitions
@@ -232,7 +244,8 @@ module _ (y : Machine) (f : SoundFacts y) (k : ℕ) (c : Task) (going : c .runni
       let i : c .i % size-of y (c .s) < size-of y (c .s) = mod-lt (c .i) (size-low y f (c .s) (r .s) d) in
       let sz = size-high y f (c .s) (r .s) d in
       let m = place-of y (c .s) (c .i % size-of y (c .s)) in
-      sound-moves y k _ (goes going (run-to y k (with-m m c) (run-m y k c r m (place-low y f (c .s) (r .s) d (c .i % size-of y (c .s)) (omega arith))) 44 (next-line 43 44 refl e)))
+      sound-moves y k _ (goes going (run-to y k (with-m m c) (run-m y k c r m (place-low y f (c .s) (r .s) d (c .i % size-of y (c .s)) (omega arith))) 44
+      (next-line 43 44 refl e)))
 
   m-below : (n : ℕ) → member n (44 ∷ 48 ∷ 49 ∷ []) ≡ true → c .line ≡ n → number (c .m) < bucket-count y
   m-below n h e = let d = u .m (at (44 ∷ 48 ∷ 49 ∷ []) n h e) in let b = r .m in omega arith
@@ -248,7 +261,8 @@ module _ (y : Machine) (f : SoundFacts y) (k : ℕ) (c : Task) (going : c .runni
       let i = u .i-s (at (46 ∷ []) 46 refl e) in
       let sz = size-high y f (c .s) (r .s) d in
       let m = place-of y (c .s) (c .i) in
-      sound-moves y k _ (goes going (run-to y k (with-m m c) (run-m y k c r m (place-low y f (c .s) (r .s) d (c .i) (omega arith))) 47 (next-line 46 47 refl e)))
+      sound-moves y k _ (goes going (run-to y k (with-m m c) (run-m y k c r m (place-low y f (c .s) (r .s) d (c .i) (omega arith))) 47
+      (next-line 46 47 refl e)))
 
   sound-line-47 : c .line ≡ 47 → EffectSound y k (line-47 y c)
   unfolding line-47 line-definitions
@@ -257,7 +271,8 @@ module _ (y : Machine) (f : SoundFacts y) (k : ℕ) (c : Task) (going : c .runni
       let i = u .i-st (at (47 ∷ []) 47 refl e) in
       let sz = size-high y f (c .s) (r .s) d in
       let n = place-of y (c .s) (c .i + size-of y (c .t)) in
-      sound-moves y k _ (goes going (run-to y k (with-n n c) (run-n y k c r n (place-low y f (c .s) (r .s) d (c .i + size-of y (c .t)) (omega arith))) 48 (next-line 47 48 refl e)))
+      sound-moves y k _ (goes going (run-to y k (with-n n c) (run-n y k c r n (place-low y f (c .s) (r .s) d (c .i + size-of y (c .t)) (omega arith))) 48
+      (next-line 47 48 refl e)))
 
   sound-line-48 : c .line ≡ 48 → EffectSound y k (line-48 y c)
   unfolding line-48 line-definitions
@@ -278,7 +293,8 @@ module _ (y : Machine) (f : SoundFacts y) (k : ℕ) (c : Task) (going : c .runni
       up = tags-rising y f (c .m) (r .m) (u .m (at (44 ∷ 48 ∷ 49 ∷ []) 49 refl e))
 
       go : (b : Bool) → filled (c .n) ≡ b
-          → Rising (if b then union (tags-of y (c .m)) (tags-of y (c .n)) else filter (λ k. eqb (slot (y .state .config) k (size-of y (c .t))) (c .i)) (tags-of y (c .m)))
+          → Rising (if b then union (tags-of y (c .m)) (tags-of y (c .n))
+          else filter (λ k. eqb (slot (y .state .config) k (size-of y (c .t))) (c .i)) (tags-of y (c .m)))
       go true q = rising-union (tags-of y (c .m)) (tags-of y (c .n)) (tags-rising y f (c .n) (r .n) (filled-true (c .n) q))
       go false q = rising-filter _ (tags-of y (c .m)) up
 
@@ -320,7 +336,8 @@ module _ (y : Machine) (f : SoundFacts y) (k : ℕ) (c : Task) (going : c .runni
       sound-if y k (resizes (c .call)) _ _
       (λ q. sound-moves y k _ (goes going (run-to y k (with-i (c .i + 1) c₅) (run-i y k c₅ r₅ (c .i + 1) (omega arith)) _
       (either (ltb (c .i + 1) (size-of y (c .t))) 39 24 (lines-of (c .call)) (next-line 51 39 refl e) (lines-24 (c .call) q)))))
-      (λ q. sound-moves y k _ (goes going (run-to y k (with-b (place-of y (c .t) (c .i)) c₅) (run-b y k c₅ r₅ (place-of y (c .t) (c .i)) (i-place 51 refl refl e)) 36
+      (λ q. sound-moves y k _ (goes going (run-to y k (with-b (place-of y (c .t) (c .i)) c₅)
+      (run-b y k c₅ r₅ (place-of y (c .t) (c .i)) (i-place 51 refl refl e)) 36
       (lines-36 (c .call) (mine-at 51 e) q))))
 
   abbrev LineSound : ℕ → Type 0
@@ -360,7 +377,13 @@ module _ (y : Machine) (f : SoundFacts y) (k : ℕ) (c : Task) (going : c .runni
                                 sound-line-40,
                                 (
                                   sound-line-43,
-                                  (sound-line-44, (sound-line-46, (sound-line-47, (sound-line-48, (sound-line-52, (sound-line-49, (sound-line-50, (sound-line-51, tt)))))))),
+                                  (
+                                    sound-line-44,
+                                    (
+                                      sound-line-46,
+                                      (sound-line-47, (sound-line-48, (sound-line-52, (sound-line-49, (sound-line-50, (sound-line-51, tt)))))),
+                                    ),
+                                  ),
                                 ),
                               ),
                             ),

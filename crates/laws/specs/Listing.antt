@@ -67,7 +67,8 @@ module _ (y : Machine) where
 module _ (y : Machine) (f : SoundFacts y) where
   pub head-link : NodeLink y (head-of y)
   unfolding head-of
-  head-link = let h = f .head in let e : number (link (y .state .head)) ≡ y .state .head = omega arith in record { within = omega arith; sized = λ d. rw e (f .head-sized) }
+  head-link = let h = f .head in let e : number (link (y .state .head)) ≡ y .state .head = omega arith in
+      record { within = omega arith; sized = λ d. rw e (f .head-sized) }
 
   pub pred-link : NodeLink y (pred-of y (head-of y))
   unfolding head-of pred-of
@@ -98,7 +99,8 @@ module _ (y : Machine) (f : SoundFacts y) where
       let a = slot-low l g d k in
       let b = size-high l g d in
       rw (tags-of-node y l d)
-      (from-join (placed-tags y) k (place-for y l k) (places (y .nodes) (number l)) (among-places y l (slot (y .state .config) k (size-of y l)) (omega arith) (q .0))
+      (from-join (placed-tags y) k (place-for y l k) (places (y .nodes) (number l))
+      (among-places y l (slot (y .state .config) k (size-of y l)) (omega arith) (q .0))
       (ap (member k) (tags-of-place y (place-for y l k) (q .0)) ∙ q .1))
 
   -- a tag is listed exactly if it is in the set

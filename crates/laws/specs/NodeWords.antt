@@ -62,7 +62,8 @@ module _ (w : List ℕ) (H : ℕ) (fits : length w ≡ 34 * H) (k : ℕ) (below 
     nn-word j b h = go (ℕ-discrete j k)
       where
         go : Dec (j ≡ k) → At (j ≡ k) (getD (node-of sz p) b 0) (getD w (34 * j + b) 0) (getD (overwrite w (34 * k) (node-of sz p)) (34 * j + b) 0)
-        go (yes q) = hit q (ap (λ (n : ℕ). getD (overwrite w (34 * k) (node-of sz p)) (34 * n + b) 0) q ∙ over-in w (34 * k) (node-of sz p) nn-fits b (rw nn-long h))
+        go (yes q) =
+            hit q (ap (λ (n : ℕ). getD (overwrite w (34 * k) (node-of sz p)) (34 * n + b) 0) q ∙ over-in w (34 * k) (node-of sz p) nn-fits b (rw nn-long h))
         go (no n) = miss n (over-out w (34 * k) (node-of sz p) nn-fits (34 * j + b) (rw nn-long (apart-34 j k b n h)))
 
     pub nn-size : (j : ℕ) → At (j ≡ k) sz (size w j) (size (overwrite w (34 * k) (node-of sz p)) j)

@@ -68,5 +68,6 @@ part-length (x ∷ l) (y ∷ m) r s e = go (ℕ-discrete x y) (part-length l m (
     go (yes q) ih ih′ = let t = ih (λ k a. both k a) in omega arith
       where
         both : (k : ℕ) → member k l ≡ true → member k m ≡ true
-        both k a = let b = r .0 k a in let n : ¬ (k ≡ x) = omega arith in let n′ : ¬ (k ≡ y) = omega arith in sym (member-tail k y m n′) ∙ e k (member-tail k x l n ∙ a)
+        both k a = let b = r .0 k a in let n : ¬ (k ≡ x) = omega arith in let n′ : ¬ (k ≡ y) = omega arith in
+            sym (member-tail k y m n′) ∙ e k (member-tail k x l n ∙ a)
     go (no n) ih ih′ = let t = ih′ (λ k a. sym (member-tail k y m (above n k a)) ∙ e k a) in omega arith

@@ -55,7 +55,8 @@ module _ (y : Machine) (fits : length (y .buckets) ≡ 66 * bucket-count y) (k :
     after = λ i h g. rest i (rw (← bword-1) at h) g;
   }
     where
-      p : (leb (getD bucket-words 0 0) 1 ≡ true) × (leb (getD bucket-words 1 0) 64 ≡ true) × (ascending (take (getD bucket-words 1 0) (drop 2 bucket-words)) ≡ true)
+      p : (leb (getD bucket-words 0 0) 1 ≡ true) × (leb (getD bucket-words 1 0) 64 ≡ true)
+          × (ascending (take (getD bucket-words 1 0) (drop 2 bucket-words)) ≡ true)
           × (zeros (64 - getD bucket-words 1 0) (drop (2 + getD bucket-words 1 0) bucket-words) ≡ true)
       p = and4 _ _ _ _ e
 

@@ -81,7 +81,8 @@ module _ (y : Machine) (k : ℕ) where
     past = λ i h g. rest i (rw (← word-0) at h) g;
   }
     where
-      p : ((eqb (getD words 0 0) 0 || listed-size (getD words 0 0)) ≡ true) × (node-link y (getD words 1 0) ≡ true) × (every (bucket-link y) (take 32 (drop 2 words)) ≡ true)
+      p : ((eqb (getD words 0 0) 0 || listed-size (getD words 0 0)) ≡ true) × (node-link y (getD words 1 0) ≡ true)
+          × (every (bucket-link y) (take 32 (drop 2 words)) ≡ true)
           × (zeros (32 - getD words 0 0) (drop (2 + getD words 0 0) words) ≡ true)
       p = and4 _ _ _ _ e
 
@@ -107,7 +108,8 @@ module _ (y : Machine) (k : ℕ) where
       rest : (i : ℕ) → i < 32 - getD words 0 0 → getD (drop (2 + getD words 0 0) words) i 0 ≡ 0
       rest i h =
           let r : (2 + getD words 0 0) + i ≡ 2 + (getD words 0 0 + i) = omega arith in
-          getD-drop _ words i 0 ∙ ap (λ (n : ℕ). getD words n 0) r ∙ word-2 (getD words 0 0 + i) ∙ f .past (getD words 0 0 + i) (rw word-0 (omega arith)) (omega arith)
+          getD-drop _ words i 0 ∙ ap (λ (n : ℕ). getD words n 0) r ∙ word-2 (getD words 0 0 + i)
+          ∙ f .past (getD words 0 0 + i) (rw word-0 (omega arith)) (omega arith)
 
 pub nodes-at : (y : Machine) (n : ℕ) (w : List ℕ) → sound-nodes y n w ≡ true → (k : ℕ) → k < n → sound-node y (drop (34 * k) w) ≡ true
 unfolding sound-nodes

@@ -44,7 +44,10 @@ module _ (y : Machine) (k : ℕ) (c : Task) where
         below-T = ltb-true k (y .state .config .tasks) (p .0);
         line = p .1;
         i = leb-true (c .i) 32 (p .2);
-        tag = λ q. elim (or-e (not (resizes (c .call))) (eqb (c .tag) 0) (p .3)) [ inl n ↦ absurd (tf q (not-true (resizes (c .call)) n)) | inr h ↦ eqb-true (c .tag) 0 h ];
+        tag = λ q. elim (or-e (not (resizes (c .call))) (eqb (c .tag) 0) (p .3)) [
+          | inl n ↦ absurd (tf q (not-true (resizes (c .call)) n))
+          | inr h ↦ eqb-true (c .tag) 0 h
+        ];
         t = node-linked y (c .t) (every-head (node-link y) _ _ (p .4));
         s = node-linked y (c .s) (every-head (node-link y) _ _ n0);
         new-node = node-linked y (c .«new_node») (every-head (node-link y) _ _ n1);
@@ -57,7 +60,8 @@ module _ (y : Machine) (k : ℕ) (c : Task) where
   facts-run : RunFacts y k c → sound-running y k c ≡ true
   unfolding sound-running bucket-link
   facts-run f = all6 _ _ _ _ _ _ (lt-ltb k (y .state .config .tasks) (f .below-T)) (f .line) (le-leb (c .i) 32 (f .i)) tag-test
-      (every-cons _ _ _ (link-noded y (c .t) (f .t)) (every-cons _ _ _ (link-noded y (c .s) (f .s)) (every-cons _ _ _ (link-noded y (c .«new_node») (f .new-node)) (every-nil _))))
+      (every-cons _ _ _ (link-noded y (c .t) (f .t)) (every-cons _ _ _ (link-noded y (c .s) (f .s))
+      (every-cons _ _ _ (link-noded y (c .«new_node») (f .new-node)) (every-nil _))))
       (every-cons _ _ _ (le-leb (c .b) (bucket-count y) (f .b)) (every-cons _ _ _ (le-leb (c .m) (bucket-count y) (f .m))
       (every-cons _ _ _ (le-leb (c .n) (bucket-count y) (f .n)) (every-cons _ _ _ (le-leb (c .«new_bucket») (bucket-count y) (f .new-bucket)) (every-nil _)))))
     where

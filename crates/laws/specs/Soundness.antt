@@ -86,7 +86,8 @@ module _ (y : Machine) where
   unfolding sound sound-numbers words bucket-words task-of
   facts-sound f = all4 _ _ _ _
       (all-pass (facts-config _ (f .config) also facts-within 1 64 _ (f .H-low) (f .H-high) also facts-within 1 1024 _ (f .B-low) (f .B-high)
-      also eq-eqb _ _ (f .nodes-length) also eq-eqb _ _ (f .buckets-length) also lt-ltb _ _ (f .head) also lt-ltb _ _ (f .last-node) also lt-ltb _ _ (f .last-bucket)
+      also eq-eqb _ _ (f .nodes-length) also eq-eqb _ _ (f .buckets-length) also lt-ltb _ _ (f .head) also lt-ltb _ _ (f .last-node) also lt-ltb _ _
+      (f .last-bucket)
       also true-filled _ (f .head-sized) also lt-ltb _ _ (f .chosen) also no-more))
       (at-nodes y (node-count y) (y .nodes) (λ k q. facts-node y k (f .node k q)))
       (at-buckets (bucket-count y) (y .buckets) (λ k q. facts-bucket y (f .buckets-length) k q (f .bucket k q)))

@@ -92,7 +92,8 @@ module _ (Held : ℕ → Type 0) (held : List ℕ) (n last : ℕ) (some-n : 1 �
   taking = go (search-first held around n 1)
     where
       go : Search held around 1 n (first-free held (map around (range 1 n))) → Taking Held n last (first-free held (map around (range 1 n)))
-      go (nowhere z all) = none-free z (λ k h. let d = on-round n last last-below k h in rw (d .3) at (means ((last + d .0) % n) (all (d .0) (d .1) (omega arith))))
+      go (nowhere z all) =
+          none-free z (λ k h. let d = on-round n last last-below k h in rw (d .3) at (means ((last + d .0) % n) (all (d .0) (d .1) (omega arith))))
       go (found d p q z free all) = takes ((last + d) % n) z (mod-lt (last + d) (omega arith))
           (record {
             distance = d;
@@ -112,7 +113,8 @@ module _ (y : Machine) (f : SoundFacts y) where
 
   pub bucket-taking : Taking (HeldBucket y) (bucket-count y) (y .state .«last_bucket») (free-bucket y)
   unfolding free-bucket
-  bucket-taking = taking (HeldBucket y) (held-buckets y) (bucket-count y) (y .state .«last_bucket») (f .B-low) (f .last-bucket) (member-held-bucket y) (held-bucket-member y f)
+  bucket-taking = taking (HeldBucket y) (held-buckets y) (bucket-count y) (y .state .«last_bucket») (f .B-low) (f .last-bucket) (member-held-bucket y)
+      (held-bucket-member y f)
 
   -- the record taken is the first one not held
   pub taken-node : (k : ℕ) → free-node y ≡ link k → FirstFree (HeldNode y) (node-count y) (y .state .«last_node») k
@@ -132,7 +134,8 @@ module _ (y : Machine) (f : SoundFacts y) where
   pub some-node : ¬ (free-node y ≡ 0) → (k : ℕ) × (free-node y ≡ link k) × (k < node-count y) × FirstFree (HeldNode y) (node-count y) (y .state .«last_node») k
   some-node = taking-some node-taking
 
-  pub some-bucket : ¬ (free-bucket y ≡ 0) → (k : ℕ) × (free-bucket y ≡ link k) × (k < bucket-count y) × FirstFree (HeldBucket y) (bucket-count y) (y .state .«last_bucket») k
+  pub some-bucket : ¬ (free-bucket y ≡ 0) → (k : ℕ) × (free-bucket y ≡ link k) × (k < bucket-count y)
+      × FirstFree (HeldBucket y) (bucket-count y) (y .state .«last_bucket») k
   some-bucket = taking-some bucket-taking
 
   -- ---- refusal 7

@@ -6,7 +6,8 @@ use native.Mathlib.Omega.{arith}
 use lib.ListN.{length}
 use Rattle.spec.specs.declared.Task.{Task}
 use Rattle.spec.specs.Lists.{member}
-use Rattle.spec.specs.Machine.{Machine, with-line, state-task, with-state, with-task, with-own, with-i, with-t, with-s, with-b, with-m, with-n, with-new-node, with-new-bucket, without-places, set-task, task-of}
+use Rattle.spec.specs.Machine.{Machine, with-line, state-task, with-state, with-task, with-own, with-i, with-t, with-s, with-b, with-m, with-n}
+use Rattle.spec.specs.Machine.{with-new-node, with-new-bucket, without-places, set-task, task-of}
 use Rattle.spec.specs.Words.{pred, new-node, new-bucket}
 use Rattle.spec.specs.Sound.{bucket-count, lines-of, within}
 use Rattle.laws.specs.Tests.{At as Seen, hit, miss}
@@ -68,8 +69,10 @@ module _ (y : Machine) (k : ℕ) (c : Task) where
     task = λ j. go j (after-task y k c .task-at j);
   }
     where
-      go : (j : ℕ) → Seen ((j ≡ k) × (k < length (y .state .task))) c (task-of y j) (task-of (set-task k c y) j) → TaskFacts (set-task k c y) j (task-of (set-task k c y) j)
-      go j (hit q e) = subst (λ (d : Task). TaskFacts (set-task k c y) j d) (sym e) (subst (λ (n : ℕ). TaskFacts (set-task k c y) n c) (sym (q .0)) (task-put k c g))
+      go : (j : ℕ) → Seen ((j ≡ k) × (k < length (y .state .task))) c (task-of y j) (task-of (set-task k c y) j)
+          → TaskFacts (set-task k c y) j (task-of (set-task k c y) j)
+      go j (hit q e) =
+          subst (λ (d : Task). TaskFacts (set-task k c y) j d) (sym e) (subst (λ (n : ℕ). TaskFacts (set-task k c y) n c) (sym (q .0)) (task-put k c g))
       go j (miss n e) = subst (λ (d : Task). TaskFacts (set-task k c y) j d) (sym e) (task-put j (task-of y j) (f .task j))
 
 -- ---- a task's record with one part changed

@@ -6,12 +6,14 @@ use native.Mathlib.Omega.{arith}
 use native.Mathlib.Decide.{ℕ-discrete}
 use lib.ListN.{length, getD, List·getD-eq-default}
 use Rattle.spec.specs.Machine.{Machine}
-use Rattle.spec.specs.Words.{size, pred, place, changeable, count, tags, Write, nothing, set-head, set-place, clear-pred, freeze, put-tags, new-node, new-bucket, apply}
+use Rattle.spec.specs.Words.{size, pred, place, changeable, count, tags, Write, nothing, set-head, set-place, clear-pred, freeze, put-tags, new-node}
+use Rattle.spec.specs.Words.{new-bucket, apply}
 use Rattle.spec.specs.Sound.{node-count, bucket-count, sound, within}
 use Rattle.laws.specs.Tests.{At as Seen, hit, miss, at-hit, at-miss}
 use Rattle.laws.specs.SoundFacts.{NodeLink, NodeFacts, BucketFacts, SoundFacts}
 use Rattle.laws.specs.Sizes.{used, ListedSize, is-listed, listed-low, size-most}
-use Rattle.laws.specs.AfterWrites.{SameState, same-but, AfterHead, AfterPlace, AfterPred, AfterNode, AfterFreeze, AfterBucket, after-head, after-place, after-pred, after-node, after-freeze, after-put, after-put-state, after-bucket, after-bucket-last}
+use Rattle.laws.specs.AfterWrites.{SameState, same-but, AfterHead, AfterPlace, AfterPred, AfterNode, AfterFreeze, AfterBucket, after-head}
+use Rattle.laws.specs.AfterWrites.{after-place, after-pred, after-node, after-freeze, after-put, after-put-state, after-bucket, after-bucket-last}
 use Rattle.laws.specs.Ascending.{Rising, rising-ascending}
 use Rattle.laws.specs.KeptFacts.{node-kept, bucket-kept, rebuilt, link-kept}
 
@@ -39,7 +41,8 @@ module _ (y z : Machine) (same : SameState y z) (e : z .nodes ≡ y .nodes) wher
   same-sized j d q = d (ap (λ (w : List ℕ). size w j) (sym e) ∙ q)
 
   same-node : (k : ℕ) → NodeFacts y k → NodeFacts z k
-  same-node k g = node-kept y z same same-sized k (ap (λ (w : List ℕ). size w k) e) (ap (λ (w : List ℕ). pred w k) e) (λ i h. ap (λ (w : List ℕ). place w k i) e) g
+  same-node k g =
+      node-kept y z same same-sized k (ap (λ (w : List ℕ). size w k) e) (ap (λ (w : List ℕ). pred w k) e) (λ i h. ap (λ (w : List ℕ). place w k i) e) g
 
 module _ (y z : Machine) (same : SameState y z) (sized : (j : ℕ) → ¬ (size (y .nodes) j ≡ 0) → ¬ (size (z .nodes) j ≡ 0)) (e : z .buckets ≡ y .buckets) where
   same-bucket : (k : ℕ) → BucketFacts y k → BucketFacts z k
@@ -54,7 +57,8 @@ module _ (y : Machine) (f : SoundFacts y) where
         same = a .same;
         sized = sized;
         sound =
-            rebuilt y z (a .same) sized f (rw (a .head≡) h) (rw (a .last-node≡) (f .last-node)) (rw (a .last-bucket≡) (f .last-bucket)) (sized (z .state .head) (rw (a .head≡) d))
+            rebuilt y z (a .same) sized f (rw (a .head≡) h) (rw (a .last-node≡) (f .last-node)) (rw (a .last-bucket≡) (f .last-bucket))
+            (sized (z .state .head) (rw (a .head≡) d))
             (λ j q. same-node y z (a .same) (a .nodes≡) j (f .node j q)) (λ j q. same-bucket y z (a .same) sized (a .buckets≡) j (f .bucket j q));
       }
 
@@ -122,7 +126,8 @@ module _ (y : Machine) (f : SoundFacts y) where
       flag j h (miss n e) = omega arith
 
       buckets : (j : ℕ) → j < bucket-count y → BucketFacts z j
-      buckets j p = bucket-kept y z (a .same) sized j (flag j (f .bucket j p .flag) (a .changeable-at j)) (a .count≡ j) (a .tags≡ j) (a .word≡ j) (f .bucket j p)
+      buckets j p =
+          bucket-kept y z (a .same) sized j (flag j (f .bucket j p .flag) (a .changeable-at j)) (a .count≡ j) (a .tags≡ j) (a .word≡ j) (f .bucket j p)
 
   buckets-put : (k : ℕ) (ks : List ℕ) (z : Machine) → AfterBucket y k ks z → length ks ≤ 64 → Rising ks → (j : ℕ) → j < bucket-count y → BucketFacts z j
   buckets-put k ks z a few up j p = go (ℕ-discrete j k)
@@ -131,7 +136,8 @@ module _ (y : Machine) (f : SoundFacts y) where
       sized = same-sized y z (a .same) (a .nodes≡)
 
       go : Dec (j ≡ k) → BucketFacts z j
-      go (no n) = bucket-kept y z (a .same) sized j (rw (at-miss n (a .changeable-at j)) (f .bucket j p .flag)) (at-miss n (a .count-at j)) (λ h. at-miss n (a .tags-at j h))
+      go (no n) = bucket-kept y z (a .same) sized j (rw (at-miss n (a .changeable-at j)) (f .bucket j p .flag)) (at-miss n (a .count-at j))
+          (λ h. at-miss n (a .tags-at j h))
           (λ i h. at-miss n (a .word-at j i h)) (f .bucket j p)
       go (yes q) =
           let t : tags (z .buckets) j ≡ ks = at-hit q (a .tags-at j (f .bucket j p .few)) in
@@ -151,7 +157,8 @@ module _ (y : Machine) (f : SoundFacts y) where
       record {
         same = a .same;
         sized = sized;
-        sound = rebuilt y z (a .same) sized f (rw (a .head≡) (f .head)) (rw (a .last-node≡) (f .last-node)) lb (sized (z .state .head) (rw (a .head≡) (f .head-sized)))
+        sound = rebuilt y z (a .same) sized f (rw (a .head≡) (f .head)) (rw (a .last-node≡) (f .last-node)) lb
+            (sized (z .state .head) (rw (a .head≡) (f .head-sized)))
             (λ j q. same-node y z (a .same) (a .nodes≡) j (f .node j q)) (buckets-put k ks z a few up);
       }
 
@@ -198,6 +205,8 @@ module _ (y : Machine) (f : SoundFacts y) where
   write-keeps (clear-pred k) (sound-pred h) = keeps-pred k _ (after-pred y (f .nodes-length) k h)
   write-keeps (freeze k) (sound-freeze h) = keeps-freeze k _ (after-freeze y (f .buckets-length) k h)
   write-keeps (put-tags k ks) (sound-put h few up) =
-      keeps-put k ks _ (after-put y (f .buckets-length) k h ks few) few up (subst (λ s. s .«last_bucket» < bucket-count y) (sym (after-put-state y k ks)) (f .last-bucket))
+      keeps-put k ks _ (after-put y (f .buckets-length) k h ks few) few up
+      (subst (λ s. s .«last_bucket» < bucket-count y) (sym (after-put-state y k ks)) (f .last-bucket))
   write-keeps (new-node k sz p) (sound-new-node h l g) = keeps-node k sz p _ (after-node y (f .nodes-length) k h sz p) h l g
-  write-keeps (new-bucket k ks) (sound-new-bucket h few up) = keeps-put k ks _ (after-bucket y (f .buckets-length) k h ks few) few up (rw (after-bucket-last y k ks) h)
+  write-keeps (new-bucket k ks) (sound-new-bucket h few up) =
+      keeps-put k ks _ (after-bucket y (f .buckets-length) k h ks few) few up (rw (after-bucket-last y k ks) h)

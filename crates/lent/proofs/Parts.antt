@@ -46,7 +46,8 @@ use Rattle.lent_parts.proofs.stepped as stepped
 -- An operand that is the local i, where the cells of the locals stand in the context two by two, the last local's first, and that of
 -- local 0 is entry n: whichever local the code reads is found, so that a walk fails at what the value is and not at where it is.
 module _ {M : Type 1} {𝓤 : URA M} {H : Heap 𝓤} {A : Atoms 𝓤} {K : Type 0} {W : Given 𝓤 H A} {Γ : List (Item 𝓤)} {E : Env 𝓤 H} where
-  pub local : K → (n : ℕ) {i : ℕ} {q : Share} {v : Val} → nth 𝓤 H A (n - 2 * i) Γ ≡ ‵ (fat q (spotOf 𝓤 H E i .0) (spotOf 𝓤 H E i .1) (spotOf 𝓤 H E i .2) v) → Opd K W Γ E (copy (place i [])) v
+  pub local : K → (n : ℕ) {i : ℕ} {q : Share} {v : Val} → nth 𝓤 H A (n - 2 * i) Γ ≡ ‵ (fat q (spotOf 𝓤 H E i .0) (spotOf 𝓤 H E i .1) (spotOf 𝓤 H E i .2) v)
+      → Opd K W Γ E (copy (place i [])) v
   local t n {i} e = load t (from t (stop t)) (look t (n - 2 * i) e)
 
 -- a state's machine value, and a call's
@@ -118,7 +119,8 @@ module _ {M : Type 1} (𝓤 : URA M) (H : Heap 𝓤) (A : Atoms 𝓤) (W : Given
   to-stepped p u t = ((tt, tt, tt, (p, (t, tt)), (u ∷ [], (machine-value t ∷ [], tt))), tt)
 
   pub goes-stepped : (p : Output) (u : Val) (t : State)
-      → ent 𝓤 (sep 𝓤 (sem 𝓤 H A (O.the-row .own p (u ∷ []))) (sem 𝓤 H A (S.the-row .own t (machine-value t ∷ [])))) (SteppedC 𝓤 H A mm run .pre (to-stepped p u t))
+      → ent 𝓤 (sep 𝓤 (sem 𝓤 H A (O.the-row .own p (u ∷ []))) (sem 𝓤 H A (S.the-row .own t (machine-value t ∷ []))))
+      (SteppedC 𝓤 H A mm run .pre (to-stepped p u t))
   goes-stepped p u t =
       qed W (‵ (O.the-row .own p (u ∷ [])) ∷ ‵ (S.the-row .own t (machine-value t ∷ [])) ∷ []) ∵
       nothing ! $ move ! (2 ∷ 0 ∷ []) $ fjoin ! $ move ! (1 ∷ 0 ∷ []) $ fjoin ! $ nothing ! $ join ! $ frame ! $ done !

@@ -33,7 +33,8 @@ pub fn step_local(s: State, k: u32, ns: &mut [u32], bs: &mut [u32]) -> Stepped
 
 // Starts a call for task k, on the lent state.
 pub fn start(s: &mut State, k: u32, call: Call, tag: u32, ns: &[u32], bs: &[u32]) -> Output
-    ensures { λ r. ⌜ answered r (now (s .exit)) (now (ns .entry)) (now (bs .entry)) ≡ start (machine-of (now (s .entry)) (now (ns .entry)) (now (bs .entry))) k call tag ⌝ }
+    ensures { λ r. ⌜ answered r (now (s .exit)) (now (ns .entry)) (now (bs .entry)) ≡ start
+        (machine-of (now (s .entry)) (now (ns .entry)) (now (bs .entry))) k call tag ⌝ }
 {
     let before = *s;
     let d = hashset::start(before, k, call, tag, ns, bs);

@@ -68,7 +68,8 @@ module _ {y : Machine} {w : Configuration} {L : List Ended} (sim : Simulates y
   pub accepts : Accepts (sim .rep) (task-of y p) (w .position p)
   accepts = go (w .position p) (sim .matches p) (i .task p) (λ x n. named p n) (sim .taken p)
     where
-      go : (l : Position) → Matches (w .heap) (sim .records) l (task-of y p) → PositionFacts (w .heap) L (w .start p) l → ((x : ℕ) → Names l x → Known (w .heap) (w .position) x)
+      go : (l : Position) → Matches (w .heap) (sim .records) l (task-of y p) → PositionFacts (w .heap) L (w .start p) l
+          → ((x : ℕ) → Names l x → Known (w .heap) (w .position) x)
           → Taken y (w .heap) (Known (w .heap) (w .position)) (sim .records) (takes-at l) (task-of y p) → Accepts (sim .rep) (task-of y p) l
       go no-call m o names v = absurd (tf r m)
       go (lookup k l) m o names v = lookup-accepts (i .heap) (sim .rep) L (w .start p) (task-of y p) k l m o names

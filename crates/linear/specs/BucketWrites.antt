@@ -17,7 +17,8 @@ use Rattle.model.specs.Functions.{at?, pick-at, upd₂, upd₂-same, upd₂-oth
 use Rattle.model.specs.PlaceState.{empty, changeable, frozen, Filled, of-changeable}
 use Rattle.model.specs.Heap.{Heap, at, fill, freeze, put, slot-in, state-for}
 use Rattle.model.specs.Writes.{set-frozen⁻}
-use Rattle.linear.specs.Represents.{Records, Represents, AwayBucket, place-word, record-has, NewBucket, bucket-in-pool, place-word-filled, first-word, with-bucket, HoldsTags, size-bound}
+use Rattle.linear.specs.Represents.{Records, Represents, AwayBucket, place-word, record-has, NewBucket, bucket-in-pool, place-word-filled, first-word}
+use Rattle.linear.specs.Represents.{with-bucket, HoldsTags, size-bound}
 
 -- ---- writes to the bucket pool, and a place filled
 
@@ -60,7 +61,8 @@ module _ {y z : Machine} {h : Heap} {K : ℕ → Type 0} {R : Records} (f : Soun
     first-word≡ = λ y j k b p. mark′ y j k b (set-frozen⁻ (h .place) x i px y j p) (at? x i y j);
     tags = λ y j k b p. tags′ y j k b (set-frozen⁻ (h .place) x i px y j p);
     node-injective = rep .node-injective;
-    bucket-injective = λ y j z l k b p k′ b′ p′. rep .bucket-injective y j z l k b (set-frozen⁻ (h .place) x i px y j p) k′ b′ (set-frozen⁻ (h .place) x i px z l p′);
+    bucket-injective =
+        λ y j z l k b p k′ b′ p′. rep .bucket-injective y j z l k b (set-frozen⁻ (h .place) x i px y j p) k′ b′ (set-frozen⁻ (h .place) x i px z l p′);
   }
     where
       place′ : (y j : ℕ) → Dec ((y ≡ x) × (j ≡ i)) → place-word (h .place y j) (R .bucket y j) ≡ place-word (upd₂ (h .place) x i frozen y j) (R .bucket y j)
@@ -96,7 +98,10 @@ module _ {y z : Machine} {h : Heap} {K : ℕ → Type 0} {R : Records} (f : Soun
     pred-none = rw (a .nodes≡) (rep .pred-none);
     place≡ = rw (a .nodes≡) (rep .place≡);
     first-word≡ = λ w j c b p. mark′ w j c b p (at? x (slot-in h x k) w j);
-    tags = λ w j c b p. record { inside = λ d e. inside′ w j c b p d e (at? x (slot-in h x k) w j); outside = λ d e. outside′ w j c b p d e (at? x (slot-in h x k) w j) };
+    tags = λ w j c b p. record {
+      inside = λ d e. inside′ w j c b p d e (at? x (slot-in h x k) w j);
+      outside = λ d e. outside′ w j c b p d e (at? x (slot-in h x k) w j);
+    };
     node-injective = rep .node-injective;
     bucket-injective = rep .bucket-injective;
   }
@@ -107,12 +112,14 @@ module _ {y z : Machine} {h : Heap} {K : ℕ → Type 0} {R : Records} (f : Soun
       mark′ : (w j : ℕ) → K w → j < h .size w → Filled (h .place w j) → Dec ((w ≡ x) × (j ≡ slot-in h x k))
           → Words.changeable (z .buckets) (R .bucket w j) ≡ first-word (h .place w j)
       mark′ w j c b p (yes e) = rw (e .0, e .1) (at-hit refl (a .changeable-at (R .bucket x (slot-in h x k))) ∙ rw ox)
-      mark′ w j c b p (no n) = at-miss (λ e. n (rep .bucket-injective w j x (slot-in h x k) c b p kx bx px e)) (a .changeable-at (R .bucket w j)) ∙ rep .first-word≡ w j c b p
+      mark′ w j c b p (no n) =
+          at-miss (λ e. n (rep .bucket-injective w j x (slot-in h x k) c b p kx bx px e)) (a .changeable-at (R .bucket w j)) ∙ rep .first-word≡ w j c b p
 
       tags-other : (w j : ℕ) → K w → j < h .size w → Filled (h .place w j) → ¬ ((w ≡ x) × (j ≡ slot-in h x k))
           → tags (z .buckets) (R .bucket w j) ≡ tags (y .buckets) (R .bucket w j)
       tags-other w j c b p n =
-          at-miss (λ e. n (rep .bucket-injective w j x (slot-in h x k) c b p kx bx px e)) (a .tags-at (R .bucket w j) (f .bucket _ (bucket-in-pool f rep w j c b p) .few))
+          at-miss (λ e. n (rep .bucket-injective w j x (slot-in h x k) c b p kx bx px e))
+          (a .tags-at (R .bucket w j) (f .bucket _ (bucket-in-pool f rep w j c b p) .few))
 
       here : (d : ℕ) → slot-in h x d ≡ slot-in h x k → Dec (d ≡ k) → record-has z (R .bucket x (slot-in h x k)) d ≡ upd₂ (h .has) x k v x d
       here d e (yes q) = ap (member d) (a .tags-same) ∙ rw q (this ∙ sym (upd₂-same (h .has) x k v))
@@ -130,7 +137,8 @@ module _ {y z : Machine} {h : Heap} {K : ℕ → Type 0} {R : Records} (f : Soun
           → record-has z (R .bucket w j) d ≡ false
       outside′ w j c b p d e (yes q) =
           let e′ : ¬ (slot-in h x d ≡ slot-in h x k) = λ u. e (rw (q .0, q .1) u) in
-          rw (q .0, q .1) (ap (member d) (a .tags-same) ∙ oth d (λ u. e′ (ap (λ (a : ℕ). slot-in h x a) u)) ∙ rep .tags x (slot-in h x k) kx bx px .outside d e′)
+          rw (q .0, q .1) (ap (member d) (a .tags-same) ∙ oth d (λ u. e′ (ap (λ (a : ℕ). slot-in h x a) u))
+          ∙ rep .tags x (slot-in h x k) kx bx px .outside d e′)
       outside′ w j c b p d e (no n) = ap (member d) (tags-other w j c b p n) ∙ rep .tags w j c b p .outside d e
 
   -- 50
@@ -170,9 +178,11 @@ module _ {y z : Machine} {h : Heap} {K : ℕ → Type 0} {R : Records} (f : Soun
 
       open′ : (w j : ℕ) → K w → j < h .size w → Filled (upd₂ (h .place) (h .head) i changeable w j) → Dec ((w ≡ h .head) × (j ≡ i))
           → Words.changeable (z .buckets) (upd₂ (R .bucket) (h .head) i r w j) ≡ first-word (upd₂ (h .place) (h .head) i changeable w j)
-      open′ w j k b p (yes c) = rw (a .buckets≡, c .0, c .1) (rw (upd₂-same (h .place) (h .head) i changeable, upd₂-same (R .bucket) (h .head) i r) (new .opened))
+      open′ w j k b p (yes c) =
+          rw (a .buckets≡, c .0, c .1) (rw (upd₂-same (h .place) (h .head) i changeable, upd₂-same (R .bucket) (h .head) i r) (new .opened))
       open′ w j k b p (no n) =
-          rw (a .buckets≡, upd₂-other (h .place) (h .head) i changeable w j n, upd₂-other (R .bucket) (h .head) i r w j n) (rep .first-word≡ w j k b (old w j n p))
+          rw (a .buckets≡, upd₂-other (h .place) (h .head) i changeable w j n, upd₂-other (R .bucket) (h .head) i r w j n)
+          (rep .first-word≡ w j k b (old w j n p))
 
       has′ : (w k : ℕ) → ¬ ((w ≡ h .head) × (slot-in h (h .head) k ≡ i)) → fill s (h .head) i h .has w k ≡ h .has w k
       has′ w k n = at-miss n (pick-at (at? (h .head) i w (slot-in h (h .head) k)) (h .has s k) (h .has w k))
@@ -197,10 +207,15 @@ module _ {y z : Machine} {h : Heap} {K : ℕ → Type 0} {R : Records} (f : Soun
       put-there : (w j : ℕ) → (w ≡ h .head) × (j ≡ i) → upd₂ (R .bucket) (h .head) i r w j ≡ r
       put-there w j c = rw (c .0, c .1) (upd₂-same (R .bucket) (h .head) i r)
 
-      inj : (y j z l : ℕ) → K y → j < h .size y → Filled (upd₂ (h .place) (h .head) i changeable y j) → K z → l < h .size z → Filled (upd₂ (h .place) (h .head) i changeable z l)
-          → upd₂ (R .bucket) (h .head) i r y j ≡ upd₂ (R .bucket) (h .head) i r z l → Dec ((y ≡ h .head) × (j ≡ i)) → Dec ((z ≡ h .head) × (l ≡ i)) → (y ≡ z) × (j ≡ l)
+      inj : (y j z l : ℕ) → K y → j < h .size y → Filled (upd₂ (h .place) (h .head) i changeable y j) → K z → l < h .size z
+          → Filled (upd₂ (h .place) (h .head) i changeable z l)
+          → upd₂ (R .bucket) (h .head) i r y j ≡ upd₂ (R .bucket) (h .head) i r z l → Dec ((y ≡ h .head) × (j ≡ i)) → Dec ((z ≡ h .head) × (l ≡ i))
+          → (y ≡ z) × (j ≡ l)
       inj y j z l k b p k′ b′ p′ e (yes c) (yes d) = (c .0 ∙ sym (d .0), c .1 ∙ sym (d .1))
       inj y j z l k b p k′ b′ p′ e (no n) (no d) =
-          rep .bucket-injective y j z l k b (old y j n p) k′ b′ (old z l d p′) (sym (upd₂-other (R .bucket) (h .head) i r y j n) ∙ e ∙ upd₂-other (R .bucket) (h .head) i r z l d)
-      inj y j z l k b p k′ b′ p′ e (yes c) (no d) = absurd (new .away z l k′ b′ (old z l d p′) (sym (put-there y j c) ∙ e ∙ upd₂-other (R .bucket) (h .head) i r z l d))
-      inj y j z l k b p k′ b′ p′ e (no n) (yes d) = absurd (new .away y j k b (old y j n p) (sym (put-there z l d) ∙ sym e ∙ upd₂-other (R .bucket) (h .head) i r y j n))
+          rep .bucket-injective y j z l k b (old y j n p) k′ b′ (old z l d p′)
+          (sym (upd₂-other (R .bucket) (h .head) i r y j n) ∙ e ∙ upd₂-other (R .bucket) (h .head) i r z l d)
+      inj y j z l k b p k′ b′ p′ e (yes c) (no d) =
+          absurd (new .away z l k′ b′ (old z l d p′) (sym (put-there y j c) ∙ e ∙ upd₂-other (R .bucket) (h .head) i r z l d))
+      inj y j z l k b p k′ b′ p′ e (no n) (yes d) =
+          absurd (new .away y j k b (old y j n p) (sym (put-there z l d) ∙ sym e ∙ upd₂-other (R .bucket) (h .head) i r y j n))

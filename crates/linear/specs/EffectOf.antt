@@ -35,7 +35,8 @@ module _ {y : Machine} {h : Heap} {K : ℕ → Type 0} {R : Records} (rep : Repr
         → EndStep h l call k (put x k v h) a → {b : ℕ} → EffectOf c l (answers-of b (put-tags (R .bucket x (slot-in h x k)) ks) a)
     -- a resize ends
     ends-resize : (a : Answer) → Step h l h no-call → EffectOf c l (answers a)
-    sets-head : (b : Bool) (n r : ℕ) → l ≡ resize b (at-28 (h .head) n) → c .«new_node» ≡ link r → NewNode y K R (h .head) n r → EffectOf c l (answers-writing (set-head r) Done)
+    sets-head : (b : Bool) (n r : ℕ) → l ≡ resize b (at-28 (h .head) n) → c .«new_node» ≡ link r → NewNode y K R (h .head) n r
+        → EffectOf c l (answers-writing (set-head r) Done)
     freezes : {c′ : Task} (l′ : Position) (x i : ℕ) → K x → i < h .size x → Filled (h .place x i) → Step h l (freeze x i h) l′ → ((x : ℕ) → Names l′ x → K x)
         → Matches (freeze x i h) R l′ c′
         → takes-at l′ ≡ nothing → EffectOf c l (writes (Words.freeze (R .bucket x i)) c′)
@@ -45,7 +46,8 @@ module _ {y : Machine} {h : Heap} {K : ℕ → Type 0} {R : Records} (rep : Repr
         → takes-at l′ ≡ nothing → EffectOf c l (writes (set-place (R .node t) i (link r)) c′)
     clears-pred : {c′ : Task} (l′ : Position) → Step h l (unlink h) l′ → ((x : ℕ) → Names l′ x → K x) → Matches (unlink h) R l′ c′ → takes-at l′ ≡ nothing
         → EffectOf c l (writes (clear-pred (R .node (h .head))) c′)
-    clears-no-pred : {c′ : Task} (l′ : Position) (t : ℕ) → K t → ¬ (t ≡ h .head) → Step h l h l′ → ((x : ℕ) → Names l′ x → K x) → Matches h R l′ c′ → takes-at l′ ≡ nothing
+    clears-no-pred : {c′ : Task} (l′ : Position) (t : ℕ) → K t → ¬ (t ≡ h .head) → Step h l h l′ → ((x : ℕ) → Names l′ x → K x) → Matches h R l′ c′
+        → takes-at l′ ≡ nothing
         → EffectOf c l (writes (clear-pred (R .node t)) c′)
     takes-node : {c′ : Task} (b : Bool) (t n r : ℕ) → K t → Step h l h (resize b (at-28 t n)) → Matches h R (resize b (at-28 t n)) c′ → c′ .«new_node» ≡ link r
         → r < node-count y → ¬ HeldNode y r

@@ -16,6 +16,13 @@ unfoldable pub events : List Event
 events = waiting ++ (starts 0 Contains 9 ∷ steps 7 ∷ calling 1 Insert 5 10) ++ stepping 0 4 ++ calling 1 Contains 5 2
 
 pub two-inserts : history events (schedule (config-of 2) (replicate 68 7) (replicate 198 7) events .outs)
-    ≡ record { task = 0; call = Insert; tag = 5; answer = No; start = 0; end = 27 } ∷ record { task = 1; call = Insert; tag = 5; answer = Yes; start = 13; end = 23 } ∷ []
+    ≡ record { task = 0; call = Insert; tag = 5; answer = No; start = 0; end = 27 } ∷ record {
+      task = 1;
+      call = Insert;
+      tag = 5;
+      answer = Yes;
+      start = 13;
+      end = 23;
+    } ∷ []
 unfolding everything stepping calling waiting events set-call note tell history-from history
 two-inserts = refl

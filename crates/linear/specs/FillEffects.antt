@@ -24,16 +24,19 @@ use Rattle.linear.specs.Matches.{FillMatches}
 
 module _ {y : Machine} {h : Heap} {K : ℕ → Type 0} {R : Records} (rep : Represents y h K R) (call tag t i : ℕ) where
   pub data FillEffectOf (c : Task) (l : Fill) : Effect → Type 0 where
-    fill-moves : {c′ : Task} (l′ : Fill) → FillStep h t i l h l′ → ((x : ℕ) → FillNames t l′ x → K x) → FillMatches h R call tag t i l′ c′ → fill-takes t i l′ ≡ nothing
+    fill-moves : {c′ : Task} (l′ : Fill) → FillStep h t i l h l′ → ((x : ℕ) → FillNames t l′ x → K x) → FillMatches h R call tag t i l′ c′
+        → fill-takes t i l′ ≡ nothing
         → FillEffectOf c l (moves c′)
-    fill-freezes : {c′ : Task} (l′ : Fill) (x j : ℕ) → K x → j < h .size x → Filled (h .place x j) → FillStep h t i l (freeze x j h) l′ → ((x : ℕ) → FillNames t l′ x → K x)
+    fill-freezes : {c′ : Task} (l′ : Fill) (x j : ℕ) → K x → j < h .size x → Filled (h .place x j) → FillStep h t i l (freeze x j h) l′
+        → ((x : ℕ) → FillNames t l′ x → K x)
         → FillMatches (freeze x j h) R call tag t i l′ c′ → fill-takes t i l′ ≡ nothing → FillEffectOf c l (writes (Words.freeze (R .bucket x j)) c′)
     fill-fills : {c′ : Task} (l′ : Fill) (s r : ℕ) → t ≡ h .head → t ≡ suc s → i < h .size t → h .place t i ≡ empty → fill-takes t i l ≡ bucket s t i
         → c .«new_bucket» ≡ link r → NewBucket y h K R s t i r
         → FillStep h t i l (fill s t i h) l′ → ((x : ℕ) → FillNames t l′ x → K x) → FillMatches (fill s t i h) (with-bucket t i r R) call tag t i l′ c′
         → fill-takes t i l′ ≡ nothing
         → FillEffectOf c l (writes (set-place (R .node t) i (link r)) c′)
-    fill-takes-bucket : {c′ : Task} (s r : ℕ) (ks : List ℕ) → FillStep h t i l h (at-50 s) → ((x : ℕ) → FillNames t (at-50 s) x → K x) → FillMatches h R call tag t i (at-50 s) c′
+    fill-takes-bucket : {c′ : Task} (s r : ℕ) (ks : List ℕ) → FillStep h t i l h (at-50 s) → ((x : ℕ) → FillNames t (at-50 s) x → K x)
+        → FillMatches h R call tag t i (at-50 s) c′
         → c′ .«new_bucket» ≡ link r → r < bucket-count y → ¬ HeldBucket y r → length ks ≤ 64
         → ((k : ℕ) → slot-in h t k ≡ i → member k ks ≡ h .has s k) → ((k : ℕ) → ¬ (slot-in h t k ≡ i) → member k ks ≡ false)
         → FillEffectOf c l (writes (new-bucket r ks) c′)

@@ -25,7 +25,8 @@ use Rattle.model.specs.PlaceState.{empty, Filled, filled?}
 use Rattle.model.specs.Heap.{Heap}
 use Rattle.model.specs.HeapInvariant.{HeapInvariant, place<}
 use Rattle.model.specs.Positions.{Fill, at-39, at-40, at-43, at-44, at-46, at-47, at-48, at-52, at-49, at-50, at-51}
-use Rattle.model.specs.Lines.{NoPred, HasPred, step-39-empty, step-39-filled, step-40-filled, step-40-none, step-40-grown, step-40-shrunk, step-43, step-44, step-46, step-47, step-48, step-52, step-49, step-50-empty, step-50-filled}
+use Rattle.model.specs.Lines.{NoPred, HasPred, step-39-empty, step-39-filled, step-40-filled, step-40-none, step-40-grown, step-40-shrunk, step-43, step-44}
+use Rattle.model.specs.Lines.{step-46, step-47, step-48, step-52, step-49, step-50-empty, step-50-filled}
 use Rattle.model.specs.Filling.{InNode, FillFacts}
 use Rattle.model.specs.FillSteps.{empty-is-head}
 use Rattle.linear.specs.Represents.{Represents, Records}
@@ -47,7 +48,8 @@ module _ {y : Machine} {h : Heap} {K : ℕ → Type 0} {R : Records}
 
   pub fill-accepts : (l : Fill) → Before51 l → Fits-line l → FillFacts h t i l → ((x : ℕ) → FillNames t l x → K x) → Taken y h K R (fill-takes t i l) c
       → FillAccepts rep call tag t i c l
-  unfolding step-table line-39 line-40 after-40 line-43 line-44 line-46 line-47 line-48 line-52 line-49 line-50 with-line with-s with-b with-m with-n with-new-bucket
+  unfolding step-table line-39 line-40 after-40 line-43 line-44 line-46 line-47 line-48 line-52 line-49 line-50 with-line with-s with-b with-m with-n
+      with-new-bucket
   fill-accepts at-39 z m o names v = record {
     sound-step = sound-at y c 39 (m .call-fields .line≡) (not-none (R .node t) (m .t≡), bound m);
     effect-of = λ x. rw (does-at y c 39 (m .call-fields .line≡)) (go (filled? (h .place t i)));
@@ -91,7 +93,8 @@ module _ {y : Machine} {h : Heap} {K : ℕ → Type 0} {R : Records}
       more s p (yes e) =
           let q = pred-some-at inv rep t s p (m .t≡) in
           let ks = rep .pred-known (p .1) s (sym (p .0) ∙ p .2) in
-          let test = eq-eqb (size-of y (c .t)) (2 * size-of y (pred-of y (c .t))) (size-at inv rep t kt (m .t≡) ∙ e ∙ ap (λ (n : ℕ). 2 * n) (sym (size-at inv rep s ks q))) in
+          let test = eq-eqb (size-of y (c .t)) (2 * size-of y (pred-of y (c .t)))
+          (size-at inv rep t kt (m .t≡) ∙ e ∙ ap (λ (n : ℕ). 2 * n) (sym (size-at inv rep s ks q))) in
           rw (test, filled-is _ q, b0)
           (fill-moves (at-43 s) (step-40-grown p e) (λ x u. known x u)
           (record { call-fields = at-line (m .call-fields) refl refl refl; t≡ = m .t≡; i≡ = m .i≡; fields = (m .fields .0, q) }) refl)
@@ -116,7 +119,12 @@ module _ {y : Machine} {h : Heap} {K : ℕ → Type 0} {R : Records}
       go (inl (s, p)) = more s p (ℕ-discrete (h .size t) (2 * h .size s))
       go (inr n) =
           let q = pred-none-at inv rep t kt n (m .t≡) in
-          rw (b0, q) (fill-moves at-51 (step-40-none false n) names (record { call-fields = at-line (m .call-fields) refl refl refl; t≡ = m .t≡; i≡ = m .i≡; fields = tt }) refl)
+          rw (b0, q) (fill-moves at-51 (step-40-none false n) names (record {
+            call-fields = at-line (m .call-fields) refl refl refl;
+            t≡ = m .t≡;
+            i≡ = m .i≡;
+            fields = tt;
+          }) refl)
   fill-accepts (at-43 s) z m o names v = record {
     sound-step = sound-at y c 43 (m .call-fields .line≡) (not-none (R .node s) (m .fields .1));
     effect-of = λ x.
@@ -129,7 +137,12 @@ module _ {y : Machine} {h : Heap} {K : ℕ → Type 0} {R : Records}
         let p = place-filled inv rep s (i % h .size s) {l = c .s} {j = c .i % size-of y (c .s)} ks bs e (rw (size-at inv rep s ks e, m .i≡))
         (inv .past-filled s (i % h .size s) lt bs) in
         rw (does-at y c 43 (m .call-fields .line≡))
-        (fill-moves (at-44 s) step-43 names (record { call-fields = at-line (m .call-fields) refl refl refl; t≡ = m .t≡; i≡ = m .i≡; fields = (m .fields .0, e, p) }) refl);
+        (fill-moves (at-44 s) step-43 names (record {
+          call-fields = at-line (m .call-fields) refl refl refl;
+          t≡ = m .t≡;
+          i≡ = m .i≡;
+          fields = (m .fields .0, e, p);
+        }) refl);
   }
   fill-accepts (at-44 s) z m o names v = record {
     sound-step = sound-at y c 44 (m .call-fields .line≡) (not-none _ (m .fields .2));
@@ -141,7 +154,12 @@ module _ {y : Machine} {h : Heap} {K : ℕ → Type 0} {R : Records}
         let n : number (c .m) ≡ R .bucket s (i % h .size s) = rw (m .fields .2) (link-number _) in
         rw (does-at y c 44 (m .call-fields .line≡), n)
         (fill-freezes (at-49 s) s (i % h .size s) (names s (inr refl)) bs (inv .past-filled s (i % h .size s) lt bs) step-44 names
-        (record { call-fields = at-line (m .call-fields) refl refl refl; t≡ = m .t≡; i≡ = m .i≡; fields = (m .fields .1, inl (o .1, m .fields .2, m .fields .0)) }) refl);
+        (record {
+          call-fields = at-line (m .call-fields) refl refl refl;
+          t≡ = m .t≡;
+          i≡ = m .i≡;
+          fields = (m .fields .1, inl (o .1, m .fields .2, m .fields .0));
+        }) refl);
   }
   fill-accepts (at-46 s) z m o names v = record {
     sound-step = sound-at y c 46 (m .call-fields .line≡) (not-none (R .node s) (m .fields), in-s);
@@ -154,7 +172,12 @@ module _ {y : Machine} {h : Heap} {K : ℕ → Type 0} {R : Records}
         let bs : i < h .size s = omega arith in
         let p = place-filled inv rep s i (names s (inr refl)) bs (m .fields) (m .i≡) (inv .past-filled s i lt bs) in
         rw (does-at y c 46 (m .call-fields .line≡))
-        (fill-moves (at-47 s) step-46 names (record { call-fields = at-line (m .call-fields) refl refl refl; t≡ = m .t≡; i≡ = m .i≡; fields = (m .fields, p) }) refl);
+        (fill-moves (at-47 s) step-46 names (record {
+          call-fields = at-line (m .call-fields) refl refl refl;
+          t≡ = m .t≡;
+          i≡ = m .i≡;
+          fields = (m .fields, p);
+        }) refl);
   }
     where
       in-s : c .i < size-of y (c .s)
@@ -217,7 +240,8 @@ module _ {y : Machine} {h : Heap} {K : ℕ → Type 0} {R : Records}
       few : length (gathered y c) ≤ 64
       few = gather-few f inv rep s t i kt (names s (inr refl)) w (o .0) c (m .t≡) (m .i≡) (o .2) (m .fields .1)
 
-      go : Taking (HeldBucket y) (bucket-count y) (y .state .«last_bucket») (free-bucket y) → ¬ (free-bucket y ≡ 0) → FillEffectOf rep call tag t i c (at-49 s) (line-49 y c)
+      go : Taking (HeldBucket y) (bucket-count y) (y .state .«last_bucket») (free-bucket y) → ¬ (free-bucket y ≡ 0)
+          → FillEffectOf rep call tag t i c (at-49 s) (line-49 y c)
       go (none-free e a) n = absurd (n e)
       go (takes r e b first) n =
           let q : number (free-bucket y) ≡ r = rw e (link-number r) in

@@ -30,7 +30,8 @@ use Rattle.linear.specs.Matches.{FromOne, FromTwo}
 
 -- what line 49 gathers
 module _ {y : Machine} {h : Heap} {K : ℕ → Type 0} {R : Records}
-    (f : SoundFacts y) (inv : HeapInvariant h) (rep : Represents y h K R) (s t i : ℕ) (kt : K t) (ks : K s) (w : InNode h t i) (q : t ≡ suc s) (c : Task) (t≡ : c .t ≡ link
+    (f : SoundFacts y) (inv : HeapInvariant h) (rep : Represents y h K R) (s t i : ℕ) (kt : K t) (ks : K s) (w : InNode h t i) (q : t ≡ suc s) (c : Task)
+    (t≡ : c .t ≡ link
     (R .node t)) (i≡ : c .i ≡ i) where
   s< : s < h .head
   s< = let a = w .0 in omega arith
@@ -43,21 +44,24 @@ module _ {y : Machine} {h : Heap} {K : ℕ → Type 0} {R : Records}
   lacks j b e k p = ap (member k) (tags-at inv rep (R .bucket s j) e) ∙ rep .tags s j ks b (inv .past-filled s j s< b) .outside k p
 
   rises : (j : ℕ) {l : ℕ} → j < h .size s → l ≡ link (R .bucket s j) → Rising (tags-of y l)
-  rises j b e = rw (tags-at inv rep (R .bucket s j) e) (ascending-rising _ (f .bucket (R .bucket s j) (bucket-in-pool f rep s j ks b (inv .past-filled s j s< b)) .rising))
+  rises j b e = rw (tags-at inv rep (R .bucket s j) e)
+      (ascending-rising _ (f .bucket (R .bucket s j) (bucket-in-pool f rep s j ks b (inv .past-filled s j s< b)) .rising))
 
   pub gather-own : FromOne h R s t i c ⊎ FromTwo h R s t i c → (k : ℕ) → slot-in h t k ≡ i → member k (gathered y c) ≡ h .has s k
   unfolding gathered
   gather-own (inl m) k p =
       let b = place< h inv s i (let a = s< in omega arith) in
       let e : slot-in h s k ≡ i % h .size s = sym (mod-grown (h .key k) (h .size t) (h .size s) (m .0)) ∙ ap (λ (n : ℕ). n % h .size s) p in
-      rw (m .2) (member-filter k _ (tags-of y (c .m)) ∙ rw (size-at inv rep t kt t≡, i≡, rep .slot≡ k (h .size t), eq-eqb (slot-in h t k) i p) (tells (i % h .size s) b (m .1) k e))
+      rw (m .2) (member-filter k _ (tags-of y (c .m)) ∙ rw (size-at inv rep t kt t≡, i≡, rep .slot≡ k (h .size t), eq-eqb (slot-in h t k) i p)
+      (tells (i % h .size s) b (m .1) k e))
   gather-own (inr m) k p =
       let a = inv .sizes-positive t (w .0) in
       let b = w .1 in
       let d = m .0 in
       rw (filled-is _ (m .2)) (member-union k (tags-of y (c .m)) (tags-of y (c .n)) ∙ go (mod-shrunk (h .key k) (h .size t) (h .size s) a d))
     where
-      go : (slot-in h s k ≡ slot-in h t k) ⊎ (slot-in h s k ≡ slot-in h t k + h .size t) → (member k (tags-of y (c .m)) || member k (tags-of y (c .n))) ≡ h .has s k
+      go : (slot-in h s k ≡ slot-in h t k) ⊎ (slot-in h s k ≡ slot-in h t k + h .size t)
+          → (member k (tags-of y (c .m)) || member k (tags-of y (c .n))) ≡ h .has s k
       go (inl e) =
           let a = inv .sizes-positive t (w .0) in
           let b = w .1 in
@@ -75,7 +79,8 @@ module _ {y : Machine} {h : Heap} {K : ℕ → Type 0} {R : Records}
 
   pub gather-foreign : FromOne h R s t i c ⊎ FromTwo h R s t i c → (k : ℕ) → ¬ (slot-in h t k ≡ i) → member k (gathered y c) ≡ false
   unfolding gathered
-  gather-foreign (inl m) k p = rw (m .2) (member-filter k _ (tags-of y (c .m)) ∙ rw (size-at inv rep t kt t≡, i≡, rep .slot≡ k (h .size t), ne-eqb (slot-in h t k) i p))
+  gather-foreign (inl m) k p =
+      rw (m .2) (member-filter k _ (tags-of y (c .m)) ∙ rw (size-at inv rep t kt t≡, i≡, rep .slot≡ k (h .size t), ne-eqb (slot-in h t k) i p))
   gather-foreign (inr m) k p =
       let a = inv .sizes-positive t (w .0) in
       let b = w .1 in
@@ -103,7 +108,8 @@ module _ {y : Machine} {h : Heap} {K : ℕ → Type 0} {R : Records}
   gather-rising : FromOne h R s t i c ⊎ FromTwo h R s t i c → Rising (gathered y c)
   unfolding gathered
   gather-rising (inl m) = rw (m .2) (rising-filter _ (tags-of y (c .m)) (rises (i % h .size s) (place< h inv s i (let a = s< in omega arith)) (m .1)))
-  gather-rising (inr m) = let b = w .1 in let d = m .0 in rw (filled-is _ (m .2)) (rising-union (tags-of y (c .m)) (tags-of y (c .n)) (rises (i + h .size t) (omega arith) (m .2)))
+  gather-rising (inr m) =
+      let b = w .1 in let d = m .0 in rw (filled-is _ (m .2)) (rising-union (tags-of y (c .m)) (tags-of y (c .n)) (rises (i + h .size t) (omega arith) (m .2)))
 
   pub gather-few : SourceFew h t i s → FromOne h R s t i c ⊎ FromTwo h R s t i c → length (gathered y c) ≤ 64
   gather-few fits m = fits (gathered y c) (gather-rising m) (λ k e. go k e (ℕ-discrete (slot-in h t k) i))

@@ -29,7 +29,8 @@ module _ {y : Machine} {h : Heap} {K : ℕ → Type 0} {R : Records} (inv : Heap
       go : (state-for h (h .head) k ≡ empty) ⊎ Filled (state-for h (h .head) k) → in-set y k ≡ abs h k
       go (inr f) =
           let b = for-filled inv rep (h .head) k (rep .head-known) hd refl f in
-          rw (true-filled _ (not-none _ b)) (has-at inv rep (h .head) k (rep .head-known) f b refl ∙ sym (ap (λ (x : ℕ). h .has x k) (decider-filled (h .head) f)))
+          rw (true-filled _ (not-none _ b)) (has-at inv rep (h .head) k (rep .head-known) f b refl
+          ∙ sym (ap (λ (x : ℕ). h .has x k) (decider-filled (h .head) f)))
       go (inl e) =
           let l = empty-is-head h inv (h .head) (slot-in h (h .head) k) (le-refl _, place< h inv (h .head) (h .key k) (le-refl _)) e .1 in
           let c = inv .linked-ratio l in
@@ -42,7 +43,8 @@ module _ {y : Machine} {h : Heap} {K : ℕ → Type 0} {R : Records} (inv : Heap
           let b = for-empty inv rep (h .head) k (rep .head-known) hd refl e in
           let p = pred-some-at inv rep (h .head) s (refl, l, q) hd in
           let d = for-filled inv rep s k ks p refl f in
-          rw (b, true-filled _ (not-none _ p), true-filled _ (not-none _ d)) (has-at inv rep s k ks f d refl ∙ sym (ap (λ (x : ℕ). h .has x k) (decider-empty (h .head) e ∙ one)))
+          rw (b, true-filled _ (not-none _ p), true-filled _ (not-none _ d))
+          (has-at inv rep s k ks f d refl ∙ sym (ap (λ (x : ℕ). h .has x k) (decider-empty (h .head) e ∙ one)))
 
   pub the-list : SoundFacts y → Listed h (listed y)
   the-list f = (listed-rising y, λ k. listed-member y f k ∙ in-set-abs k)

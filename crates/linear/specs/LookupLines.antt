@@ -38,7 +38,8 @@ pred? h inv t = go (ℕ-discrete t (h .head)) (bool? (h .linked))
     go (yes e) (inr l) = inr (λ q. l)
     go (no d) c = inr (λ q. absurd (d q))
 
-module _ {y : Machine} {h : Heap} {K : ℕ → Type 0} {R : Records} (inv : HeapInvariant h) (rep : Represents y h K R) (L : List Ended) (r : ℕ) (c : Task) (k : ℕ) where
+module _ {y : Machine} {h : Heap} {K : ℕ → Type 0} {R : Records} (inv : HeapInvariant h) (rep : Represents y h K R) (L : List Ended) (r : ℕ) (c : Task)
+    (k : ℕ) where
   same-known : (x t : ℕ) → K t → x ≡ t → K x
   same-known x t k e = rw e k
 
@@ -71,7 +72,8 @@ module _ {y : Machine} {h : Heap} {K : ℕ → Type 0} {R : Records} (inv : Heap
       go (inl (s, p)) =
           let b = pred-some-at inv rep t s p (m .1) in
           rw (filled-is _ b)
-          (moves-to (lookup k (at-16 s)) (step-15-some p) (λ x q. same-known x s (rep .pred-known (p .1) s (sym (p .0) ∙ p .2)) q) (at-line (m .0) refl refl refl, b) refl)
+          (moves-to (lookup k (at-16 s)) (step-15-some p) (λ x q. same-known x s (rep .pred-known (p .1) s (sym (p .0) ∙ p .2)) q)
+          (at-line (m .0) refl refl refl, b) refl)
       go (inr n) =
           let b = pred-none-at inv rep t (names t refl) n (m .1) in
           rw b (moves-to (lookup k (at-17 t)) (step-15-none n) names (at-line (m .0) refl refl refl, m .1) refl)

@@ -31,7 +31,8 @@ use Rattle.laws.specs.SoundFacts.{SoundFacts}
 use Rattle.laws.specs.Soundness.{sound-facts}
 use Rattle.laws.specs.AfterWrites.{after-task}
 use Rattle.laws.specs.StepAt.{step-table, does-at}
-use Rattle.laws.specs.EntriesKeep.{StartOutcome, StepOutcome, start-no-task, start-running, start-withdrawn, start-accepted, start-outcome, step-no-task, step-idle, step-unsound, step-all-held, step-accepted, step-outcome}
+use Rattle.laws.specs.EntriesKeep.{StartOutcome, StepOutcome, start-no-task, start-running, start-withdrawn, start-accepted, start-outcome, step-no-task}
+use Rattle.laws.specs.EntriesKeep.{step-idle, step-unsound, step-all-held, step-accepted, step-outcome}
 use Rattle.linear.specs.Accepted.{OwnAfter, accept-other, accept-own}
 
 -- ---- how far a contains is, by its line

@@ -9,7 +9,8 @@ use Rattle.spec.specs.Words.{link, size}
 use Rattle.spec.specs.Words as Words
 use Rattle.laws.specs.SoundFacts.{runs}
 use Rattle.model.specs.Heap.{Heap, slot-in}
-use Rattle.model.specs.Positions.{Fill, at-39, at-40, at-43, at-44, at-46, at-47, at-48, at-52, at-49, at-50, at-51, Lookup, at-12, at-13, at-15, at-16, at-17, at-18, Update, at-32, at-33, at-36, Resize, at-20, at-24, at-27, at-28, Position, no-call, lookup, update, resize}
+use Rattle.model.specs.Positions.{Fill, at-39, at-40, at-43, at-44, at-46, at-47, at-48, at-52, at-49, at-50, at-51, Lookup, at-12, at-13, at-15, at-16}
+use Rattle.model.specs.Positions.{at-17, at-18, Update, at-32, at-33, at-36, Resize, at-20, at-24, at-27, at-28, Position, no-call, lookup, update, resize}
 use Rattle.laws.specs.Tests.{tf}
 use Rattle.linear.specs.Represents.{Records}
 
@@ -23,7 +24,8 @@ pub record CallFields (c : Task) (call tag line : ℕ) : Type 0 where
   pub line≡ : c .line ≡ line
 
 -- the same call at the line where its record now stands
-pub at-line : {c d : Task} {call tag line : ℕ} → CallFields c call tag line → d .running ≡ c .running → d .call ≡ c .call → d .tag ≡ c .tag → CallFields d call tag (d .line)
+pub at-line : {c d : Task} {call tag line : ℕ} → CallFields c call tag line → d .running ≡ c .running → d .call ≡ c .call → d .tag ≡ c .tag
+    → CallFields d call tag (d .line)
 at-line j r k t = record { runs = r ∙ j .runs; call≡ = k ∙ j .call≡; tag≡ = t ∙ j .tag≡; line≡ = refl }
 
 -- the number of an insert (true) or remove (false); of a grow (true) or shrink (false); the sizes from which that may go on

@@ -54,7 +54,8 @@ module _ {y z : Machine} {h : Heap} {K : ℕ → Type 0} {R : Records} (f : Soun
     node-in-pool = λ x k. rw (a .same .H≡) (rep .node-in-pool x k);
     slot≡ = λ k n. rw (a .same .config≡) (rep .slot≡ k n);
     size≡ = λ x k. a .size≡ (R .node x) ∙ rep .size≡ x k;
-    pred-some = λ l s q. at-miss (λ e. d (sym (rep .node-injective (h .head) t (rep .head-known) kt e))) (a .pred-at (R .node (h .head))) ∙ rep .pred-some l s q;
+    pred-some =
+        λ l s q. at-miss (λ e. d (sym (rep .node-injective (h .head) t (rep .head-known) kt e))) (a .pred-at (R .node (h .head))) ∙ rep .pred-some l s q;
     pred-none = λ x k n. go x (a .pred-at (R .node x)) (rep .pred-none x k n);
     place≡ = λ x i k b. a .place≡ (R .node x) i (let s = size-bound f rep x k in omega arith) ∙ rep .place≡ x i k b;
     first-word≡ = rw (a .buckets≡) (rep .first-word≡);
@@ -63,7 +64,8 @@ module _ {y z : Machine} {h : Heap} {K : ℕ → Type 0} {R : Records} (f : Soun
     bucket-injective = rep .bucket-injective;
   }
     where
-      go : (x : ℕ) → At (R .node x ≡ R .node t) 0 (Words.pred (y .nodes) (R .node x)) (Words.pred (z .nodes) (R .node x)) → Words.pred (y .nodes) (R .node x) ≡ 0
+      go : (x : ℕ) → At (R .node x ≡ R .node t) 0 (Words.pred (y .nodes) (R .node x)) (Words.pred (z .nodes) (R .node x))
+          → Words.pred (y .nodes) (R .node x) ≡ 0
           → Words.pred (z .nodes) (R .node x) ≡ 0
       go x (hit p e) q = e
       go x (miss n e) q = e ∙ q
@@ -154,7 +156,10 @@ module _ {y z : Machine} {h : Heap} {K : ℕ → Type 0} {R : Records} (f : Soun
       tags′ x i (inl k) b p =
           let c = rep .known-bound x k in
           let t = rep .tags x i k (rw (size₀ x c) at b) (rw (st₀ x c) at p) in
-          record { inside = λ d e. rw (a .buckets≡) (t .inside d (rw (size₀ x c) at e)); outside = λ d e. rw (a .buckets≡) (t .outside d (λ u. e (rw (size₀ x c) u))) }
+          record {
+            inside = λ d e. rw (a .buckets≡) (t .inside d (rw (size₀ x c) at e));
+            outside = λ d e. rw (a .buckets≡) (t .outside d (λ u. e (rw (size₀ x c) u)));
+          }
       tags′ x i (inr e) b p = absurd (filled-not-empty p (st₁ x i e))
 
       injn : (x y : ℕ) → K x ⊎ (x ≡ suc (h .head)) → K y ⊎ (y ≡ suc (h .head)) → upd (R .node) (suc (h .head)) r x ≡ upd (R .node) (suc (h .head)) r y → x ≡ y
@@ -163,7 +168,8 @@ module _ {y z : Machine} {h : Heap} {K : ℕ → Type 0} {R : Records} (f : Soun
       injn x y (inr a) (inl b) e = absurd (new .away y b (sym top′ ∙ ap (upd (R .node) (suc (h .head)) r) (sym a) ∙ e ∙ filter y (rep .known-bound y b)))
       injn x y (inr a) (inr b) e = a ∙ sym b
 
-      injb : (x i y j : ℕ) → K x ⊎ (x ≡ suc (h .head)) → i < advance n h .size x → Filled (advance n h .place x i) → K y ⊎ (y ≡ suc (h .head)) → j < advance n h .size y
+      injb : (x i y j : ℕ) → K x ⊎ (x ≡ suc (h .head)) → i < advance n h .size x → Filled (advance n h .place x i) → K y ⊎ (y ≡ suc (h .head))
+          → j < advance n h .size y
           → Filled (advance n h .place y j)
           → R .bucket x i ≡ R .bucket y j → (x ≡ y) × (i ≡ j)
       injb x i y j (inl a) b p (inl a′) b′ p′ e =

@@ -14,7 +14,8 @@ use Rattle.spec.specs.Sound.{bucket-count}
 use Rattle.model.specs.PlaceState.{Filled}
 use Rattle.model.specs.Heap.{Heap, at, slot-in}
 use Rattle.model.specs.HeapInvariant.{HeapInvariant, Rely, place<}
-use Rattle.model.specs.Positions.{Fill, at-39, at-40, at-43, at-44, at-46, at-47, at-48, at-52, at-49, at-50, at-51, at-12, at-13, at-15, at-16, at-17, at-18, Update, at-32, at-33, at-36, Resize, at-20, at-24, at-27, at-28, Position, no-call, lookup, update, resize}
+use Rattle.model.specs.Positions.{Fill, at-39, at-40, at-43, at-44, at-46, at-47, at-48, at-52, at-49, at-50, at-51, at-12, at-13, at-15, at-16, at-17}
+use Rattle.model.specs.Positions.{at-18, Update, at-32, at-33, at-36, Resize, at-20, at-24, at-27, at-28, Position, no-call, lookup, update, resize}
 use Rattle.spec.specs.History.{Ended}
 use Rattle.model.specs.Filling.{InNode, FillFacts, SourceFrozen, source-frozen-stays}
 use Rattle.model.specs.PositionFacts.{PositionFacts}
@@ -47,7 +48,11 @@ module _ {y z : Machine} {h g : Heap} {K J : ℕ → Type 0} {R R′ : Records} 
   from-one-stays : (s t i : ℕ) → t ≤ h .head → t ≡ suc s → FromOne h R s t i c → FromOne g R′ s t i c
   from-one-stays s t i a q m =
       let b : s ≤ h .head = omega arith in
-      rw (le .size≡ t a, le .size≡ s b) (m .0, same-bucket s (i % h .size s) (inv .past-filled s (i % h .size s) (omega arith) (place< h inv s i b)) (m .1), m .2)
+      rw (le .size≡ t a, le .size≡ s b) (
+        m .0,
+        same-bucket s (i % h .size s) (inv .past-filled s (i % h .size s) (omega arith) (place< h inv s i b)) (m .1),
+        m .2,
+      )
 
   from-two-stays : (s t i : ℕ) → t ≤ h .head → i < h .size t → t ≡ suc s → FromTwo h R s t i c → FromTwo g R′ s t i c
   from-two-stays s t i a b q m =
@@ -67,8 +72,12 @@ module _ {y z : Machine} {h g : Heap} {K J : ℕ → Type 0} {R R′ : Records} 
   fields-stay t i (at-44 s) w o m =
       let a = w .0 in
       let q = o .0 in
-      let b : s ≤ h .head = omega arith in
-      (m .0, same-node s b (m .1), rw (le .size≡ s b) (same-bucket s (i % h .size s) (inv .past-filled s (i % h .size s) (omega arith) (place< h inv s i b)) (m .2)))
+      let b : s ≤ h .head = omega arith in (
+        m .0,
+        same-node s b (m .1),
+        rw (le .size≡ s b) (same-bucket s (i % h .size s) (inv .past-filled s (i % h .size s) (omega arith) (place< h inv s i b))
+            (m .2)),
+      )
   fields-stay t i (at-46 s) w o m = let a = w .0 in let q = o .0 in same-node s (omega arith) m
   fields-stay t i (at-47 s) w o m =
       let a = w .0 in
@@ -87,7 +96,8 @@ module _ {y z : Machine} {h g : Heap} {K J : ℕ → Type 0} {R R′ : Records} 
   fields-stay t i at-51 w o m = tt
 
   fill-matches-stay : (call k t i : ℕ) (l : Fill) → InNode h t i → FillFacts h t i l → FillMatches h R call k t i l c → FillMatches g R′ call k t i l c
-  fill-matches-stay call k t i l w o m = record { call-fields = m .call-fields; t≡ = same-node t (w .0) (m .t≡); i≡ = m .i≡; fields = fields-stay t i l w o (m .fields) }
+  fill-matches-stay call k t i l w o m =
+      record { call-fields = m .call-fields; t≡ = same-node t (w .0) (m .t≡); i≡ = m .i≡; fields = fields-stay t i l w o (m .fields) }
 
   pub matches-stay : (L : List Ended) (r : ℕ) (l : Position) → PositionFacts h L r l → Matches h R l c → Matches g R′ l c
   matches-stay L r no-call o m = m
@@ -103,7 +113,8 @@ module _ {y z : Machine} {h g : Heap} {K J : ℕ → Type 0} {R R′ : Records} 
       go (inr e) = inr (same-node x (o .0) e)
   matches-stay L r (update b k at-32) o m = m
   matches-stay L r (update b k (at-33 t)) o m = (m .0, same-node t o (m .1), m .2)
-  matches-stay L r (update b k (at-36 x)) o m = (m .0, same-node x (o .0) (m .1), rw (le .size≡ x (o .0), le .key≡ k) (same-bucket x (slot-in h x k) (o .1) (m .2)))
+  matches-stay L r (update b k (at-36 x)) o m =
+      (m .0, same-node x (o .0) (m .1), rw (le .size≡ x (o .0), le .key≡ k) (same-bucket x (slot-in h x k) (o .1) (m .2)))
   matches-stay L r (update b k (Update.filling t i l)) o m = fill-matches-stay (update-call b) k t i l (o .0) (o .2) m
   matches-stay L r (resize b at-20) o m = m
   matches-stay L r (resize b (at-24 t)) o m = (m .0, same-node t (o .0) (m .1), rw (le .size≡ t (o .0)) (m .2))
@@ -112,14 +123,16 @@ module _ {y z : Machine} {h g : Heap} {K J : ℕ → Type 0} {R R′ : Records} 
   matches-stay L r (resize b (Resize.filling t i l)) o m = (fill-matches-stay (resize-call b) 0 t i l (o .0) (o .2) (m .0), rw (le .size≡ t (o .0 .0)) (m .1))
 
   -- what the task has taken: r is none of the stepping task's own
-  new-bucket-stays : (s t i r : ℕ) → t ≤ h .head → t ≡ suc s → SourceFrozen h t i s → r < bucket-count y → ¬ nb r → NewBucket y h K R s t i r → NewBucket z g J R′ s t i r
+  new-bucket-stays : (s t i r : ℕ) → t ≤ h .head → t ≡ suc s → SourceFrozen h t i s → r < bucket-count y → ¬ nb r → NewBucket y h K R s t i r
+      → NewBucket z g J R′ s t i r
   new-bucket-stays s t i r a q ice lt n w =
       let b : s ≤ h .head = omega arith in
       let e = sh .tags≡ r lt n (w .away) in
       record {
         opened = sh .first-word≡ r n (w .away) ∙ w .opened;
         inside =
-            λ k p. ap (member k) e ∙ w .inside k (rw (le .size≡ t a, le .key≡ k) at p) ∙ sym (le .frozen-keeps-tags s k b (source-frozen-stays h g le t i s a b ice (g .key k) p));
+            λ k p. ap (member k) e ∙ w .inside k (rw (le .size≡ t a, le .key≡ k) at p)
+            ∙ sym (le .frozen-keeps-tags s k b (source-frozen-stays h g le t i s a b ice (g .key k) p));
         outside = λ k p. ap (member k) e ∙ w .outside k (λ u. p (rw (le .size≡ t a, le .key≡ k) u));
         away = sh .away-bucket r n (w .away);
       }
@@ -136,5 +149,6 @@ module _ {y z : Machine} {h g : Heap} {K J : ℕ → Type 0} {R R′ : Records} 
       → (IsBucket τ → (r : ℕ) → c .«new_bucket» ≡ link r → ¬ nb r) → (IsNode τ → (r : ℕ) → c .«new_node» ≡ link r → ¬ nn r)
       → Taken y h K R τ c → Taken z g J R′ τ c
   taken-stays nothing o below n n′ p = tt
-  taken-stays (bucket s t i) o below n n′ p = (p .0, p .1, new-bucket-stays s t i (p .0) (o .0) (o .1 .0) (o .1 .1) (below (p .0) (p .1)) (n tt (p .0) (p .1)) (p .2))
+  taken-stays (bucket s t i) o below n n′ p =
+      (p .0, p .1, new-bucket-stays s t i (p .0) (o .0) (o .1 .0) (o .1 .1) (below (p .0) (p .1)) (n tt (p .0) (p .1)) (p .2))
   taken-stays (node t m) o below n n′ p = (p .0, p .1, new-node-stays t m (p .0) o (n′ tt (p .0) (p .1)) (p .2))

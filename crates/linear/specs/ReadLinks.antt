@@ -42,7 +42,8 @@ module _ {y : Machine} {h : Heap} {K : ℕ → Type 0} {R : Records} (inv : Heap
 
   pub for-at : (x k : ℕ) {l j : ℕ} → K x → l ≡ link (R .node x) → j ≡ k → place-for y l j ≡ place-word (state-for h x k) (R .bucket x (slot-in h x k))
   unfolding place-for
-  for-at x k {l} {j} a e q = place-at x (slot-in h x k) a (place< h inv x (h .key k) (rep .known-bound x a)) e (rw (size-at x a e, q) (rep .slot≡ k (h .size x)))
+  for-at x k {l} {j} a e q =
+      place-at x (slot-in h x k) a (place< h inv x (h .key k) (rep .known-bound x a)) e (rw (size-at x a e, q) (rep .slot≡ k (h .size x)))
 
   pub for-filled : (x k : ℕ) {l j : ℕ} → K x → l ≡ link (R .node x) → j ≡ k → Filled (state-for h x k) → place-for y l j ≡ link (R .bucket x (slot-in h x k))
   for-filled x k a e q p = for-at x k a e q ∙ place-word-filled (R .bucket x (slot-in h x k)) p
@@ -63,7 +64,8 @@ module _ {y : Machine} {h : Heap} {K : ℕ → Type 0} {R : Records} (inv : Heap
   tags-at r e = rw (e, link-number r)
 
   pub has-at : (x k : ℕ) {l j : ℕ} → K x → Filled (state-for h x k) → l ≡ link (R .bucket x (slot-in h x k)) → j ≡ k → member j (tags-of y l) ≡ h .has x k
-  has-at x k a p e q = rw (tags-at (R .bucket x (slot-in h x k)) e, q) (rep .tags x (slot-in h x k) a (place< h inv x (h .key k) (rep .known-bound x a)) p .inside k refl)
+  has-at x k a p e q =
+      rw (tags-at (R .bucket x (slot-in h x k)) e, q) (rep .tags x (slot-in h x k) a (place< h inv x (h .key k) (rep .known-bound x a)) p .inside k refl)
 
   pub head-at : head-of y ≡ link (R .node (h .head))
   unfolding head-of

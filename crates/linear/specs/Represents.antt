@@ -70,7 +70,8 @@ pub record Represents (y : Machine) (h : Heap) (K : ℕ → Type 0) (R : Records
   pub first-word≡ : (x i : ℕ) → K x → i < h .size x → Filled (h .place x i) → Words.changeable (y .buckets) (R .bucket x i) ≡ first-word (h .place x i)
   pub tags : (x i : ℕ) → K x → i < h .size x → Filled (h .place x i) → HoldsTags y h x i (R .bucket x i)
   pub node-injective : (x z : ℕ) → K x → K z → R .node x ≡ R .node z → x ≡ z
-  pub bucket-injective : (x i z j : ℕ) → K x → i < h .size x → Filled (h .place x i) → K z → j < h .size z → Filled (h .place z j) → R .bucket x i ≡ R .bucket z j
+  pub bucket-injective : (x i z j : ℕ) → K x → i < h .size x → Filled (h .place x i) → K z → j < h .size z → Filled (h .place z j)
+      → R .bucket x i ≡ R .bucket z j
       → (x ≡ z) × (i ≡ j)
 
 -- a bucket record that no known place has; a node record that is no known node

@@ -23,11 +23,13 @@ use Rattle.laws.specs.Taking.{Taking, none-free, takes, node-taking}
 use Rattle.model.specs.Heap.{Heap}
 use Rattle.model.specs.HeapInvariant.{HeapInvariant}
 use Rattle.model.specs.Positions.{Fill, at-39, at-50, at-51, Resize, at-20, at-24, at-27, at-28, resize}
-use Rattle.model.specs.Lines.{Step, step-20, resize-fills, step-51-next, step-51-last, step-24-head, step-24-past, step-27-grow, step-27-shrink, step-20-limit, step-28-lost}
+use Rattle.model.specs.Lines.{Step, step-20, resize-fills, step-51-next, step-51-last, step-24-head, step-24-past, step-27-grow, step-27-shrink}
+use Rattle.model.specs.Lines.{step-20-limit, step-28-lost}
 use Rattle.model.specs.Filling.{FillFacts}
 use Rattle.model.specs.PositionFacts.{ResizeFacts}
 use Rattle.linear.specs.Represents.{Represents, Records}
-use Rattle.linear.specs.EffectOf.{EffectOf, moves-to, ends-resize, sets-head, freezes, fills, clears-pred, clears-no-pred, takes-node, takes-bucket, Accepts}
+use Rattle.linear.specs.EffectOf.{EffectOf, moves-to, ends-resize, sets-head, freezes, fills, clears-pred, clears-no-pred, takes-node, takes-bucket}
+use Rattle.linear.specs.EffectOf.{Accepts}
 use Rattle.linear.specs.ReadLinks.{not-none, link-number, size-at, head-at}
 use Rattle.linear.specs.FillEffects.{Which51, last, before, which-51, FillEffectOf, fill-moves, fill-freezes, fill-fills, fill-takes-bucket}
 use Rattle.linear.specs.FillLines.{fill-accepts}
@@ -39,7 +41,8 @@ pub fill-in-resize : {y : Machine} {h : Heap} {K : ℕ → Type 0} {R : Records}
     → MayResize b (h .size t)
     → FillEffectOf rep (resize-call b) 0 t i c l e → EffectOf rep c (resize b (Resize.filling t i l)) e
 fill-in-resize b {t} {i} u (fill-moves l′ st names m n) = moves-to (resize b (Resize.filling t i l′)) (resize-fills st) names (m, u) n
-fill-in-resize b {t} {i} u (fill-freezes l′ x j kx bx px st names m n) = freezes (resize b (Resize.filling t i l′)) x j kx bx px (resize-fills st) names (m, u) n
+fill-in-resize b {t} {i} u (fill-freezes l′ x j kx bx px st names m n) =
+    freezes (resize b (Resize.filling t i l′)) x j kx bx px (resize-fills st) names (m, u) n
 fill-in-resize b {t} {i} u (fill-fills l′ s r q q′ bi e z nb new st names m n) =
     fills (resize b (Resize.filling t i l′)) t s i r q q′ bi e z nb new (resize-fills st) names (m, u) n
 fill-in-resize b {t} {i} u (fill-takes-bucket s r ks st names m nb lt free few own foreign) =
@@ -69,7 +72,8 @@ module _ {y : Machine} {h : Heap} {K : ℕ → Type 0} {R : Records} (f : SoundF
   sized : (t : ℕ) → K t → ListedSize (h .size t)
   sized t k =
       rw (rep .size≡ t k) at
-      (size-listed (f .node (R .node t) (rep .node-in-pool t k) .size-ok) (λ e. let p = inv .sizes-positive t (rep .known-bound t k) in let q = rep .size≡ t k in omega arith))
+      (size-listed (f .node (R .node t) (rep .node-in-pool t k) .size-ok) (λ e. let p = inv .sizes-positive t
+      (rep .known-bound t k) in let q = rep .size≡ t k in omega arith))
 
   -- ---- line 51
   resize-51 : (b : Bool) (t i : ℕ) → ResizeMatches h R b (Resize.filling t i at-51) c → ResizeFacts h (Resize.filling t i at-51) → ((x : ℕ) → x ≡ t → K x)
@@ -93,7 +97,8 @@ module _ {y : Machine} {h : Heap} {K : ℕ → Type 0} {R : Records} (f : SoundF
       go : Dec (suc i < h .size t)
           → EffectOf rep c (resize b (Resize.filling t i at-51))
           (Rattle.spec.specs.Lines.moves
-          (with-line (if ltb (c .i + 1) (size-of y (c .t)) then 39 else 24) (with-i (c .i + 1) (with-b 0 (with-s 0 (with-m 0 (with-n 0 (with-new-bucket 0 c))))))))
+          (with-line (if ltb (c .i + 1) (size-of y (c .t)) then 39 else 24)
+          (with-i (c .i + 1) (with-b 0 (with-s 0 (with-m 0 (with-n 0 (with-new-bucket 0 c))))))))
       go (yes lt) =
           let e = m .0 .i≡ in
           let s = sz in
@@ -123,22 +128,31 @@ module _ {y : Machine} {h : Heap} {K : ℕ → Type 0} {R : Records} (f : SoundF
       on : (b : Bool) → c .call ≡ resize-call b → MayResize b (h .size (h .head))
           → EffectOf rep c (resize b at-20) (Rattle.spec.specs.Lines.moves (with-line 39 (with-i 0 (with-t (head-of y) c))))
       on b q l =
-          moves-to (resize b (Resize.filling (h .head) 0 at-39)) step-20 (λ x u. rw u (rep .head-known))
-          (record { call-fields = record { runs = m .0 .runs; call≡ = q; tag≡ = m .0 .tag≡; line≡ = refl }; t≡ = head-at inv rep; i≡ = refl; fields = m .1 }, l) refl
+          moves-to (resize b (Resize.filling (h .head) 0 at-39)) step-20 (λ x u. rw u (rep .head-known)) (
+            record {
+              call-fields = record { runs = m .0 .runs; call≡ = q; tag≡ = m .0 .tag≡; line≡ = refl };
+              t≡ = head-at inv rep;
+              i≡ = refl;
+              fields = m .1;
+            },
+            l,
+          ) refl
 
       go : (b : Bool) → c .call ≡ resize-call b → EffectOf rep c (resize b at-20) (line-20 y c)
       go true q = rw (eq-eqb (c .call) 4 q, sz) (at 32 (ℕ-discrete (h .size (h .head)) 32))
         where
           at : (n : ℕ) → Dec (h .size (h .head) ≡ 32)
               → EffectOf rep c (resize true at-20)
-              (if eqb (h .size (h .head)) 32 then Rattle.spec.specs.Lines.answers Limit else Rattle.spec.specs.Lines.moves (with-line 39 (with-i 0 (with-t (head-of y) c))))
+              (if eqb (h .size (h .head)) 32 then Rattle.spec.specs.Lines.answers Limit
+              else Rattle.spec.specs.Lines.moves (with-line 39 (with-i 0 (with-t (head-of y) c))))
           at n (yes e) = rw (eq-eqb (h .size (h .head)) 32 e) (ends-resize Limit step-20-limit)
           at n (no d) = rw (ne-eqb (h .size (h .head)) 32 d) (on true q d)
       go false q = rw (ne-eqb (c .call) 4 (λ u. omega arith), sz) (at 1 (ℕ-discrete (h .size (h .head)) 1))
         where
           at : (n : ℕ) → Dec (h .size (h .head) ≡ 1)
               → EffectOf rep c (resize false at-20)
-              (if eqb (h .size (h .head)) 1 then Rattle.spec.specs.Lines.answers Limit else Rattle.spec.specs.Lines.moves (with-line 39 (with-i 0 (with-t (head-of y) c))))
+              (if eqb (h .size (h .head)) 1 then Rattle.spec.specs.Lines.answers Limit
+              else Rattle.spec.specs.Lines.moves (with-line 39 (with-i 0 (with-t (head-of y) c))))
           at n (yes e) = rw (eq-eqb (h .size (h .head)) 1 e) (ends-resize Limit step-20-limit)
           at n (no d) = rw (ne-eqb (h .size (h .head)) 1 d) (on false q d)
   resize-accepts b (at-24 t) m o names v = record {
@@ -152,7 +166,8 @@ module _ {y : Machine} {h : Heap} {K : ℕ → Type 0} {R : Records} (f : SoundF
       go : Dec (t ≡ h .head) → EffectOf rep c (resize b (at-24 t)) (line-24 y c)
       go (yes e) =
           rw (n, e)
-          (clears-pred (resize b (at-27 (h .head))) (step-24-head refl) (λ x u. rw u (rep .head-known)) (at-line (m .0) refl refl refl, rw e at (m .1), rw e at (m .2)) refl)
+          (clears-pred (resize b (at-27 (h .head))) (step-24-head refl) (λ x u. rw u (rep .head-known))
+          (at-line (m .0) refl refl refl, rw e at (m .1), rw e at (m .2)) refl)
       go (no d) = rw n (clears-no-pred (resize b (at-27 t)) t (names t refl) d (step-24-past d) names (at-line (m .0) refl refl refl, m .1, m .2) refl)
   resize-accepts b (at-27 t) m o names v = record {
     sound-step = sound-at y c 27 (m .0 .line≡) (not-none (R .node t) (m .1), rw size≡ (made .2));
@@ -163,7 +178,8 @@ module _ {y : Machine} {h : Heap} {K : ℕ → Type 0} {R : Records} (f : SoundF
       made = new-size b (h .size t) (sized t (names t refl)) (m .2)
 
       size≡ : resized (c .call) (size-of y (c .t)) ≡ made .0
-      size≡ = let e : resized (c .call) (size-of y (c .t)) ≡ resized (resize-call b) (h .size t) = rw (m .0 .call≡, size-at inv rep t (names t refl) (m .1)) in e ∙ made .1
+      size≡ = let e : resized (c .call) (size-of y (c .t)) ≡ resized (resize-call b) (h .size t) = rw
+          (m .0 .call≡, size-at inv rep t (names t refl) (m .1)) in e ∙ made .1
 
       line : (b : Bool) (n : ℕ) → Sizes b (h .size t) n → Step h (resize b (at-27 t)) h (resize b (at-28 t n))
       line true n e = rw e step-27-grow
@@ -173,7 +189,8 @@ module _ {y : Machine} {h : Heap} {K : ℕ → Type 0} {R : Records} (f : SoundF
       go (none-free e a) n = absurd (n e)
       go (takes r e lt first) n =
           let q : number (free-node y) ≡ r = rw e (link-number r) in
-          let place-word : new-node (number (free-node y)) (resized (c .call) (size-of y (c .t))) (c .t) ≡ new-node r (made .0) (link (R .node t)) = rw (q, size≡, m .1) in
+          let place-word : new-node (number (free-node y)) (resized (c .call) (size-of y (c .t))) (c .t) ≡ new-node r (made .0) (link (R .node t)) =
+          rw (q, size≡, m .1) in
           subst (λ (u : Write). EffectOf rep c (resize b (at-27 t)) (writes u (with-line 28 (with-new-node (free-node y) c)))) (sym place-word)
           (takes-node b t (made .0) r (names t refl) (line b (made .0) (made .3)) (at-line (m .0) refl refl refl, m .1) e lt (first .not-held))
   resize-accepts b (at-28 t n) m o names v = record {
@@ -189,10 +206,12 @@ module _ {y : Machine} {h : Heap} {K : ℕ → Type 0} {R : Records} (f : SoundF
       go (no d) =
           let hd = head-at inv rep in
           let mt = m .1 in
-          rw (ne-eqb (head-of y) (c .t) (λ u. d (rep .node-injective t (h .head) (names t refl) (rep .head-known) (omega arith)))) (ends-resize Lost (step-28-lost d))
+          rw (ne-eqb (head-of y) (c .t) (λ u. d (rep .node-injective t (h .head) (names t refl) (rep .head-known) (omega arith))))
+          (ends-resize Lost (step-28-lost d))
   resize-accepts b (Resize.filling t i l) m o names v = go l (which-51 t l) (m .0) (o .2) names v
     where
-      go : (l : Fill) → Which51 t l → FillMatches h R (resize-call b) 0 t i l c → FillFacts h t i l → ((x : ℕ) → FillNames t l x → K x) → Taken y h K R (fill-takes t i l) c
+      go : (l : Fill) → Which51 t l → FillMatches h R (resize-call b) 0 t i l c → FillFacts h t i l → ((x : ℕ) → FillNames t l x → K x)
+          → Taken y h K R (fill-takes t i l) c
           → Accepts rep c (resize b (Resize.filling t i l))
       go l (before z u) n p names v =
           let a = fill-accepts f inv rep (resize-call b) 0 t i c (o .0) (names t u) l z n p names v in

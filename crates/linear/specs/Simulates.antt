@@ -35,8 +35,10 @@ pub record Simulates (y : Machine) (h : Heap) (position : ℕ → Position) : Ty
   pub rep : Represents y h (Known h position) records
   pub matches : (p : ℕ) → Matches h records (position p) (task-of y p)
   pub taken : (p : ℕ) → Taken y h (Known h position) records (takes-at (position p)) (task-of y p)
-  pub buckets-apart : (p q : ℕ) → ¬ (p ≡ q) → IsBucket (takes-at (position p)) → IsBucket (takes-at (position q)) → ¬ (task-of y p .«new_bucket» ≡ task-of y q .«new_bucket»)
-  pub nodes-apart : (p q : ℕ) → ¬ (p ≡ q) → IsNode (takes-at (position p)) → IsNode (takes-at (position q)) → ¬ (task-of y p .«new_node» ≡ task-of y q .«new_node»)
+  pub buckets-apart : (p q : ℕ) → ¬ (p ≡ q) → IsBucket (takes-at (position p)) → IsBucket (takes-at (position q))
+      → ¬ (task-of y p .«new_bucket» ≡ task-of y q .«new_bucket»)
+  pub nodes-apart : (p q : ℕ) → ¬ (p ≡ q) → IsNode (takes-at (position p)) → IsNode (takes-at (position q))
+      → ¬ (task-of y p .«new_node» ≡ task-of y q .«new_node»)
 
 -- ---- a task's record is no part of the words
 others-see-task : {y z : Machine} {h g : Heap} {K J : ℕ → Type 0} {R R′ : Records} {nb nn : ℕ → Type 0} (k : ℕ) (c : Task)
@@ -64,7 +66,8 @@ unfolding set-task with-task with-state state-task
 new-node-task k c n = record { size≡ = n .size≡; from = n .from; places = n .places; away = n .away }
 
 -- ---- task p goes to position l′ with the record c, and the words become those of z
-module _ {y : Machine} {w : Configuration} {L : List Ended} (sim : Simulates y (w .heap) (w .position)) (f : SoundFacts y) (i : Invariant w L) (p : ℕ) (p< : p < 8) where
+module _ {y : Machine} {w : Configuration} {L : List Ended} (sim : Simulates y (w .heap) (w .position)) (f : SoundFacts y) (i : Invariant w L) (p : ℕ)
+    (p< : p < 8) where
   -- another task's new bucket is in the pool
   below : (q r : ℕ) → task-of y q .«new_bucket» ≡ link r → r < bucket-count y
   unfolding idle
@@ -130,11 +133,14 @@ module _ {y : Machine} {w : Configuration} {L : List Ended} (sim : Simulates y (
         job′ : (q : ℕ) → Dec (q ≡ p) → Matches g R′ (upd (w .position) p l′ q) (task-of (set-task p c z) q)
         job′ q (yes e) = rw (e, upd-same (w .position) p l′, task-is) m
         job′ q (no n) =
-            rw (upd-other (w .position) p l′ q n, task-other q n) (matches-stay sh (i .heap) le (task-of y q) L (w .start q) (w .position q) (i .task q) (sim .matches q))
+            rw (upd-other (w .position) p l′ q n, task-other q n)
+            (matches-stay sh (i .heap) le (task-of y q) L (w .start q) (w .position q) (i .task q) (sim .matches q))
 
-        taken′ : (q : ℕ) → Dec (q ≡ p) → Taken (set-task p c z) g (Known g (upd (w .position) p l′)) R′ (takes-at (upd (w .position) p l′ q)) (task-of (set-task p c z) q)
+        taken′ : (q : ℕ) → Dec (q ≡ p) → Taken (set-task p c z) g (Known g (upd (w .position) p l′)) R′ (takes-at (upd (w .position) p l′ q))
+            (task-of (set-task p c z) q)
         taken′ q (yes e) = rw (e, upd-same (w .position) p l′, task-is) own
         taken′ q (no n) =
             rw (upd-other (w .position) p l′ q n, task-other q n)
-            (taken-stays (others-see-task p c sh) (i .heap) le (task-of y q) (takes-at (w .position q)) (takes-from (w .heap) L (w .start q) (w .position q) (i .task q))
+            (taken-stays (others-see-task p c sh) (i .heap) le (task-of y q) (takes-at (w .position q))
+            (takes-from (w .heap) L (w .start q) (w .position q) (i .task q))
             (below q) (ob q n) (on q n) (sim .taken q))

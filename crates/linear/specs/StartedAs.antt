@@ -10,7 +10,10 @@ use Rattle.spec.specs.Entries.{start}
 use Rattle.model.specs.Heap.{Heap}
 use Rattle.spec.specs.History.{Started, set-call}
 use Rattle.model.specs.Positions.{Position, no-call, lookup, update, resize}
-use Rattle.model.specs.Lines.{Step, step-12, step-13-filled, step-13-empty, step-15-some, step-15-none, step-16, step-17, step-32, step-33-filled, step-33-empty, step-36-frozen, update-fills, step-51-update, step-20, resize-fills, step-51-next, step-51-last, step-24-head, step-24-past, step-27-grow, step-27-shrink, step-20-limit, step-28-done, step-28-lost, EndStep, end-18, end-36-kept, end-36-added, end-36-removed, end-36-absent}
+use Rattle.model.specs.Lines.{Step, step-12, step-13-filled, step-13-empty, step-15-some, step-15-none, step-16, step-17, step-32, step-33-filled}
+use Rattle.model.specs.Lines.{step-33-empty, step-36-frozen, update-fills, step-51-update, step-20, resize-fills, step-51-next, step-51-last, step-24-head}
+use Rattle.model.specs.Lines.{step-24-past, step-27-grow, step-27-shrink, step-20-limit, step-28-done, step-28-lost, EndStep, end-18, end-36-kept}
+use Rattle.model.specs.Lines.{end-36-added, end-36-removed, end-36-absent}
 use Rattle.model.specs.Runs as Runs
 use Rattle.model.specs.Linearization as Linearization
 

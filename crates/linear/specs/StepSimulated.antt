@@ -37,12 +37,15 @@ use Rattle.model.specs.Runs.{Configuration, after-step, after-end}
 use Rattle.model.specs.PositionFacts.{PositionFacts}
 use Rattle.model.specs.Steps.{own-step}
 use Rattle.model.specs.Linearization.{Invariant, listed-few}
-use Rattle.linear.specs.Represents.{Records, with-node, with-bucket, Represents, AwayBucket, AwayNode, NewBucket, NewNode, represents-fewer, bucket-in-pool, size-bound}
+use Rattle.linear.specs.Represents.{Records, with-node, with-bucket, Represents, AwayBucket, AwayNode, NewBucket, NewNode, represents-fewer}
+use Rattle.linear.specs.Represents.{bucket-in-pool, size-bound}
 use Rattle.linear.specs.BucketWrites.{represents-49, represents-44, represents-36, represents-50}
 use Rattle.linear.specs.NodeWrites.{represents-24, represents-24-past, represents-27, represents-28}
-use Rattle.linear.specs.EffectOf.{EffectOf, moves-to, ends-call, ends-writing, ends-resize, sets-head, freezes, fills, clears-pred, clears-no-pred, takes-node, takes-bucket}
+use Rattle.linear.specs.EffectOf.{EffectOf, moves-to, ends-call, ends-writing, ends-resize, sets-head, freezes, fills, clears-pred, clears-no-pred}
+use Rattle.linear.specs.EffectOf.{takes-node, takes-bucket}
 use Rattle.linear.specs.Simulates.{Simulates, new-bucket-task, new-node-task, simulates-next}
-use Rattle.linear.specs.WritesSeen.{None, unchanged-seen, freeze-seen, put-seen, new-bucket-seen, new-node-seen, unlink-seen, unlink-past-seen, fill-seen, advance-seen}
+use Rattle.linear.specs.WritesSeen.{None, unchanged-seen, freeze-seen, put-seen, new-bucket-seen, new-node-seen, unlink-seen, unlink-past-seen}
+use Rattle.linear.specs.WritesSeen.{fill-seen, advance-seen}
 use Rattle.linear.specs.KnownNodes.{Names, Known, takes-at, IsBucket, IsNode, no-bucket, no-node, nothing, bucket, node, head, behind, named}
 use Rattle.linear.specs.Matches.{Matches, matches-own}
 use Rattle.linear.specs.Taken.{Taken, taker-runs, known-held, placed-held}
@@ -94,7 +97,8 @@ rests h R = refl
 pub same-state : (y : Machine) → SameState y y
 same-state y = same-but _ _ refl refl refl
 
-module _ {y : Machine} {w : Configuration} {L : List Ended} (sim : Simulates y (w .heap) (w .position)) (f : SoundFacts y) (i : Invariant w L) (p : ℕ) (p< : p < 8) where
+module _ {y : Machine} {w : Configuration} {L : List Ended} (sim : Simulates y (w .heap) (w .position)) (f : SoundFacts y) (i : Invariant w L) (p : ℕ)
+    (p< : p < 8) where
   abbrev K : ℕ → Type 0
   K = Known (w .heap) (w .position)
 
@@ -104,7 +108,8 @@ module _ {y : Machine} {w : Configuration} {L : List Ended} (sim : Simulates y (
   -- the words change by a write that takes nothing
   on-writing : {z : Machine} {g : Heap} → SameState y z → Rely (w .heap) g → (l : Position) (d : Task) → Represents z g K (sim .records)
       → g .head ≡ w .heap .head → (g .linked ≡ true → w .heap .linked ≡ true) → ((x : ℕ) → Names l x → K x)
-      → (((x : ℕ) → Known g (upd (w .position) p l) x → K x) → OthersSee y z (w .heap) g K (Known g (upd (w .position) p l)) (sim .records) (sim .records) None None)
+      → (((x : ℕ) → Known g (upd (w .position) p l) x → K x) → OthersSee y z (w .heap) g K (Known g (upd (w .position) p l)) (sim .records)
+      (sim .records) None None)
       → Matches g (sim .records) l d → takes-at l ≡ nothing → sound (set-task p d z) ≡ true → Simulates (set-task p d z) g (upd (w .position) p l)
   on-writing {z} {g} same le l d rep e u names sh m none so =
       let sub = known-less (w .heap) g (w .position) p l e u names in
@@ -127,7 +132,8 @@ module _ {y : Machine} {w : Configuration} {L : List Ended} (sim : Simulates y (
     abbrev counted : Task → Task
     counted c = with-own (min (own + 1) 65535) c
 
-    pub simulate : {e : Effect} → EffectOf (sim .rep) (task-of y p) (w .position p) e → sound (accept y p own e .machine) ≡ true → StepSimulated w p own (accept y p own e)
+    pub simulate : {e : Effect} → EffectOf (sim .rep) (task-of y p) (w .position p) e → sound (accept y p own e .machine) ≡ true
+        → StepSimulated w p own (accept y p own e)
     unfolding accept finish apply with-own
     simulate (moves-to {c′ = c′} l line names m none) so = record {
       configuration = after-step w p (w .heap) l;
@@ -155,7 +161,8 @@ module _ {y : Machine} {w : Configuration} {L : List Ended} (sim : Simulates y (
           configuration = after-end w p call′ k g a;
           outcome = call-ended g e;
           sim =
-              on-writing (af .same) (put-rely (w .heap) (i .heap) x k v bd o) no-call idle (represents-36 f (sim .rep) x k v ks kx bx o oth this af) refl (λ a. a) (λ x q. absurd q)
+              on-writing (af .same) (put-rely (w .heap) (i .heap) x k v bd o) no-call idle (represents-36 f (sim .rep) x k v ks kx bx o oth this af) refl
+              (λ a. a) (λ x q. absurd q)
               (λ sub. put-seen f sub x k v ks kx bx px af) (rests g (sim .records)) refl so;
         }
     simulate (freezes {c′ = c′} l x j kx bx px line names m none) so =
@@ -216,7 +223,8 @@ module _ {y : Machine} {w : Configuration} {L : List Ended} (sim : Simulates y (
         let hs : w .heap .head ≡ suc s = sym q ∙ q′ in
         let z = apply (set-place (sim .records .node (w .heap .head)) j (link r)) y in
         let sm = size-bound f (sim .rep) (w .heap .head) (sim .rep .head-known) in
-        let af = after-place y (f .nodes-length) (sim .records .node (w .heap .head)) (sim .rep .node-in-pool (w .heap .head) (sim .rep .head-known)) j (link r) (omega arith) in
+        let af = after-place y (f .nodes-length) (sim .records .node (w .heap .head)) (sim .rep .node-in-pool (w .heap .head) (sim .rep .head-known)) j
+        (link r) (omega arith) in
         let g = fill s (w .heap .head) j (w .heap) in
         let R′ = with-bucket (w .heap .head) j r (sim .records) in
         let J = Known g (upd (w .position) p l) in
@@ -274,5 +282,6 @@ module _ {y : Machine} {w : Configuration} {L : List Ended} (sim : Simulates y (
           sim = simulates-next sim f i p p< (af .same) l (counted c′) (good line)
               (represents-fewer (represents-49 f (sim .rep) r ks af away) J sub (head refl) (λ a s q. behind a q))
               (new-bucket-seen f sub r ks af) (matches-own (w .heap) (sim .records) c′ (min (own + 1) 65535) l m) taken
-              (λ q d t r′ e u. free (held-bucket q r t (e ∙ ap link u))) (λ q n t r e b. b) (λ tk q d t u. free (held-bucket q r t (sym u ∙ e))) (λ t. absurd (rw tk at t)) so;
+              (λ q d t r′ e u. free (held-bucket q r t (e ∙ ap link u))) (λ q n t r e b. b) (λ tk q d t u. free (held-bucket q r t (sym u ∙ e)))
+              (λ t. absurd (rw tk at t)) so;
         }

@@ -14,7 +14,8 @@ use Rattle.laws.specs.SoundFacts.{SoundFacts}
 use Rattle.laws.specs.Held.{HeldNode, the-head, as-t, as-s, before, HeldBucket, placed}
 use Rattle.model.specs.PlaceState.{Filled}
 use Rattle.model.specs.Heap.{Heap}
-use Rattle.model.specs.Positions.{Fill, at-39, at-40, at-43, at-44, at-46, at-47, at-48, at-52, at-49, at-50, at-51, at-12, at-13, at-15, at-16, at-17, at-18, Update, at-32, at-33, at-36, Resize, at-20, at-24, at-27, at-28, Position, no-call, lookup, update, resize}
+use Rattle.model.specs.Positions.{Fill, at-39, at-40, at-43, at-44, at-46, at-47, at-48, at-52, at-49, at-50, at-51, at-12, at-13, at-15, at-16, at-17}
+use Rattle.model.specs.Positions.{at-18, Update, at-32, at-33, at-36, Resize, at-20, at-24, at-27, at-28, Position, no-call, lookup, update, resize}
 use Rattle.linear.specs.Represents.{place-word-filled, Represents, NewBucket, NewNode, size-bound, Records}
 use Rattle.linear.specs.KnownNodes.{FillNames, Names, Known, Takes, takes-at, nothing, bucket, node, head, behind, named}
 use Rattle.linear.specs.Matches.{update-call, resize-call, FillMatches, Matches, idle-no-call}

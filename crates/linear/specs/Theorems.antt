@@ -48,8 +48,10 @@ module _ (g : Config) (ns bs : List ℕ) (ok : opening g ns bs .refusal ≡ 0) (
   list-never-8 w e = go (decLe 64 (length w))
     where
       go : Dec (64 ≤ length w) → ⊥
-      go (yes h) = let q = ap (λ (r : Written). r .says) (list-written _ _ (schedule-simulated g ns bs ok es .0) w h) in let z : _≡_ {A = ℕ} 0 1 = cc in omega arith
-      go (no h) = let q = ap (λ (r : Written). r .says) (list-short _ _ (schedule-simulated g ns bs ok es .0) w (omega arith)) in let z : _≡_ {A = ℕ} 8 9 = cc in omega arith
+      go (yes h) =
+          let q = ap (λ (r : Written). r .says) (list-written _ _ (schedule-simulated g ns bs ok es .0) w h) in let z : _≡_ {A = ℕ} 0 1 = cc in omega arith
+      go (no h) = let q = ap (λ (r : Written). r .says) (list-short _ _ (schedule-simulated g ns bs ok es .0) w (omega arith)) in
+          let z : _≡_ {A = ℕ} 8 9 = cc in omega arith
 
   pub contains-exact : ContainsExact es (schedule g ns bs es .outs)
   contains-exact = schedule-simulated g ns bs ok es .2

@@ -29,7 +29,8 @@ use Rattle.model.specs.PlaceState.{PlaceState, empty, changeable, Filled, fille
 use Rattle.model.specs.Heap.{Heap, at, state-for, slot-in}
 use Rattle.model.specs.HeapInvariant.{HeapInvariant, place<}
 use Rattle.model.specs.Positions.{Fill, at-39, at-50, at-51, Update, at-32, at-33, at-36, update}
-use Rattle.model.specs.Lines.{Listed, step-32, step-33-filled, step-33-empty, step-36-frozen, update-fills, step-51-update, end-36-kept, end-36-added, end-36-removed, end-36-absent}
+use Rattle.model.specs.Lines.{Listed, step-32, step-33-filled, step-33-empty, step-36-frozen, update-fills, step-51-update, end-36-kept, end-36-added}
+use Rattle.model.specs.Lines.{end-36-removed, end-36-absent}
 use Rattle.model.specs.Filling.{FillFacts}
 use Rattle.model.specs.PositionFacts.{UpdateFacts, bucket-few}
 use Rattle.linear.specs.Represents.{record-has, Represents, bucket-in-pool, Records}
@@ -43,11 +44,13 @@ use Rattle.linear.specs.KnownNodes.{FillNames, Names, fill-takes, takes-
 use Rattle.linear.specs.Matches.{at-line, update-call, FillMatches, UpdateMatches}
 use Rattle.linear.specs.Taken.{Taken}
 
-pub fill-in-update : {y : Machine} {h : Heap} {K : ℕ → Type 0} {R : Records} {rep : Represents y h K R} (b : Bool) (k : ℕ) {t i : ℕ} {c : Task} {l : Fill} {e : Effect}
+pub fill-in-update : {y : Machine} {h : Heap} {K : ℕ → Type 0} {R : Records} {rep : Represents y h K R} (b : Bool) (k : ℕ) {t i : ℕ} {c : Task} {l : Fill}
+    {e : Effect}
     → FillEffectOf rep (update-call b) k t i c l e → EffectOf rep c (update b k (Update.filling t i l)) e
 fill-in-update b k {t} {i} (fill-moves l′ st names m n) = moves-to (update b k (Update.filling t i l′)) (update-fills st) names m n
 fill-in-update b k {t} {i} (fill-freezes l′ x j kx bx px st names m n) = freezes (update b k (Update.filling t i l′)) x j kx bx px (update-fills st) names m n
-fill-in-update b k {t} {i} (fill-fills l′ s r q q′ bi e z nb new st names m n) = fills (update b k (Update.filling t i l′)) t s i r q q′ bi e z nb new (update-fills st) names m n
+fill-in-update b k {t} {i} (fill-fills l′ s r q q′ bi e z nb new st names m n) =
+    fills (update b k (Update.filling t i l′)) t s i r q q′ bi e z nb new (update-fills st) names m n
 fill-in-update b k {t} {i} (fill-takes-bucket s r ks st names m nb lt free few own foreign) =
     takes-bucket (update b k (Update.filling t i (at-50 s))) s t i r ks (update-fills st) names m nb lt free few own foreign refl
 
@@ -81,7 +84,8 @@ module _ {y : Machine} {h : Heap} {K : ℕ → Type 0} {R : Records} (f : SoundF
         bucket-few h inv x (slot-in h x k) (rep .known-bound x kx) e (Words.tags (y .buckets) (R .bucket x (slot-in h x k))) (listed y) rises
         (λ j m. go j m (ℕ-discrete (slot-in h x j) (slot-in h x k))) (l .0) (l .1)
       where
-        go : (j : ℕ) → record-has y (R .bucket x (slot-in h x k)) j ≡ true → Dec (slot-in h x j ≡ slot-in h x k) → (slot-in h x j ≡ slot-in h x k) × (h .has x j ≡ true)
+        go : (j : ℕ) → record-has y (R .bucket x (slot-in h x k)) j ≡ true → Dec (slot-in h x j ≡ slot-in h x k)
+            → (slot-in h x j ≡ slot-in h x k) × (h .has x j ≡ true)
         go j m (yes q) = (q, sym (rep .tags x (slot-in h x k) kx bx p .inside j q) ∙ m)
         go j m (no n) = absurd (tf m (rep .tags x (slot-in h x k) kx bx p .outside j n))
 
@@ -124,10 +128,12 @@ module _ {y : Machine} {h : Heap} {K : ℕ → Type 0} {R : Records} (f : SoundF
       go : (b : Bool) → c .call ≡ update-call b → EffectOf rep c (update b k (Update.filling t i at-51)) (line-51 y c)
       go true q =
           rw (ne-eqb (c .call) 4 (λ u. omega arith), ne-eqb (c .call) 5 (λ u. omega arith))
-          (moves-to (update true k (at-36 t)) step-51-update names (record { runs = m .call-fields .runs; call≡ = q; tag≡ = m .call-fields .tag≡; line≡ = refl }, m .t≡, b≡) refl)
+          (moves-to (update true k (at-36 t)) step-51-update names
+          (record { runs = m .call-fields .runs; call≡ = q; tag≡ = m .call-fields .tag≡; line≡ = refl }, m .t≡, b≡) refl)
       go false q =
           rw (ne-eqb (c .call) 4 (λ u. omega arith), ne-eqb (c .call) 5 (λ u. omega arith))
-          (moves-to (update false k (at-36 t)) step-51-update names (record { runs = m .call-fields .runs; call≡ = q; tag≡ = m .call-fields .tag≡; line≡ = refl }, m .t≡, b≡) refl)
+          (moves-to (update false k (at-36 t)) step-51-update names
+          (record { runs = m .call-fields .runs; call≡ = q; tag≡ = m .call-fields .tag≡; line≡ = refl }, m .t≡, b≡) refl)
 
   pub update-accepts : (b : Bool) (l : Update) → UpdateMatches h R b k l c → UpdateFacts h k l → ((x : ℕ) → Names (update b k l) x → K x)
       → Taken y h K R (takes-at (update b k l)) c → Accepts rep c (update b k l)
@@ -145,7 +151,8 @@ module _ {y : Machine} {h : Heap} {K : ℕ → Type 0} {R : Records} (f : SoundF
       go : (state-for h t k ≡ empty) ⊎ Filled (state-for h t k) → EffectOf rep c (update b k (at-33 t)) (line-33 y c)
       go (inl e) =
           let q = for-empty inv rep t k (names t refl) (m .1) (m .0 .tag≡) e in
-          let i≡ : slot (y .state .config) (c .tag) (size-of y (c .t)) ≡ slot-in h t k = rw (m .0 .tag≡, size-at inv rep t (names t refl) (m .1)) (rep .slot≡ k (h .size t)) in
+          let i≡ : slot (y .state .config) (c .tag) (size-of y (c .t)) ≡ slot-in h t k =
+          rw (m .0 .tag≡, size-at inv rep t (names t refl) (m .1)) (rep .slot≡ k (h .size t)) in
           rw q (moves-to (update b k (Update.filling t (slot-in h t k) at-39)) (step-33-empty e) names
           (record {
             call-fields = at-line (m .0) refl refl refl;
@@ -178,7 +185,8 @@ module _ {y : Machine} {h : Heap} {K : ℕ → Type 0} {R : Records} (f : SoundF
       answer : answer-36 y c ≡ insert-answer (length (listed y)) (h .has x k)
       answer = answer-at x kx (o .1) (m .2) (m .0 .tag≡)
 
-      inserts : state-for h x k ≡ changeable → (gains (answer-36 y c) ≡ true) ⊎ (gains (answer-36 y c) ≡ false) → EffectOf rep c (update true k (at-36 x)) (insert-36 y c)
+      inserts : state-for h x k ≡ changeable → (gains (answer-36 y c) ≡ true) ⊎ (gains (answer-36 y c) ≡ false)
+          → EffectOf rep c (update true k (at-36 x)) (insert-36 y c)
       inserts e (inr g) = rw (insert-writes-nothing y c (answer-36 y c) g, answer) (ends-call {k = k} (end-36-kept (listed y) e l (rw answer at g)))
       inserts e (inl g) =
           let is = gains-yes (answer-36 y c) g in
@@ -187,7 +195,8 @@ module _ {y : Machine} {h : Heap} {K : ℕ → Type 0} {R : Records} (f : SoundF
           let lt = few x kx (o .1) (m .2) is in
           let r = room x kx (o .1) (m .2) e in
           let s = length-add k T in
-          rw (insert-writes-tag y c (answer-36 y c) is, is) (subst (λ (u : Write). EffectOf rep c (update true k (at-36 x)) (answers-of (c .b) u Yes)) (sym place-word)
+          rw (insert-writes-tag y c (answer-36 y c) is, is) (subst (λ (u : Write). EffectOf rep c (update true k (at-36 x)) (answers-of (c .b) u Yes))
+          (sym place-word)
           (ends-writing {k = k} x true (add-tag k T) kx e (omega arith) (λ j n. member-add j k T ∙ rw (ne-eqb j k n)) (member-add k k T ∙ rw (eq-eqb k k refl))
           (end-36-added (listed y) e l (sym answer ∙ is))))
 
@@ -208,12 +217,16 @@ module _ {y : Machine} {h : Heap} {K : ℕ → Type 0} {R : Records} (f : SoundF
       go b q (is-empty e) = absurd (filled-not-empty (o .1) e)
       go b q (is-frozen e) =
           rw (reads-frozen x kx (o .1) (m .2) e)
-          (moves-to (update b k at-32) (step-36-frozen e) (λ x u. absurd u) (record { runs = m .0 .runs; call≡ = q; tag≡ = m .0 .tag≡; line≡ = refl }, refl) refl)
+          (moves-to (update b k at-32) (step-36-frozen e) (λ x u. absurd u) (
+            record { runs = m .0 .runs; call≡ = q; tag≡ = m .0 .tag≡; line≡ = refl },
+            refl,
+          ) refl)
       go true q (is-changeable e) = rw (reads-changeable x kx (o .1) (m .2) e, eq-eqb (c .call) 1 q) (inserts e (bool? _))
       go false q (is-changeable e) = rw (reads-changeable x kx (o .1) (m .2) e, ne-eqb (c .call) 1 (λ u. omega arith)) (removes e (bool? _))
   update-accepts b (Update.filling t i l) m o names v = go l (which-51 t l) m (o .2) names v
     where
-      go : (l : Fill) → Which51 t l → FillMatches h R (update-call b) k t i l c → FillFacts h t i l → ((x : ℕ) → FillNames t l x → K x) → Taken y h K R (fill-takes t i l) c
+      go : (l : Fill) → Which51 t l → FillMatches h R (update-call b) k t i l c → FillFacts h t i l → ((x : ℕ) → FillNames t l x → K x)
+          → Taken y h K R (fill-takes t i l) c
           → Accepts rep c (update b k (Update.filling t i l))
       go l (before z u) m p names v =
           let a = fill-accepts f inv rep (update-call b) k t i c (o .0) (names t u) l z m p names v in

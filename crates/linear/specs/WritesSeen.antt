@@ -40,7 +40,8 @@ module _ {y : Machine} {h : Heap} {K J : ℕ → Type 0} {R : Records} (f : Soun
     }
 
     module _ {z : Machine} where
-      pub freeze-seen : (x i : ℕ) → K x → i < h .size x → Filled (h .place x i) → AfterFreeze y (R .bucket x i) z → OthersSee y z h (freeze x i h) K J R R None None
+      pub freeze-seen : (x i : ℕ) → K x → i < h .size x → Filled (h .place x i) → AfterFreeze y (R .bucket x i) z
+          → OthersSee y z h (freeze x i h) K J R R None None
       freeze-seen x i kx bx px a = record {
         node≡ = λ x a. refl;
         bucket≡ = λ x j a. refl;
@@ -53,7 +54,8 @@ module _ {y : Machine} {h : Heap} {K J : ℕ → Type 0} {R : Records} (f : Soun
         place≡ = λ r i b n w. ap (λ (u : List ℕ). place u r i) (a .nodes≡);
       }
 
-      pub put-seen : (x k : ℕ) (v : Bool) (ks : List ℕ) → K x → slot-in h x k < h .size x → Filled (state-for h x k) → AfterBucket y (R .bucket x (slot-in h x k)) ks z
+      pub put-seen : (x k : ℕ) (v : Bool) (ks : List ℕ) → K x → slot-in h x k < h .size x → Filled (state-for h x k)
+          → AfterBucket y (R .bucket x (slot-in h x k)) ks z
           → OthersSee y z h (put x k v h) K J R R None None
       put-seen x k v ks kx bx px a = record {
         node≡ = λ x a. refl;
@@ -136,7 +138,8 @@ module _ {y : Machine} {h : Heap} {K J : ℕ → Type 0} {R : Records} (f : Soun
           go : (r : ℕ) → ¬ (r ≡ r₀) → AwayBucket h K R r → (v j : ℕ) → K v → j < h .size v → Filled (upd₂ (h .place) (h .head) i changeable v j)
               → Dec ((v ≡ h .head) × (j ≡ i)) → ¬ (r ≡ upd₂ (R .bucket) (h .head) i r₀ v j)
           go r n w v j k b q (yes c) u = n (u ∙ rw (c .0, c .1) (upd₂-same (R .bucket) (h .head) i r₀))
-          go r n w v j k b q (no d) u = w v j k b (rw (upd₂-other (h .place) (h .head) i changeable v j d) at q) (u ∙ upd₂-other (R .bucket) (h .head) i r₀ v j d)
+          go r n w v j k b q (no d) u =
+              w v j k b (rw (upd₂-other (h .place) (h .head) i changeable v j d) at q) (u ∙ upd₂-other (R .bucket) (h .head) i r₀ v j d)
 
   pub advance-seen : {z : Machine} (m r₀ : ℕ) → ((x : ℕ) → K x → x ≤ h .head) → ((x : ℕ) → J x → K x ⊎ (x ≡ suc (h .head))) → AfterHead y r₀ z
       → OthersSee y z h (advance m h) K J R (with-node (suc (h .head)) r₀ R) None (One r₀)
@@ -152,10 +155,12 @@ module _ {y : Machine} {h : Heap} {K J : ℕ → Type 0} {R : Records} (f : Soun
     place≡ = λ r i b n w. ap (λ (u : List ℕ). place u r i) (a .nodes≡);
   }
     where
-      go : (r : ℕ) → AwayBucket h K R r → (v j : ℕ) → K v ⊎ (v ≡ suc (h .head)) → j < advance m h .size v → Filled (advance m h .place v j) → ¬ (r ≡ R .bucket v j)
+      go : (r : ℕ) → AwayBucket h K R r → (v j : ℕ) → K v ⊎ (v ≡ suc (h .head)) → j < advance m h .size v → Filled (advance m h .place v j)
+          → ¬ (r ≡ R .bucket v j)
       go r w v j (inl k) b q =
           let c = bound v k in
-          w v j k (rw (upd-other (h .size) (suc (h .head)) m v (λ e. omega arith)) at b) (rw (upd-other (h .place) (suc (h .head)) (λ i. empty) v (λ e. omega arith)) at q)
+          w v j k (rw (upd-other (h .size) (suc (h .head)) m v (λ e. omega arith)) at b)
+          (rw (upd-other (h .place) (suc (h .head)) (λ i. empty) v (λ e. omega arith)) at q)
       go r w v j (inr e) b q = absurd (filled-not-empty q (rw e (ap (λ (u : ℕ → PlaceState). u j) (upd-same (h .place) (suc (h .head)) (λ i. empty)))))
 
       goN : (r : ℕ) → ¬ (r ≡ r₀) → AwayNode K R r → (x : ℕ) → K x ⊎ (x ≡ suc (h .head)) → ¬ (r ≡ upd (R .node) (suc (h .head)) r₀ x)

@@ -24,7 +24,8 @@ pub struct Stepped {
 }
 
 // What a line answers, and what it may change of the state: the head, the node and the bucket last taken, and the record of the task
-// that moves. A refusal changes nothing: the numbers of the state and an idle record stand beside it. A caller that keeps the state stores these few words in it, and no copy of
+// that moves. A refusal changes nothing: the numbers of the state and an idle record stand beside it. A caller that keeps the state stores these few
+// words in it, and no copy of
 // the state is made.
 pub struct Moved {
     pub out: Output,
@@ -108,7 +109,8 @@ pub fn refused(s: State, why: u32) -> Moved
 // The task goes on with the record c, at line l.
 pub fn go(s: State, k: usize, c: Task, l: u32) -> Moved
     requires { ⌜ k < 8 ⌝ }
-    ensures { λ r. ⌜ ((ns bs : List ℕ) → moved-reply s k r ns bs ≡ accept (machine-of s ns bs) k (c .own) (moves (with-line l c))) × (changes (r .out) k ≡ true) ⌝ }
+    ensures { λ r. ⌜ ((ns bs : List ℕ) → moved-reply s k r ns bs ≡ accept (machine-of s ns bs) k (c .own) (moves (with-line l c)))
+        × (changes (r .out) k ≡ true) ⌝ }
 {
     let mut x = c;
     x.own = one_more_own_step(c.own);
@@ -125,7 +127,8 @@ pub fn go(s: State, k: usize, c: Task, l: u32) -> Moved
 // What is left of a call that ends: its answer, own steps and how full its bucket is, and an idle record.
 fn ended(s: State, k: usize, c: Task, a: Answer, full: Occupancy) -> Moved
     requires { ⌜ k < 8 ⌝ }
-    ensures { λ r. ⌜ ((ns bs : List ℕ) (l : ℕ) → full ≡ occupancy (machine-of s ns bs) l → moved-reply s k r ns bs ≡ accept (machine-of s ns bs) k (c .own) (answers-of l nothing a)) × (changes (r .out) k ≡ true) ⌝ }
+    ensures { λ r. ⌜ ((ns bs : List ℕ) (l : ℕ) → full ≡ occupancy (machine-of s ns bs) l
+        → moved-reply s k r ns bs ≡ accept (machine-of s ns bs) k (c .own) (answers-of l nothing a)) × (changes (r .out) k ≡ true) ⌝ }
 {
     let n = one_more_own_step(c.own);
     let x = state::idle();
@@ -149,7 +152,8 @@ pub fn end(s: State, k: usize, c: Task, a: Answer) -> Moved
 // An insert or a remove ends, with n tags in its bucket.
 pub fn end_counted(s: State, k: usize, c: Task, a: Answer, n: u32) -> Moved
     requires { ⌜ (k < 8) × (0 < c .b) ⌝ }
-    ensures { λ r. ⌜ ((ns bs : List ℕ) → n ≡ count bs (number (c .b)) → moved-reply s k r ns bs ≡ accept (machine-of s ns bs) k (c .own) (answers-of (c .b) nothing a)) × (changes (r .out) k ≡ true) ⌝ }
+    ensures { λ r. ⌜ ((ns bs : List ℕ) → n ≡ count bs (number (c .b)) → moved-reply s k r ns bs
+        ≡ accept (machine-of s ns bs) k (c .own) (answers-of (c .b) nothing a)) × (changes (r .out) k ≡ true) ⌝ }
 {
     ended(s, k, c, a, Occupancy::Tags(n))
 }

@@ -38,7 +38,8 @@ pub fn read_bucket(
     ns: &[u32],
 ) -> Moved
     requires { ⌜ k < 8 ⌝ }
-    ensures { λ r. ⌜ ((bs : List ℕ) → Gives s k r (now (ns .entry)) bs (tested (through node ∷ []) (machine-of s (now (ns .entry)) bs) k c (reads-bucket (machine-of s (now (ns .entry)) bs) c node found i missing))) ⌝ }
+    ensures { λ r. ⌜ ((bs : List ℕ) → Gives s k r (now (ns .entry)) bs (tested (through node ∷ []) (machine-of s (now (ns .entry)) bs) k c
+        (reads-bucket (machine-of s (now (ns .entry)) bs) c node found i missing))) ⌝ }
 {
     if node == 0 {
         return lines::refused(s, 8);
@@ -74,7 +75,8 @@ pub fn line15(s: State, k: usize, c: Task, ns: &[u32]) -> Moved
 
 // return HASMEMBER(b, k)
 pub fn line18(s: State, k: usize, c: Task, bs: &[u32]) -> Moved
-    requires { ⌜ (k < 8) × (c .line ≡ 18) × (c .b ≤ 1024) × (66 * c .b ≤ length (now bs)) × ((0 < c .b) → sound-bucket (drop (66 * (c .b - 1)) (now bs)) ≡ true) ⌝ }
+    requires { ⌜ (k < 8) × (c .line ≡ 18) × (c .b ≤ 1024) × (66 * c .b ≤ length (now bs))
+        × ((0 < c .b) → sound-bucket (drop (66 * (c .b - 1)) (now bs)) ≡ true) ⌝ }
     ensures { λ r. ⌜ ((ns : List ℕ) → Gives s k r ns (now (bs .entry)) (step-running (machine-of s ns (now (bs .entry))) k c)) ⌝ }
 {
     let b = c.b;

@@ -62,7 +62,8 @@ pub fn read_place(
     ns: &[u32],
 ) -> Moved
     requires { ⌜ k < 8 ⌝ }
-    ensures { λ r. ⌜ ((bs : List ℕ) → Gives s k r (now (ns .entry)) bs (tested (place-tests (machine-of s (now (ns .entry)) bs) node i) (machine-of s (now (ns .entry)) bs) k c (reads-place (machine-of s (now (ns .entry)) bs) c f node i l))) ⌝ }
+    ensures { λ r. ⌜ ((bs : List ℕ) → Gives s k r (now (ns .entry)) bs (tested (place-tests (machine-of s (now (ns .entry)) bs) node i)
+        (machine-of s (now (ns .entry)) bs) k c (reads-place (machine-of s (now (ns .entry)) bs) c f node i l))) ⌝ }
 {
     if node == 0 {
         return lines::refused(s, 8);
@@ -79,7 +80,8 @@ pub fn read_place(
 // FREEZE(b), and on to line l
 fn freeze(s: State, k: usize, c: Task, b: u32, l: u32, bs: &mut [u32]) -> Moved
     requires { ⌜ (k < 8) × (b ≤ 1024) × (66 * b ≤ length (now bs)) ⌝ }
-    ensures { λ r. ⌜ ((ns : List ℕ) → Gives s k r ns (now (bs .exit)) (tested (through b ∷ []) (machine-of s ns (now (bs .entry))) k c (writes (freeze (number b)) (with-line l c)))) ⌝ }
+    ensures { λ r. ⌜ ((ns : List ℕ) → Gives s k r ns (now (bs .exit)) (tested (through b ∷ []) (machine-of s ns (now (bs .entry))) k c
+        (writes (freeze (number b)) (with-line l c)))) ⌝ }
 {
     if b == 0 {
         return lines::refused(s, 8);
@@ -124,7 +126,8 @@ pub fn line47(s: State, k: usize, c: Task, ns: &[u32]) -> Moved
 
 // The bucket that line 49 makes, or that the tags are too many for one.
 fn new_bucket_of(g: Config, c: Task, ns: &[u32], bs: &[u32]) -> Changed
-    requires { ⌜ (0 < c .m) × (c .m ≤ 1024) × (c .n ≤ 1024) × (66 * c .m ≤ length (now bs)) × (66 * c .n ≤ length (now bs)) × (sound-bucket (drop (66 * (c .m - 1)) (now bs)) ≡ true) × ((0 < c .n) → sound-bucket (drop (66 * (c .n - 1)) (now bs)) ≡ true) ⌝ }
+    requires { ⌜ (0 < c .m) × (c .m ≤ 1024) × (c .n ≤ 1024) × (66 * c .m ≤ length (now bs)) × (66 * c .n ≤ length (now bs))
+        × (sound-bucket (drop (66 * (c .m - 1)) (now bs)) ≡ true) × ((0 < c .n) → sound-bucket (drop (66 * (c .n - 1)) (now bs)) ≡ true) ⌝ }
     ensures { λ r. ⌜ ((s : State) → s .config ≡ g → Makes r (gathered (machine-of s (now (ns .entry)) (now (bs .entry))) c)) ⌝ }
 {
     let m = c.m;

@@ -58,7 +58,8 @@ rising-same (x ∷ xs) (y ∷ ys) r q e = go (rising-same xs ys (r .1) (q .1))
     first : x ≡ y
     first = not-above x y xs ys (r .0) (q .0) (sym (e x) ∙ member-here x x xs refl) (e y ∙ member-here y y ys refl)
 
-    inside : (a b : ℕ) (l m : List ℕ) → a ≡ b → Above a l → ((n : ℕ) → member n (a ∷ l) ≡ true → member n (b ∷ m) ≡ true) → (n : ℕ) → member n l ≡ true → member n m ≡ true
+    inside : (a b : ℕ) (l m : List ℕ) → a ≡ b → Above a l → ((n : ℕ) → member n (a ∷ l) ≡ true → member n (b ∷ m) ≡ true) → (n : ℕ) → member n l ≡ true
+        → member n m ≡ true
     inside a b l m f o s n h = elim (member-cons n b m (s n (member-there n a l h))) [ inl g ↦ (let u = o n h in absurd (omega arith)) | inr g ↦ g ]
 
     rest : (n : ℕ) → member n xs ≡ member n ys
@@ -88,7 +89,8 @@ member-add-all n ts [] = sym (or-false (member n ts))
 member-add-all n ts (x ∷ xs) =
     member-add-all n (add-tag x ts) xs ∙ rw (member-add n x ts) (or-assoc (eqb n x) (member n ts) (member n xs) ∙ or-swap (eqb n x) (member n ts) (member n xs))
 
-pub length-add-all : (ts xs : List ℕ) → Rising ts → Distinct xs → ((n : ℕ) → member n xs ≡ true → member n ts ≡ false) → length (add-all ts xs) ≡ length ts + length xs
+pub length-add-all : (ts xs : List ℕ) → Rising ts → Distinct xs → ((n : ℕ) → member n xs ≡ true → member n ts ≡ false)
+    → length (add-all ts xs) ≡ length ts + length xs
 unfolding add-all
 length-add-all ts [] r d n = omega arith
 length-add-all ts (x ∷ xs) r d n =

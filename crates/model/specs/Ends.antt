@@ -54,7 +54,8 @@ module _ (h : Heap) (inv : HeapInvariant h) (L : List Ended) (same : (k : ℕ) �
   same-answer x k l le o g = rw (listed-same l g, tells x k le o)
 
   -- the plain set and the heap, when tag k has been put in or taken out
-  puts : (x k : ℕ) (v : Bool) → x ≤ h .head → state-for h x k ≡ changeable → (R : List ℕ) → member k R ≡ v → ((j : ℕ) → ¬ (j ≡ k) → member j R ≡ member j (after [] L))
+  puts : (x k : ℕ) (v : Bool) → x ≤ h .head → state-for h x k ≡ changeable → (R : List ℕ) → member k R ≡ v
+      → ((j : ℕ) → ¬ (j ≡ k) → member j R ≡ member j (after [] L))
       → (j : ℕ) → member j R ≡ abs (put x k v h) j
   puts x k v le o R this other j = go (ℕ-discrete j k)
     where
@@ -72,17 +73,22 @@ module _ (h : Heap) (inv : HeapInvariant h) (L : List Ended) (same : (k : ℕ) �
       go (is-frozen e) = at-witness (o .2 e)
   ended-step (end-36-kept {k = k} {x = x} l e g n) o =
       let q = same-answer x k l (o .0) e g in
-      let s : inserted (insert-answer (length (after [] L)) (member k (after [] L))) k (after [] L) ≡ after [] L = inserted-else _ k (after [] L) (ap gains q ∙ n) in
+      let s : inserted (insert-answer (length (after [] L)) (member k (after [] L))) k (after [] L) ≡ after [] L =
+      inserted-else _ k (after [] L) (ap gains q ∙ n) in
       at-end {c = Insert} {k = k} inv (rely-refl h) q (λ j. ap (member j) s ∙ same j) (λ s i a b f. inl (a, b, f))
   ended-step (end-36-added {k = k} {x = x} l e g n) o =
       let q = same-answer x k l (o .0) e g ∙ n in
-      let s : inserted (insert-answer (length (after [] L)) (member k (after [] L))) k (after [] L) ≡ add-tag k (after [] L) = inserted-yes _ k (after [] L) q in
-      at-end {c = Insert} {k = k} (put-invariant h inv x k true (o .0) e) (put-rely h inv x k true (o .0) e) q (λ j. ap (member j) s ∙ added j) (λ s i a b f. inl (a, b, f))
+      let s : inserted (insert-answer (length (after [] L)) (member k (after [] L))) k (after [] L) ≡ add-tag k (after [] L) =
+      inserted-yes _ k (after [] L) q in
+      at-end {c = Insert} {k = k} (put-invariant h inv x k true (o .0) e) (put-rely h inv x k true (o .0) e) q (λ j. ap (member j) s ∙ added j)
+      (λ s i a b f. inl (a, b, f))
     where
       added : (j : ℕ) → member j (add-tag k (after [] L)) ≡ abs (put x k true h) j
-      added = puts x k true (o .0) e (add-tag k (after [] L)) (member-add k k (after [] L) ∙ rw (eq-eqb k k refl)) (λ j d. member-add j k (after [] L) ∙ rw (ne-eqb j k d))
+      added = puts x k true (o .0) e (add-tag k (after [] L)) (member-add k k (after [] L) ∙ rw (eq-eqb k k refl))
+          (λ j d. member-add j k (after [] L) ∙ rw (ne-eqb j k d))
   ended-step (end-36-removed {k = k} {x = x} e i) o =
-      at-end {c = Remove} {k = k} (put-invariant h inv x k false (o .0) e) (put-rely h inv x k false (o .0) e) (ap found-answer (tells x k (o .0) e ∙ i)) removed
+      at-end {c = Remove} {k = k} (put-invariant h inv x k false (o .0) e) (put-rely h inv x k false (o .0) e)
+      (ap found-answer (tells x k (o .0) e ∙ i)) removed
       (λ s i a b f. inl (a, b, f))
     where
       removed : (j : ℕ) → member j (remove-tag k (after [] L)) ≡ abs (put x k false h) j

@@ -13,7 +13,8 @@ use Rattle.model.specs.HeapInvariant.{Ratio, HeapInvariant, Rely, place<
 use Rattle.model.specs.Writes.{rely-refl, set-frozen, set-frozen⁻, freeze-invariant, freeze-rely, freeze-abs, fill-invariant, fill-rely, fill-abs}
 use Rattle.laws.specs.Tests.{At, hit, miss, bool?, tf}
 use Rattle.model.specs.Positions.{Fill}
-use Rattle.model.specs.Lines.{NoPred, FillStep, step-39-empty, step-39-filled, step-40-filled, step-40-none, step-40-grown, step-40-shrunk, step-43, step-44, step-46, step-47, step-48, step-52, step-49, step-50-empty, step-50-filled}
+use Rattle.model.specs.Lines.{NoPred, FillStep, step-39-empty, step-39-filled, step-40-filled, step-40-none, step-40-grown, step-40-shrunk, step-43}
+use Rattle.model.specs.Lines.{step-44, step-46, step-47, step-48, step-52, step-49, step-50-empty, step-50-filled}
 use Rattle.model.specs.Filling.{NewSourcesFew, InNode, SourceFrozen, ListedFew, SourceFew, SourcesFew, Ready, source-few-stays, FillFacts}
 use Rattle.model.specs.Slots.{mod-grown, mod-shrunk}
 
@@ -138,7 +139,8 @@ module _ (h : Heap) (inv : HeapInvariant h) where
         sources = λ s j a c p. inl (a, c, set-frozen⁻ (h .place) x i f (suc s) j p);
       }
 
-  pub fill-step : ListedFew h → SourcesFew h → {g : Heap} {l l′ : Fill} (t i : ℕ) → FillStep h t i l g l′ → InNode h t i → FillFacts h t i l → KeepsTags h g × FillFacts g t i l′
+  pub fill-step : ListedFew h → SourcesFew h → {g : Heap} {l l′ : Fill} (t i : ℕ) → FillStep h t i l g l′ → InNode h t i → FillFacts h t i l
+      → KeepsTags h g × FillFacts g t i l′
   fill-step few all t i (step-39-empty e) w o = (unchanged, λ f. absurd (tf f refl))
   fill-step few all t i (step-39-filled f) w o = (unchanged, λ e. f)
   fill-step few all t i step-40-filled w o = (unchanged, o refl)
@@ -173,10 +175,17 @@ module _ (h : Heap) (inv : HeapInvariant h) where
       let q = o .0 in
       let a = w .0 in
       let b = w .1 in
-      let d = o .1 in
-      (freeze-good s (i + h .size t) (omega arith) (omega arith), (q, λ k e. go k e (mod-shrunk k (h .size t) (h .size s) (omega arith) d), source-few-now few all t i s w q))
+      let d = o .1 in (
+        freeze-good s (i + h .size t) (omega arith) (omega arith),
+        (
+          q,
+          λ k e. go k e (mod-shrunk k (h .size t) (h .size s) (omega arith) d),
+          source-few-now few all t i s w q,
+        ),
+      )
     where
-      go : (k : ℕ) → k % h .size t ≡ i → (k % h .size s ≡ k % h .size t) ⊎ (k % h .size s ≡ k % h .size t + h .size t) → at (freeze s (i + h .size t) h) s k ≡ frozen
+      go : (k : ℕ) → k % h .size t ≡ i → (k % h .size s ≡ k % h .size t) ⊎ (k % h .size s ≡ k % h .size t + h .size t)
+          → at (freeze s (i + h .size t) h) s k ≡ frozen
       go k e (inl m) = let n = m ∙ e in rw (n, at) (set-frozen (h .place) s (i + h .size t) s i (o .2))
       go k e (inr m) = let n : k % h .size s ≡ i + h .size t = rw e at m in rw (n, at) (upd₂-same (h .place) s (i + h .size t) frozen)
   fill-step few all t i step-49 w o = (unchanged, o)

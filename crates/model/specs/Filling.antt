@@ -69,7 +69,10 @@ module _ (h g : Heap) (le : Rely h g) where
 
   pub source-few-stays : (t i s : ℕ) → t ≤ h .head → s ≤ h .head → SourceFrozen h t i s → SourceFew h t i s → SourceFew g t i s
   source-few-stays t i s w lt r u l d f =
-      u l d (λ k m. let c = f k m in (rw (le .size≡ t w, le .key≡ k) at (c .0), sym (le .frozen-keeps-tags s k lt (source-frozen-stays t i s w lt r (g .key k) (c .0))) ∙ c .1))
+      u l d (λ k m. let c = f k m in (
+        rw (le .size≡ t w, le .key≡ k) at (c .0),
+        sym (le .frozen-keeps-tags s k lt (source-frozen-stays t i s w lt r (g .key k) (c .0))) ∙ c .1,
+      ))
 
   ready-stays : (t i s : ℕ) → t ≤ h .head → Ready h t i s → Ready g t i s
   ready-stays t i s w r =
@@ -85,7 +88,8 @@ module _ (h g : Heap) (le : Rely h g) where
   fill-stays t i (at-46 s) w o = let q = o .0 in let a = w .0 in (o .0, rw (le .size≡ t a, le .size≡ s (omega arith)) (o .1))
   fill-stays t i (at-47 s) w o = let q = o .0 in let a = w .0 in (o .0, rw (le .size≡ t a, le .size≡ s (omega arith)) (o .1))
   fill-stays t i (at-48 s) w o = let q = o .0 in let a = w .0 in (o .0, rw (le .size≡ t a, le .size≡ s (omega arith)) (o .1))
-  fill-stays t i (at-52 s) w o = let q = o .0 in let a = w .0 in (o .0, rw (le .size≡ t a, le .size≡ s (omega arith)) (o .1), le .frozen-stays s i (omega arith) (o .2))
+  fill-stays t i (at-52 s) w o =
+      let q = o .0 in let a = w .0 in (o .0, rw (le .size≡ t a, le .size≡ s (omega arith)) (o .1), le .frozen-stays s i (omega arith) (o .2))
   fill-stays t i (at-49 s) w o = ready-stays t i s (w .0) o
   fill-stays t i (at-50 s) w o = ready-stays t i s (w .0) o
   fill-stays t i at-51 w o = le .filled-stays t i (w .0) o

@@ -19,9 +19,11 @@ use Rattle.spec.specs.History.{Ended}
 use Rattle.spec.specs.Linearizable.{Order, none, more, Timely, Answers, after}
 use Rattle.laws.specs.Tests.{At, hit, miss, tf}
 use Rattle.laws.specs.SameTags.{part-length}
-use Rattle.model.specs.Orders.{Begun, Witness, snoc, into-snoc, after-snoc, answers-snoc, begun-into, begun-suc, timely-snoc, witness-snoc, put-in, into-put-in, after-put-in, answers-put-in, timely-put-in, witness-put-in, after-rising, after-few}
+use Rattle.model.specs.Orders.{Begun, Witness, snoc, into-snoc, after-snoc, answers-snoc, begun-into, begun-suc, timely-snoc, witness-snoc, put-in}
+use Rattle.model.specs.Orders.{into-put-in, after-put-in, answers-put-in, timely-put-in, witness-put-in, after-rising, after-few}
 use Rattle.model.specs.Positions.{Position, no-call}
-use Rattle.model.specs.Runs.{Configuration, Transition, refused, begins, steps-on, ends-set-call, initial, Reachable, initially, further, after-end, ended-call}
+use Rattle.model.specs.Runs.{Configuration, Transition, refused, begins, steps-on, ends-set-call, initial, Reachable, initially, further, after-end}
+use Rattle.model.specs.Runs.{ended-call}
 use Rattle.model.specs.PositionFacts.{PositionFacts, facts-stay}
 use Rattle.model.specs.Filling.{ListedFew, SourcesFew}
 use Rattle.model.specs.FillSteps.{sources-few-next}
@@ -59,14 +61,16 @@ module _ (w : Configuration) (g : Heap) (M : List Ended) (s : ℕ → ℕ) (p : 
 module _ (w : Configuration) (L : List Ended) (i : Invariant w L) where
   -- no more than 64 tags are listed
   pub listed-few : ListedFew (w .heap)
-  listed-few l d f = let a = part-length l (after [] L) d (after-rising [] L tt) (λ k m. i .same k ∙ f k m) in let b = after-few [] L (i .answers) in omega arith
+  listed-few l d f =
+      let a = part-length l (after [] L) d (after-rising [] L tt) (λ k m. i .same k ∙ f k m) in let b = after-few [] L (i .answers) in omega arith
 
   -- the other tasks, when the heap is g and the order M
   stay : (g : Heap) (M : List Ended) → Rely (w .heap) g → ((q k : ℕ) (b : Bool) → Witness k (w .start q) b [] L → Witness k (w .start q) b [] M) → (q : ℕ)
       → PositionFacts g M (w .start q) (w .position q)
   stay g M le grows q = facts-stay (w .heap) g (i .heap) le L M (i .same) (w .start q) (grows q) (w .position q) (i .task q)
 
-  ended : (p : ℕ) {c : Call} {k : ℕ} {g : Heap} {a : Answer} → EndPlace (w .heap) L (w .start p) c k g a → (M : List Ended) × Invariant (after-end w p c k g a) M
+  ended : (p : ℕ) {c : Call} {k : ℕ} {g : Heap} {a : Answer} → EndPlace (w .heap) L (w .start p) c k g a
+      → (M : List Ended) × Invariant (after-end w p c k g a) M
   ended p (at-end {c = c} {k = k} {g = g} {a = a} inv le says same news) =
       let d = ended-call w p c k a in
       let b = i .began p in

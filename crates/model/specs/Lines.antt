@@ -15,7 +15,9 @@ use Rattle.spec.specs.Lists.{member}
 use Rattle.spec.specs.Plain.{insert-answer, found-answer}
 use Rattle.spec.specs.StepRefusals.{gains}
 use Rattle.laws.specs.Ascending.{Rising}
-use Rattle.model.specs.Positions.{Update, Resize, Fill, Position, at-39, lookup, at-40, at-12, at-18, at-51, at-13, update, at-43, at-15, at-36, at-46, at-16, at-44, at-17, at-49, at-32, at-47, at-33, at-48, at-52, at-50, resize, at-20, at-24, at-27, at-28, no-call}
+use Rattle.model.specs.Positions.{Update, Resize, Fill, Position, at-39, lookup, at-40, at-12, at-18, at-51, at-13, update, at-43, at-15, at-36}
+use Rattle.model.specs.Positions.{at-46, at-16, at-44, at-17, at-49, at-32, at-47, at-33, at-48, at-52, at-50, resize, at-20, at-24, at-27, at-28}
+use Rattle.model.specs.Positions.{no-call}
 
 -- t has the predecessor s; t has none
 abbrev pub HasPred : Heap → ℕ → ℕ → Type 0
@@ -53,10 +55,12 @@ pub data Step (h : Heap) : Position → Heap → Position → Type 0 where
   step-33-filled : {b : Bool} {k t : ℕ} → Filled (state-for h t k) → Step h (update b k (at-33 t)) h (update b k (at-36 t))
   step-33-empty : {b : Bool} {k t : ℕ} → state-for h t k ≡ empty → Step h (update b k (at-33 t)) h (update b k (Update.filling t (slot-in h t k) at-39))
   step-36-frozen : {b : Bool} {k x : ℕ} → state-for h x k ≡ frozen → Step h (update b k (at-36 x)) h (update b k at-32)
-  update-fills : {b : Bool} {k t i : ℕ} {l l′ : Fill} {g : Heap} → FillStep h t i l g l′ → Step h (update b k (Update.filling t i l)) g (update b k (Update.filling t i l′))
+  update-fills : {b : Bool} {k t i : ℕ} {l l′ : Fill} {g : Heap} → FillStep h t i l g l′
+      → Step h (update b k (Update.filling t i l)) g (update b k (Update.filling t i l′))
   step-51-update : {b : Bool} {k t i : ℕ} → Step h (update b k (Update.filling t i at-51)) h (update b k (at-36 t))
   step-20 : {b : Bool} → Step h (resize b at-20) h (resize b (Resize.filling (h .head) 0 at-39))
-  resize-fills : {b : Bool} {t i : ℕ} {l l′ : Fill} {g : Heap} → FillStep h t i l g l′ → Step h (resize b (Resize.filling t i l)) g (resize b (Resize.filling t i l′))
+  resize-fills : {b : Bool} {t i : ℕ} {l l′ : Fill} {g : Heap} → FillStep h t i l g l′
+      → Step h (resize b (Resize.filling t i l)) g (resize b (Resize.filling t i l′))
   step-51-next : {b : Bool} {t i : ℕ} → suc i < h .size t → Step h (resize b (Resize.filling t i at-51)) h (resize b (Resize.filling t (suc i) at-39))
   step-51-last : {b : Bool} {t i : ℕ} → suc i ≡ h .size t → Step h (resize b (Resize.filling t i at-51)) h (resize b (at-24 t))
   step-24-head : {b : Bool} {t : ℕ} → t ≡ h .head → Step h (resize b (at-24 t)) (unlink h) (resize b (at-27 t))

@@ -103,7 +103,8 @@ module _ (e : Ended) (c : e .call ≡ Contains) where
   after-put-in {S = S} {L = L} (now g m) = ap (λ (R : List ℕ). after R L) (next-same S)
   after-put-in (later w) = after-put-in w
 
-  pub answers-put-in : {r : ℕ} {v : Bool} {S : List ℕ} {L : List Ended} (w : Witness (e .tag) r v S L) → found-answer v ≡ e .answer → Answers S L → Answers S (put-in w e)
+  pub answers-put-in : {r : ℕ} {v : Bool} {S : List ℕ} {L : List Ended} (w : Witness (e .tag) r v S L) → found-answer v ≡ e .answer → Answers S L
+      → Answers S (put-in w e)
   unfolding plain plain-contains
   answers-put-in {S = S} {L = L} (now g m) a l = (answers-few S L l, rw (c, m) a, rw (next-same S) l)
   answers-put-in (later w) a l = (l .0, l .1, answers-put-in w a (l .2))

@@ -17,7 +17,8 @@ use Rattle.laws.specs.Tests.{bool?}
 use Rattle.laws.specs.Ascending.{Rising}
 use Rattle.laws.specs.SameTags.{part-length}
 use Rattle.model.specs.Orders.{Witness, witness-last}
-use Rattle.model.specs.Positions.{Lookup, at-12, at-13, at-15, at-16, at-17, at-18, Update, at-32, at-33, at-36, Resize, at-20, at-24, at-27, at-28, Position, no-call, lookup, update, resize}
+use Rattle.model.specs.Positions.{Lookup, at-12, at-13, at-15, at-16, at-17, at-18, Update, at-32, at-33, at-36, Resize, at-20, at-24, at-27, at-28}
+use Rattle.model.specs.Positions.{Position, no-call, lookup, update, resize}
 use Rattle.model.specs.Lines.{NoPred}
 use Rattle.model.specs.Filling.{InNode, in-node-stays, FillFacts, fill-stays}
 
@@ -86,7 +87,8 @@ module _ (h g : Heap) (inv : HeapInvariant h) (le : Rely h g) (L M : List Ended)
   lookup-stays : (k : ℕ) (l : Lookup) → LookupFacts h L k r l → LookupFacts g M k r l
   lookup-stays k at-12 o = tt
   lookup-stays k (at-13 t) o = let b = le .head≤ in let a = o .0 in (omega arith, witnessed-stays k t a (o .1))
-  lookup-stays k (at-15 t) o = let b = le .head≤ in let a = o .0 in (omega arith, witnessed-stays k t a (o .1), λ s q. witnessed-stays k s (omega arith) (o .2 s q))
+  lookup-stays k (at-15 t) o =
+      let b = le .head≤ in let a = o .0 in (omega arith, witnessed-stays k t a (o .1), λ s q. witnessed-stays k s (omega arith) (o .2 s q))
   lookup-stays k (at-16 s) o = let b = le .head≤ in let a = o .0 in (omega arith, witnessed-stays k s (omega arith) (o .1))
   lookup-stays k (at-17 t) o = let b = le .head≤ in let a = o .0 in (omega arith, at-filled t k a (o .1), witnessed-stays k t a (o .2))
   lookup-stays k (at-18 t) o = let b = le .head≤ in let a = o .0 in (omega arith, at-filled t k a (o .1), witnessed-stays k t a (o .2))
@@ -95,14 +97,16 @@ module _ (h g : Heap) (inv : HeapInvariant h) (le : Rely h g) (L M : List Ended)
   update-stays k at-32 o = tt
   update-stays k (at-33 t) o = let b = le .head≤ in omega arith
   update-stays k (at-36 x) o = let b = le .head≤ in let a = o .0 in (omega arith, at-filled x k a (o .1))
-  update-stays k (Update.filling t i l) o = (in-node-stays h g le t i (o .0), rw (le .size≡ t (o .0 .0), le .key≡ k) (o .1), fill-stays h g le t i l (o .0) (o .2))
+  update-stays k (Update.filling t i l) o =
+      (in-node-stays h g le t i (o .0), rw (le .size≡ t (o .0 .0), le .key≡ k) (o .1), fill-stays h g le t i l (o .0) (o .2))
 
   resize-stays : (l : Resize) → ResizeFacts h l → ResizeFacts g l
   resize-stays at-20 o = tt
   resize-stays (at-24 t) o = let b = le .head≤ in let a = o .0 in (omega arith, λ j c. le .filled-stays t j a (o .1 j (rw (le .size≡ t a) at c)))
   resize-stays (at-27 t) o = let b = le .head≤ in let a = o .0 in (omega arith, no-pred-stays t a (o .1))
   resize-stays (at-28 t n) o = let b = le .head≤ in let a = o .0 in (omega arith, no-pred-stays t a (o .1), o .2, rw (le .size≡ t a) (o .3))
-  resize-stays (Resize.filling t i l) o = (in-node-stays h g le t i (o .0), λ j c. le .filled-stays t j (o .0 .0) (o .1 j c), fill-stays h g le t i l (o .0) (o .2))
+  resize-stays (Resize.filling t i l) o =
+      (in-node-stays h g le t i (o .0), λ j c. le .filled-stays t j (o .0 .0) (o .1 j c), fill-stays h g le t i l (o .0) (o .2))
 
   pub facts-stay : (l : Position) → PositionFacts h L r l → PositionFacts g M r l
   facts-stay no-call o = tt

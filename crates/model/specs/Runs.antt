@@ -42,13 +42,15 @@ abbrev pub ended-call : Configuration → ℕ → Call → ℕ → Answer → En
 ended-call w p c k a = record { task = p; call = c; tag = k; answer = a; start = w .start p; end = w .clock }
 
 abbrev pub after-end : Configuration → ℕ → Call → ℕ → Heap → Answer → Configuration
-after-end w p c k g a = record { heap = g; position = upd (w .position) p no-call; start = w .start; clock = suc (w .clock); ended = ended-call w p c k a ∷ w .ended }
+after-end w p c k g a =
+    record { heap = g; position = upd (w .position) p no-call; start = w .start; clock = suc (w .clock); ended = ended-call w p c k a ∷ w .ended }
 
 pub data Transition (w : Configuration) : Configuration → Type 0 where
   refused : Transition w (after-refusal w)
   begins : (p : ℕ) (l : Position) → FirstPosition l → w .position p ≡ no-call → Transition w (after-start w p l)
   steps-on : (p : ℕ) {l l′ : Position} {g : Heap} → w .position p ≡ l → Step (w .heap) l g l′ → Transition w (after-step w p g l′)
-  ends-set-call : (p : ℕ) {l : Position} {c : Call} {k : ℕ} {g : Heap} {a : Answer} → w .position p ≡ l → EndStep (w .heap) l c k g a → Transition w (after-end w p c k g a)
+  ends-set-call : (p : ℕ) {l : Position} {c : Call} {k : ℕ} {g : Heap} {a : Answer} → w .position p ≡ l → EndStep (w .heap) l c k g a
+      → Transition w (after-end w p c k g a)
 
 -- ---- runs
 

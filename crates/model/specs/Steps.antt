@@ -17,13 +17,16 @@ use Rattle.spec.specs.History.{Ended}
 use Rattle.spec.specs.Linearizable.{after}
 use Rattle.model.specs.Orders.{witness-last}
 use Rattle.model.specs.Positions.{Position}
-use Rattle.model.specs.Lines.{Step, step-12, step-13-filled, step-13-empty, step-15-some, step-15-none, step-16, step-17, step-32, step-33-filled, step-33-empty, step-36-frozen, update-fills, step-51-update, step-20, resize-fills, step-51-next, step-51-last, step-24-head, step-24-past, step-27-grow, step-27-shrink, step-20-limit, step-28-done, step-28-lost}
+use Rattle.model.specs.Lines.{Step, step-12, step-13-filled, step-13-empty, step-15-some, step-15-none, step-16, step-17, step-32, step-33-filled}
+use Rattle.model.specs.Lines.{step-33-empty, step-36-frozen, update-fills, step-51-update, step-20, resize-fills, step-51-next, step-51-last}
+use Rattle.model.specs.Lines.{step-24-head, step-24-past, step-27-grow, step-27-shrink, step-20-limit, step-28-done, step-28-lost}
 use Rattle.model.specs.Runs.{FirstPosition, first-contains, first-update, first-resize}
 use Rattle.model.specs.Filling.{in-node-stays, ListedFew, SourceFew, SourcesFew, NewSourcesFew}
 use Rattle.model.specs.FillSteps.{KeepsTags, unchanged, no-pred-filled, empty-is-head, fill-step}
 use Rattle.model.specs.PositionFacts.{Witnessed, PositionFacts}
 
-module _ (h : Heap) (inv : HeapInvariant h) (L : List Ended) (same : (k : ℕ) → member k (after [] L) ≡ abs h k) (few : ListedFew h) (all : SourcesFew h) (r : ℕ) where
+module _ (h : Heap) (inv : HeapInvariant h) (L : List Ended) (same : (k : ℕ) → member k (after [] L) ≡ abs h k) (few : ListedFew h) (all : SourcesFew h)
+    (r : ℕ) where
   -- the places up to i are filled
   filled-up-to : (t i : ℕ) → ((j : ℕ) → j < i → Filled (h .place t j)) → Filled (h .place t i) → (j : ℕ) → j < suc i → Filled (h .place t j)
   filled-up-to t i all f j lt = go (ℕ-discrete j i)
@@ -46,15 +49,19 @@ module _ (h : Heap) (inv : HeapInvariant h) (L : List Ended) (same : (k : ℕ) �
     where
       go : Dec (suc s ≡ suc (h .head)) → ((suc s ≤ h .head) × (i < h .size (suc s)) × Filled (h .place (suc s) i)) ⊎ SourceFew (advance n h) (suc s) i s
       go (yes q) = absurd (filled-not-empty f (rw q (ap (λ (u : ℕ → PlaceState). u i) (upd-same (h .place) (suc (h .head)) (λ j. empty)))))
-      go (no d) = inl (omega arith, rw (upd-other (h .size) (suc (h .head)) n (suc s) d) at b, rw (upd-other (h .place) (suc (h .head)) (λ j. empty) (suc s) d) at f)
+      go (no d) =
+          inl (omega arith, rw (upd-other (h .size) (suc (h .head)) n (suc s) d) at b, rw (upd-other (h .place) (suc (h .head)) (λ j. empty) (suc s) d) at f)
 
   pub own-step : {l l′ : Position} {g : Heap} → Step h l g l′ → PositionFacts h L r l → KeepsTags h g × PositionFacts g L r l′
-  own-step (step-12 {k = k}) o = (unchanged h inv, (le-refl _, λ e. absurd (inv .head-changeable (slot-in h (h .head) k) (place< h inv (h .head) (h .key k) (le-refl _)) e)))
+  own-step (step-12 {k = k}) o =
+      (unchanged h inv, (le-refl _, λ e. absurd (inv .head-changeable (slot-in h (h .head) k) (place< h inv (h .head) (h .key k) (le-refl _)) e)))
   own-step (step-13-filled f) o = (unchanged h inv, (o .0, f, o .1))
   own-step (step-13-empty {k = k} {t = t} e) o = (unchanged h inv, (o .0, o .1, λ s q. predecessor-decides k t s (o .0) e q))
   own-step (step-15-some {s = s} p) o = let a = p .0 in let b = p .2 in (unchanged h inv, (omega arith, o .2 s (p .2)))
-  own-step (step-15-none {k = k} {t = t} n) o = (unchanged h inv, (o .0, no-pred-filled h inv t (slot-in h t k) (o .0) n (place< h inv t (h .key k) (o .0)), o .1))
-  own-step (step-16 {k = k} {s = s}) o = let a = o .0 in (unchanged h inv, (omega arith, inv .past-filled s (slot-in h s k) a (place< h inv s (h .key k) (omega arith)), o .1))
+  own-step (step-15-none {k = k} {t = t} n) o =
+      (unchanged h inv, (o .0, no-pred-filled h inv t (slot-in h t k) (o .0) n (place< h inv t (h .key k) (o .0)), o .1))
+  own-step (step-16 {k = k} {s = s}) o =
+      let a = o .0 in (unchanged h inv, (omega arith, inv .past-filled s (slot-in h s k) a (place< h inv s (h .key k) (omega arith)), o .1))
   own-step step-17 o = (unchanged h inv, o)
   own-step step-32 o = (unchanged h inv, le-refl _)
   own-step (step-33-filled f) o = (unchanged h inv, (o, f))

@@ -10,7 +10,8 @@ use native.Mathlib.Decide.{ℕ-discrete}
 use native.Mathlib.Omega.{arith}
 use Rattle.laws.specs.Tests.{At, hit, miss, bool?, tf}
 use Rattle.model.specs.Functions.{at?, pick-at, upd, upd-at, upd-same, upd-other, upd₂, upd₂-at, upd₂-same, upd₂-other}
-use Rattle.model.specs.PlaceState.{PlaceState, empty, changeable, frozen, Filled, of-changeable, of-frozen, is-empty, filled-not-empty, not-both, filled-changeable, filled-frozen}
+use Rattle.model.specs.PlaceState.{PlaceState, empty, changeable, frozen, Filled, of-changeable, of-frozen, is-empty, filled-not-empty, not-both}
+use Rattle.model.specs.PlaceState.{filled-changeable, filled-frozen}
 use Rattle.model.specs.Heap.{Heap, at, decider-of, decider, abs, decider-empty, decider-filled, fill, freeze, put, unlink, advance, slot-in, state-for}
 use Rattle.model.specs.HeapInvariant.{Ratio, HeapInvariant, Rely, place<, changeable-decides}
 
@@ -69,7 +70,8 @@ module _ (h : Heap) (inv : HeapInvariant h) (x i : ℕ) (lt : x < h .head) (f : 
   }
 
   pub freeze-abs : (k : ℕ) → abs (freeze x i h) k ≡ abs h k
-  freeze-abs k = ap (λ (p : PlaceState). h .has (decider-of p (h .head)) k) (upd₂-other (h .place) x i frozen (h .head) (slot-in h (h .head) k) (λ p. let q = p .0 in omega arith))
+  freeze-abs k = ap (λ (p : PlaceState). h .has (decider-of p (h .head)) k)
+      (upd₂-other (h .place) x i frozen (h .head) (slot-in h (h .head) k) (λ p. let q = p .0 in omega arith))
 
 -- ---- an insert or a remove in a changeable bucket
 module _ (h : Heap) (inv : HeapInvariant h) (x k : ℕ) (v : Bool) (le : x ≤ h .head) (o : state-for h x k ≡ changeable) where
@@ -122,7 +124,8 @@ module _ (h : Heap) (inv : HeapInvariant h) (all : (i : ℕ) → i < h .size (h 
       now : (x i : ℕ) → x < h .head → i < h .size x → (h .linked ≡ true) ⊎ (h .linked ≡ false) → Dec (suc x ≡ h .head) → h .place x i ≡ frozen
       now x i lt b (inr l) d = inv .unlinked-frozen l x i lt b
       now x i lt b (inl l) (no d) = inv .older-frozen x i (omega arith) b
-      now x i lt b (inl l) (yes q) = rw (mod-eq-of-lt b, at) at (inv .copied-frozen l x i (sym q) (all (i % h .size (h .head)) (place< h inv (h .head) i (le-refl _))))
+      now x i lt b (inl l) (yes q) =
+          rw (mod-eq-of-lt b, at) at (inv .copied-frozen l x i (sym q) (all (i % h .size (h .head)) (place< h inv (h .head) i (le-refl _))))
 
   pub unlink-rely : Rely h (unlink h)
   unlink-rely = record {
@@ -186,7 +189,8 @@ module _ (h : Heap) (inv : HeapInvariant h) (n : ℕ) (l : h .linked ≡ false) 
   advance-abs k =
       let q : pred (suc (h .head)) ≡ h .head = omega arith in
       ap (λ (y : ℕ). h .has y k)
-      (decider-empty (suc (h .head)) (adv-void _) ∙ q ∙ sym (decider-filled (h .head) (inv .unlinked-filled l _ (place< h inv (h .head) (h .key k) (le-refl _)))))
+      (decider-empty (suc (h .head)) (adv-void _) ∙ q ∙ sym (decider-filled (h .head)
+      (inv .unlinked-filled l _ (place< h inv (h .head) (h .key k) (le-refl _)))))
 
 -- ---- a place of the head is filled from the frozen buckets before it
 module _ (h : Heap) (inv : HeapInvariant h) (s i : ℕ) (q : h .head ≡ suc s) (v : h .place (h .head) i ≡ empty)
@@ -204,7 +208,8 @@ module _ (h : Heap) (inv : HeapInvariant h) (s i : ℕ) (q : h .head ≡ suc s) 
     older-frozen = λ y j a b. rw (fill-st y j (omega arith)) (inv .older-frozen y j a b);
     unlinked-frozen = λ l y j a b. rw (fill-st y j a) (inv .unlinked-frozen l y j a b);
     linked-ratio = inv .linked-ratio;
-    copied-frozen = λ l r k p f. rw (fill-st r (k % h .size r) (omega arith)) (before l r k p f (upd₂-at (h .place) (h .head) i changeable (h .head) (k % h .size (h .head))));
+    copied-frozen = λ l r k p f. rw (fill-st r (k % h .size r) (omega arith))
+        (before l r k p f (upd₂-at (h .place) (h .head) i changeable (h .head) (k % h .size (h .head))));
   }
     where
       soft-here : (j : ℕ) → j < h .size (h .head) → upd₂ (h .place) (h .head) i changeable (h .head) j ≡ frozen
@@ -213,7 +218,8 @@ module _ (h : Heap) (inv : HeapInvariant h) (s i : ℕ) (q : h .head ≡ suc s) 
       soft-here j b e (miss n f) = inv .head-changeable j b (sym f ∙ e)
 
       before : h .linked ≡ true → (r k : ℕ) → h .head ≡ suc r → Filled (upd₂ (h .place) (h .head) i changeable (h .head) (k % h .size (h .head)))
-          → At ((h .head ≡ h .head) × (k % h .size (h .head) ≡ i)) changeable (at h (h .head) k) (upd₂ (h .place) (h .head) i changeable (h .head) (k % h .size (h .head)))
+          → At ((h .head ≡ h .head) × (k % h .size (h .head) ≡ i)) changeable (at h (h .head) k)
+          (upd₂ (h .place) (h .head) i changeable (h .head) (k % h .size (h .head)))
           → at h r k ≡ frozen
       before l r k p f (hit c e) = let rs : r ≡ s = omega arith in rw rs (ready k (c .1))
       before l r k p f (miss n e) = inv .copied-frozen l r k p (rw e at f)
@@ -241,7 +247,8 @@ module _ (h : Heap) (inv : HeapInvariant h) (s i : ℕ) (q : h .head ≡ suc s) 
       new y j e (miss n f) = sym f ∙ e
 
       same : (y k : ℕ) → upd₂ (h .place) (h .head) i changeable y (slot-in h y k) ≡ frozen
-          → At ((y ≡ h .head) × (slot-in h (h .head) k ≡ i)) (h .has s k) (h .has y k) (fill s (h .head) i h .has y k) → fill s (h .head) i h .has y k ≡ h .has y k
+          → At ((y ≡ h .head) × (slot-in h (h .head) k ≡ i)) (h .has s k) (h .has y k) (fill s (h .head) i h .has y k)
+          → fill s (h .head) i h .has y k ≡ h .has y k
       same y k e (hit p f) = absurd (not-both (rw (p .0, p .1) (upd₂-same (h .place) (h .head) i changeable)) e)
       same y k e (miss n f) = f
 
@@ -249,7 +256,8 @@ module _ (h : Heap) (inv : HeapInvariant h) (s i : ℕ) (q : h .head ≡ suc s) 
   fill-has y k n = elim (pick-at (at? (h .head) i y (slot-in h (h .head) k)) (h .has s k) (h .has y k)) [ hit p e ↦ absurd (n (p .1)) | miss m e ↦ e ]
 
   fill-has-here : (k : ℕ) → slot-in h (h .head) k ≡ i → fill s (h .head) i h .has (h .head) k ≡ h .has s k
-  fill-has-here k p = elim (pick-at (at? (h .head) i (h .head) (slot-in h (h .head) k)) (h .has s k) (h .has (h .head) k)) [ hit c e ↦ e | miss m e ↦ absurd (m (refl, p)) ]
+  fill-has-here k p =
+      elim (pick-at (at? (h .head) i (h .head) (slot-in h (h .head) k)) (h .has s k) (h .has (h .head) k)) [ hit c e ↦ e | miss m e ↦ absurd (m (refl, p)) ]
 
   pub fill-abs : (k : ℕ) → abs (fill s (h .head) i h) k ≡ abs h k
   fill-abs k = go (upd₂-at (h .place) (h .head) i changeable (h .head) (slot-in h (h .head) k))

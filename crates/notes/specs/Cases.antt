@@ -8,7 +8,9 @@ use Rattle.session.specs.Ascii.{codes, ascii}
 use Rattle.session.specs.Everything.{session-definitions}
 use Rattle.session.specs.Cases.{Case, texts, gives}
 use Rattle.notes.specs.Merge.{preceded, or-else, either, gives as given, take-call, choice, search, search-all, unfit, merge}
-use Rattle.notes.specs.Text.{parse-answer, last-comma-from, last-comma, noted, parse-noted, parse-note, parse-note-line, call-field, note-line, order-lines, outcome-lines, merge-lines, add-first, first-notes, add-second, second-notes, is-note, all-notes, notes-output, notes-transcript}
+use Rattle.notes.specs.Text.{parse-answer, last-comma-from, last-comma, noted, parse-noted, parse-note, parse-note-line, call-field, note-line}
+use Rattle.notes.specs.Text.{order-lines, outcome-lines, merge-lines, add-first, first-notes, add-second, second-notes, is-note, all-notes}
+use Rattle.notes.specs.Text.{notes-output, notes-transcript}
 
 unfoldable pub three-of-first : String
 three-of-first = "note=1,contains,5,no\nnote=1,contains,5,no\nnote=1,contains,5,no\n"
@@ -62,5 +64,7 @@ table =
     ∷ []
 
 pub table-holds : map (λ c. notes-transcript (c .input)) table ≡ map (λ c. c .prints) table
-unfolding everything set-call codes ascii session-definitions texts gives three-of-first three-of-second table preceded or-else either given take-call choice search search-all unfit merge parse-answer last-comma-from last-comma noted parse-noted parse-note parse-note-line call-field note-line order-lines outcome-lines merge-lines add-first first-notes add-second second-notes is-note all-notes notes-output notes-transcript
+unfolding everything set-call codes ascii session-definitions texts gives three-of-first three-of-second table preceded or-else either given take-call
+    choice search search-all unfit merge parse-answer last-comma-from last-comma noted parse-noted parse-note parse-note-line call-field note-line
+    order-lines outcome-lines merge-lines add-first first-notes add-second second-notes is-note all-notes notes-output notes-transcript
 table-holds = refl

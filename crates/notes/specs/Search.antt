@@ -15,7 +15,8 @@ use Rattle.spec.specs.declared.Answer.the-variants.{Yes, No, Full, Done, Lost, 
 use Rattle.spec.specs.Lists.{if_then_else_}
 use Rattle.spec.specs.Numbers.{answer-number}
 use Rattle.notes.specs.declared.Note.{Note}
-use Rattle.notes.specs.Orders.{Lane, first, second, Takes, from-first, from-second, Interleaves, none-left, taking, asked, Right, Sooner, here, there, RightOrder, FirstRight}
+use Rattle.notes.specs.Orders.{Lane, first, second, Takes, from-first, from-second, Interleaves, none-left, taking, asked, Right, Sooner, here, there}
+use Rattle.notes.specs.Orders.{RightOrder, FirstRight}
 use Rattle.notes.specs.Merge.{Found, order, none, preceded, or-else, either, gives, Search, take-call, choice, search}
 
 -- ---- an answer's number tells it from the others

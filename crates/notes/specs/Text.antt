@@ -14,7 +14,8 @@ use Rattle.spec.specs.Lists.{if_then_else_}
 use Rattle.session.specs.declared.EventLine.{EventLine}
 use Rattle.session.specs.declared.EventLine.the-variants.{Start, Step, Outside as NoEvent}
 use Rattle.session.specs.Ascii.{codes, ascii}
-use Rattle.session.specs.Keys.{newline, comma, insert-key, remove-key, contains-key, grow-word, shrink-word, yes-word, no-word, full-word, done-word, lost-word, limit-word}
+use Rattle.session.specs.Keys.{newline, comma, insert-key, remove-key, contains-key, grow-word, shrink-word, yes-word, no-word, full-word, done-word}
+use Rattle.session.specs.Keys.{lost-word, limit-word}
 use Rattle.session.specs.Grammar.{starts-with, equals, parse-start, InputLine, input-lines, admissible}
 use Rattle.session.specs.Print.{decimal, answer-word, refusal-line}
 use Rattle.notes.specs.declared.Note.{Note}

@@ -22,7 +22,8 @@ use Rattle.notes.specs.declared.Notes.{Notes}
 use Rattle.notes.specs.declared.NoteLine.{NoteLine}
 use Rattle.notes.specs.declared.NoteLine.the-variants.{First, Second, Outside}
 use Rattle.notes.specs.Merge.{unfit, merge, list-of}
-use Rattle.notes.specs.Text.{parse-note-line, outcome-lines, merge-lines, add-first, first-notes, add-second, second-notes, is-note, all-notes, notes-output, notes-transcript}
+use Rattle.notes.specs.Text.{parse-note-line, outcome-lines, merge-lines, add-first, first-notes, add-second, second-notes, is-note, all-notes}
+use Rattle.notes.specs.Text.{notes-output, notes-transcript}
 use Rattle.notes_text.specs.declared.stream.Reading.{Reading}
 use Rattle.notes_text.specs.Reading.{notes-of, add-note, reading, no-notes, new-reading, close-line, feed, feeds, end-lines}
 use Rattle.notes_text.specs.KeptLine.{LineSoFar, so-far-none, so-far-more, kept-length, kept-says}

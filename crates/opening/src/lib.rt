@@ -67,7 +67,8 @@ fn put_first_bucket(bs: &mut [u32])
 
 // Opens the set on two lent pools.
 pub fn open(g: Config, ns: &mut [u32], bs: &mut [u32]) -> Opened
-    ensures { λ r. ⌜ (r .refusal ≡ opening g (now (ns .entry)) (now (bs .entry)) .refusal) × (machine-of (r .state) (now (ns .exit)) (now (bs .exit)) ≡ opening g (now (ns .entry)) (now (bs .entry)) .machine) ⌝ }
+    ensures { λ r. ⌜ (r .refusal ≡ opening g (now (ns .entry)) (now (bs .entry)) .refusal)
+        × (machine-of (r .state) (now (ns .exit)) (now (bs .exit)) ≡ opening g (now (ns .entry)) (now (bs .entry)) .machine) ⌝ }
 {
     let n = ns.len();
     let m = bs.len();

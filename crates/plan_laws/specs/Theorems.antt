@@ -216,7 +216,8 @@ module _ (t version p : ℕ) (lt : p < t) where
     plan-is-run cs fs e = figures-are-run cs ∙ go (not (version-known (opened-for 1 version))) (ltb 64 (length cs)) e
       where
         go : (unknown long : Bool)
-            → _≡_ {A = PlanReply} (if unknown then refused 11 else if long then refused 9 else planned (all-figures (opened-for 1 version) fresh cs)) (planned fs)
+            → _≡_ {A = PlanReply} (if unknown then refused 11 else if long then refused 9 else planned (all-figures (opened-for 1 version) fresh cs))
+            (planned fs)
             → all-figures g fresh cs ≡ fs
         go true long q = let z : _≡_ {A = ℕ} 0 1 = cc in absurd (omega arith)
         go false true q = let z : _≡_ {A = ℕ} 0 1 = cc in absurd (omega arith)

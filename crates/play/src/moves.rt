@@ -73,7 +73,8 @@ fn write_nothing(s: State, next: State, ns: &[u32], bs: &[u32]) -> Played
 
 fn start_resize(s: State, call: Call, ns: &[u32], bs: &[u32]) -> Played
     requires { ⌜ sound (machine-of s (now ns) (now bs)) ≡ true ⌝ }
-    ensures { λ r. ⌜ PlayedTo (machine-of s (now (ns .entry)) (now (bs .entry))) false (start (machine-of s (now (ns .entry)) (now (bs .entry))) 2 call 0 .machine) r
+    ensures { λ r. ⌜ PlayedTo (machine-of s (now (ns .entry)) (now (bs .entry))) false
+        (start (machine-of s (now (ns .entry)) (now (bs .entry))) 2 call 0 .machine) r
         (now (ns .entry)) (now (bs .entry)) ⌝ }
 {
     let d = hashset::start(s, 2, call, 0, ns, bs);

@@ -14,7 +14,8 @@ use Rattle.spec.specs.Lists.{member, every}
 use Rattle.spec.specs.Machine.{Machine}
 use Rattle.spec.specs.Words.{number, filled, size, pred, place}
 use Rattle.spec.specs.declared.Task.{Task}
-use Rattle.spec.specs.Sound.{listed-size, zeros, lines-of, resizes, node-link, bucket-link, sound-node, sound-nodes, sound-bucket, sound-buckets, sound-running, sound-task, sound-tasks, sound-numbers, sound}
+use Rattle.spec.specs.Sound.{listed-size, zeros, lines-of, resizes, node-link, bucket-link, sound-node, sound-nodes, sound-bucket, sound-buckets}
+use Rattle.spec.specs.Sound.{sound-running, sound-task, sound-tasks, sound-numbers, sound}
 use Rattle.pool.proofs.Laws.{Numbers, numbers, listed-small, task-runs}
 
 -- ---- the parts
@@ -60,7 +61,8 @@ nth-bucket zero w k s h = absurd (omega arith)
 nth-bucket (suc n) w zero s h = and-left (sound-bucket w) (sound-buckets n (drop 66 w)) s
 nth-bucket (suc n) w (suc k) s h =
     let q : 66 * suc k ≡ 66 + 66 * k = omega arith in
-    let r : sound-bucket (drop (66 * k) (drop 66 w)) ≡ true = nth-bucket n (drop 66 w) k (and-right (sound-bucket w) (sound-buckets n (drop 66 w)) s) (omega arith) in
+    let r : sound-bucket (drop (66 * k) (drop 66 w)) ≡ true =
+    nth-bucket n (drop 66 w) k (and-right (sound-bucket w) (sound-buckets n (drop 66 w)) s) (omega arith) in
     rw (q, ← drop-drop (66 * k) 66 w) r
 
 nth-node : (y : Machine) (n : ℕ) (w : List ℕ) (k : ℕ) → sound-nodes y n w ≡ true → k < n → sound-node y (drop (34 * k) w) ≡ true
@@ -69,7 +71,8 @@ nth-node y zero w k s h = absurd (omega arith)
 nth-node y (suc n) w zero s h = and-left (sound-node y w) (sound-nodes y n (drop 34 w)) s
 nth-node y (suc n) w (suc k) s h =
     let q : 34 * suc k ≡ 34 + 34 * k = omega arith in
-    let r : sound-node y (drop (34 * k) (drop 34 w)) ≡ true = nth-node y n (drop 34 w) k (and-right (sound-node y w) (sound-nodes y n (drop 34 w)) s) (omega arith) in
+    let r : sound-node y (drop (34 * k) (drop 34 w)) ≡ true =
+    nth-node y n (drop 34 w) k (and-right (sound-node y w) (sound-nodes y n (drop 34 w)) s) (omega arith) in
     rw (q, ← drop-drop (34 * k) 34 w) r
 
 nth-task : (y : Machine) (j : ℕ) (ts : List Task) (k : ℕ) (x : Task) → sound-tasks y j ts ≡ true → k < length ts → sound-task y (j + k) (getD ts k x) ≡ true
@@ -119,7 +122,8 @@ module _ (y : Machine) (s : sound y ≡ true) where
       record {
         small = rw (← e0) (listed-small z (and-left A B gb));
         back = rw (← e1) (leb-true _ _ (and-left (leb (getD w 1 0) (y .state .nodes)) _ (and-right A B gb)));
-        back-sized = λ z o. sized (getD w 1 0) (size (y .nodes) (number (getD w 1 0))) (λ q. z (sym e1 ∙ q)) (rw e1 o) (and-right (leb (getD w 1 0) (y .state .nodes)) _ (and-right A B gb));
+        back-sized = λ z o. sized (getD w 1 0) (size (y .nodes) (number (getD w 1 0))) (λ q. z (sym e1 ∙ q)) (rw e1 o)
+            (and-right (leb (getD w 1 0) (y .state .nodes)) _ (and-right A B gb));
         in-pool = λ i hi.
             let t : length (take 32 (drop 2 w)) ≡ 32 = length-take-le 32 (drop 2 w) (omega arith) in
             let p : getD (take 32 (drop 2 w)) i 0 ≡ getD (y .nodes) (34 * k + 2 + i) 0 =

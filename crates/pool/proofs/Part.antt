@@ -25,7 +25,8 @@ over-more d s i p e hd hs =
 
 pub over-all : (d v : List ℕ) (i : ℕ) (p : List ℕ) → p ≡ over d v i → i ≡ length v → p ≡ overwrite d 0 v
 unfolding over overwrite
-over-all d v i p e h = let z : 0 + length v ≡ length v = omega arith in e ∙ rw (h, z) (ap (λ (w : List ℕ). w ++ drop (length v) d) (take-all (length v) v (omega arith)))
+over-all d v i p e h =
+    let z : 0 + length v ≡ length v = omega arith in e ∙ rw (h, z) (ap (λ (w : List ℕ). w ++ drop (length v) d) (take-all (length v) v (omega arith)))
 
 -- n words over as many
 pub over-full : (d v : List ℕ) (n : ℕ) → length d ≤ n → over d v n ≡ take n v

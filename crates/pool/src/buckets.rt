@@ -44,7 +44,8 @@ fn store(part: &mut [u32], b: Bucket)
 
 fn add(part: &mut [u32], tag: u32) -> Answered
     requires { ⌜ 66 ≤ length (now part) ⌝ }
-    ensures { λ r. ⌜ (r ≡ answer-of (added (front-of (now (part .entry))) tag)) × (now (part .exit) ≡ overwrite (now (part .entry)) 0 (added (front-of (now (part .entry))) tag .bucket .words)) ⌝ }
+    ensures { λ r. ⌜ (r ≡ answer-of (added (front-of (now (part .entry))) tag))
+        × (now (part .exit) ≡ overwrite (now (part .entry)) 0 (added (front-of (now (part .entry))) tag .bucket .words)) ⌝ }
 {
     let b = front(part);
     let d = b.add(tag);
@@ -59,7 +60,8 @@ fn add(part: &mut [u32], tag: u32) -> Answered
 
 fn remove(part: &mut [u32], tag: u32) -> Answered
     requires { ⌜ 66 ≤ length (now part) ⌝ }
-    ensures { λ r. ⌜ (r ≡ answer-of (removed (front-of (now (part .entry))) tag)) × (now (part .exit) ≡ overwrite (now (part .entry)) 0 (removed (front-of (now (part .entry))) tag .bucket .words)) ⌝ }
+    ensures { λ r. ⌜ (r ≡ answer-of (removed (front-of (now (part .entry))) tag))
+        × (now (part .exit) ≡ overwrite (now (part .entry)) 0 (removed (front-of (now (part .entry))) tag .bucket .words)) ⌝ }
 {
     let b = front(part);
     let d = b.remove(tag);
@@ -112,7 +114,8 @@ pub fn store_at(pool: &mut [u32], k: usize, b: Bucket)
 }
 
 pub fn add_at(pool: &mut [u32], k: usize, tag: u32) -> Answered
-    ensures { λ r. ⌜ (r ≡ answer-of (added (bucket-at (now (pool .entry)) k) tag)) × (now (pool .exit) ≡ store-bucket (now (pool .entry)) k (added (bucket-at (now (pool .entry)) k) tag .bucket)) ⌝ }
+    ensures { λ r. ⌜ (r ≡ answer-of (added (bucket-at (now (pool .entry)) k) tag))
+        × (now (pool .exit) ≡ store-bucket (now (pool .entry)) k (added (bucket-at (now (pool .entry)) k) tag .bucket)) ⌝ }
 {
     if pool.len() / WORDS <= k {
         return Answered {
@@ -125,7 +128,8 @@ pub fn add_at(pool: &mut [u32], k: usize, tag: u32) -> Answered
 }
 
 pub fn remove_at(pool: &mut [u32], k: usize, tag: u32) -> Answered
-    ensures { λ r. ⌜ (r ≡ answer-of (removed (bucket-at (now (pool .entry)) k) tag)) × (now (pool .exit) ≡ store-bucket (now (pool .entry)) k (removed (bucket-at (now (pool .entry)) k) tag .bucket)) ⌝ }
+    ensures { λ r. ⌜ (r ≡ answer-of (removed (bucket-at (now (pool .entry)) k) tag))
+        × (now (pool .exit) ≡ store-bucket (now (pool .entry)) k (removed (bucket-at (now (pool .entry)) k) tag .bucket)) ⌝ }
 {
     if pool.len() / WORDS <= k {
         return Answered {

@@ -7,7 +7,8 @@ ghost use Rattle.spec.specs.Machine.{machine-of};
 
 // Writes the tags in the set, ascending, and gives their number; later words are kept.
 pub fn list(s: State, ns: &[u32], bs: &[u32], out: &mut [u32]) -> Listing
-    ensures { λ r. ⌜ (r ≡ list (machine-of s (now (ns .entry)) (now (bs .entry))) (now (out .entry)) .says) × (now (out .exit) ≡ list (machine-of s (now (ns .entry)) (now (bs .entry))) (now (out .entry)) .words) ⌝ }
+    ensures { λ r. ⌜ (r ≡ list (machine-of s (now (ns .entry)) (now (bs .entry))) (now (out .entry)) .says)
+        × (now (out .exit) ≡ list (machine-of s (now (ns .entry)) (now (bs .entry))) (now (out .entry)) .words) ⌝ }
 {
     if !soundness::sound(s, ns, bs) {
         return Listing::Refused(8);

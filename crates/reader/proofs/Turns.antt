@@ -18,7 +18,8 @@ use Rattle.recording.specs.declared.Verdict.{Verdict}
 use Rattle.recording.specs.declared.Verdict.the-variants.{Refusal}
 use Rattle.recording.specs.Verdict.{lists, event-turn, turn}
 use Rattle.reader_state.specs.declared.Reader.{Reader}
-use Rattle.reader_state.specs.Standing.{next-number, missing, reader-of, LineRead, line-read, awaits-event, opened, turn-line, opened-line, header-line, phase-line, read-line, EndRead, end-read, answer-at-end, opened-end, phase-end, read-end, ReadAs, EndedAs}
+use Rattle.reader_state.specs.Standing.{next-number, missing, reader-of, LineRead, line-read, awaits-event, opened, turn-line, opened-line, header-line}
+use Rattle.reader_state.specs.Standing.{phase-line, read-line, EndRead, end-read, answer-at-end, opened-end, phase-end, read-end, ReadAs, EndedAs}
 
 -- ---- an event's turn
 

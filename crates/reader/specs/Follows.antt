@@ -32,10 +32,12 @@ use Rattle.recording.specs.declared.Verdict.the-variants.{Refusal}
 use Rattle.recording.specs.Recording.{RecordedLine, listing}
 use Rattle.recording.specs.Verdict.{Compared, as-printed, fails, compare-line, Turn, runs, lists, gives-10, turn}
 use Rattle.recording.specs.Reader as defined
-use Rattle.recording.specs.Reader.{reader, moved, after-comparing as compared-by, decided as decided-by, compare-listed, read-listed, run-event, read-turn, read-opened, read-header-line, read-phase, answers, listing-end, read-phase-end, read-phase-unclosed}
+use Rattle.recording.specs.Reader.{reader, moved, after-comparing as compared-by, decided as decided-by, compare-listed, read-listed, run-event, read-turn}
+use Rattle.recording.specs.Reader.{read-opened, read-header-line, read-phase, answers, listing-end, read-phase-end, read-phase-unclosed}
 use Rattle.recording.specs.Reader.{read-line as read-defined, read-end as end-defined, read-unclosed as unclosed-defined, opened-end as opened-end-defined}
 use Rattle.reader_state.specs.declared.Reader.{Reader}
-use Rattle.reader_state.specs.Standing.{most-lines, next-number, missing, with-part, LineRead, line-read, put-back, decided, awaits-event, opened, turn-line, opened-line, header-line, phase-line, read-line, answer-at-end, opened-end, phase-end, read-end}
+use Rattle.reader_state.specs.Standing.{most-lines, next-number, missing, with-part, LineRead, line-read, put-back, decided, awaits-event, opened}
+use Rattle.reader_state.specs.Standing.{turn-line, opened-line, header-line, phase-line, read-line, answer-at-end, opened-end, phase-end, read-end}
 
 -- the header is read, or the answer is given
 unfoldable pub past-header : ReaderPhase → Bool
@@ -271,8 +273,10 @@ line-follows d l (answered {v = v} {h = h} {y = y} {n = n} p) few =
 unfoldable pub answer-defined : Bool → defined.Reader → Verdict
 answer-defined closed e = (if closed then end-defined e else unclosed-defined e) .answer
 
-header-end : (closed : Bool) (d : LineRead) (due : HeaderLine) (y : Machine) → 2176 ≤ length (d .nodes) → 13200 ≤ length (d .buckets) → d .reader .number ≤ most-lines
-    → phase-end (Due due) closed (d .reader) (d .nodes) (d .buckets) .answer ≡ answer-defined closed (reader (Due due) (d .reader .header) y (d .reader .number))
+header-end : (closed : Bool) (d : LineRead) (due : HeaderLine) (y : Machine) → 2176 ≤ length (d .nodes) → 13200 ≤ length (d .buckets)
+    → d .reader .number ≤ most-lines
+    → phase-end (Due due) closed (d .reader) (d .nodes) (d .buckets) .answer ≡ answer-defined closed
+    (reader (Due due) (d .reader .header) y (d .reader .number))
 unfolding answer-defined end-defined unclosed-defined read-phase-end read-phase-unclosed phase-end opened-end missing answers
 header-end closed d due y f g few = go closed (optional due)
   where
@@ -286,7 +290,11 @@ header-end closed d due y f g few = go closed (optional due)
     e = reader (Due due) h y n
 
     go : (c b : Bool)
-        → (if b then opened-end (opened h n n (d .nodes) (d .buckets)) (missing c) else record { answer = Refusal (missing c); nodes = d .nodes; buckets = d .buckets }) .answer
+        → (if b then opened-end (opened h n n (d .nodes) (d .buckets)) (missing c) else record {
+          answer = Refusal (missing c);
+          nodes = d .nodes;
+          buckets = d .buckets;
+        }) .answer
         ≡ (if c then (if b then opened-end-defined 12 (session-opening h) else answers (Refusal 12) e)
         else (if b then opened-end-defined 10 (session-opening h) else answers (Refusal 10) e)) .answer
     go true true = opened-answer (d .nodes) (d .buckets) f g h n 12 few

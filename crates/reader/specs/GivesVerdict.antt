@@ -16,7 +16,9 @@ use Rattle.session.specs.Grammar.{InputLine, closed-line}
 use Rattle.session.specs.OutputLengths.{longest-line}
 use Rattle.recording.specs.Verdict.{verdict}
 use Rattle.recording.specs.Reader as defined
-use Rattle.recording.specs.Reader.{keep, byte-reader as byte-reader-defined, new-byte-reader as new-byte-defined, new-reader as new-defined, read-line as read-line-defined, read-byte as read-byte-defined, read-bytes as read-bytes-defined, bytes-end as bytes-end-defined, read-input}
+use Rattle.recording.specs.Reader.{keep, byte-reader as byte-reader-defined, new-byte-reader as new-byte-defined, new-reader as new-defined}
+use Rattle.recording.specs.Reader.{read-line as read-line-defined, read-byte as read-byte-defined, read-bytes as read-bytes-defined}
+use Rattle.recording.specs.Reader.{bytes-end as bytes-end-defined, read-input}
 use Rattle.recording_laws.specs.ByteReader.{bytes-give-verdict}
 use Rattle.reader_state.specs.declared.kept_line.KeptLine.{KeptLine}
 use Rattle.reader_state.specs.KeptLines.{kept-line, empty-line, kept-bytes, pushed}
@@ -86,7 +88,8 @@ byte-follows p q x f few = go (eqb x newline)
     both : Both (read-line (p .reader .reader) (p .nodes) (p .buckets) l) (read-line-defined (q .reader) (closed-line (q .kept))) (suc (q .reader .number))
     both =
         let k = line-follows (line-of p) l (f .reader) few in
-        subst (λ (w : List ℕ). Both (read-line (p .reader .reader) (p .nodes) (p .buckets) l) (read-line-defined (q .reader) (closed-line w)) (suc (q .reader .number)))
+        subst (λ (w : List ℕ). Both (read-line (p .reader .reader) (p .nodes) (p .buckets) l) (read-line-defined (q .reader) (closed-line w))
+        (suc (q .reader .number)))
         (f .line .same) k
 
     next : Bool → Progress

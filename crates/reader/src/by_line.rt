@@ -49,7 +49,8 @@ fn open_machine(h: Header, n: u64, next: u64, ns: &mut [u32], bs: &mut [u32]) ->
 
 // Starts a call for a task; its output line comes next.
 fn start_task(r: Reader, k: u32, call: Call, tag: u32, ns: &[u32], bs: &[u32]) -> Reader
-    ensures { λ s. ⌜ ReadAs (put-back (run-event (starts k call tag) (with-part r (now (ns .entry)) (now (bs .entry)))) (now (ns .entry)) (now (bs .entry))) s (now (ns .entry)) (now (bs .entry)) ⌝ }
+    ensures { λ s. ⌜ ReadAs (put-back (run-event (starts k call tag) (with-part r (now (ns .entry)) (now (bs .entry)))) (now (ns .entry)) (now (bs .entry)))
+        s (now (ns .entry)) (now (bs .entry)) ⌝ }
 {
     let header = r.header;
     let a = session_state::pools::node_extent(header.nodes, ns.len());
@@ -69,7 +70,8 @@ fn start_task(r: Reader, k: u32, call: Call, tag: u32, ns: &[u32], bs: &[u32]) -
 
 // Steps a task by one line of Figure 2; its output line comes next.
 fn step_task(r: Reader, k: u32, ns: &mut [u32], bs: &mut [u32]) -> Reader
-    ensures { λ s. ⌜ ReadAs (put-back (run-event (steps k) (with-part r (now (ns .entry)) (now (bs .entry)))) (now (ns .entry)) (now (bs .entry))) s (now (ns .exit)) (now (bs .exit)) ⌝ }
+    ensures { λ s. ⌜ ReadAs (put-back (run-event (steps k) (with-part r (now (ns .entry)) (now (bs .entry)))) (now (ns .entry)) (now (bs .entry))) s
+        (now (ns .exit)) (now (bs .exit)) ⌝ }
 {
     let header = r.header;
     let a = session_state::pools::node_extent(header.nodes, ns.len());
@@ -89,7 +91,8 @@ fn step_task(r: Reader, k: u32, ns: &mut [u32], bs: &mut [u32]) -> Reader
 
 // Prints the line at place k of the listing, made anew; nothing past its end.
 fn print_listed(r: Reader, k: u32, ns: &[u32], bs: &[u32], buf: &mut [u8]) -> usize
-    ensures { λ n. ⌜ buffer (now (buf .exit)) n ≡ append (first-bytes (drop k (listing (with-part r (now (ns .entry)) (now (bs .entry)) .machine)))) (buffer (now (buf .entry)) 0) ⌝ }
+    ensures { λ n. ⌜ buffer (now (buf .exit)) n ≡ append (first-bytes (drop k (listing (with-part r (now (ns .entry)) (now (bs .entry)) .machine))))
+        (buffer (now (buf .entry)) 0) ⌝ }
 {
     let header = r.header;
     let a = session_state::pools::node_extent(header.nodes, ns.len());
@@ -115,7 +118,8 @@ fn print_listed(r: Reader, k: u32, ns: &[u32], bs: &[u32], buf: &mut [u8]) -> us
 
 // The line at place k of the listing.
 fn listed_line(r: Reader, k: u32, ns: &[u32], bs: &[u32], line: &[u8]) -> Reader
-    ensures { λ s. ⌜ ReadAs (put-back (read-listed k (with-part r (now (ns .entry)) (now (bs .entry))) (closed-line (now (line .entry)))) (now (ns .entry)) (now (bs .entry))) s (now (ns .entry)) (now (bs .entry)) ⌝ }
+    ensures { λ s. ⌜ ReadAs (put-back (read-listed k (with-part r (now (ns .entry)) (now (bs .entry))) (closed-line (now (line .entry)))) (now (ns .entry))
+        (now (bs .entry))) s (now (ns .entry)) (now (bs .entry)) ⌝ }
 {
     let mut w = [0u8; 73];
     let n = print_listed(r, k, ns, bs, &mut w);
@@ -151,7 +155,8 @@ fn turn_line(r: Reader, ns: &mut [u32], bs: &mut [u32], line: &[u8]) -> Reader
 // A closed line where a header line is due. The line that completes the header brings the opening about, and so does one that
 // stands in the place of a header line that may be left out.
 fn header_line(r: Reader, due: HeaderLine, ns: &mut [u32], bs: &mut [u32], line: &[u8]) -> Reader
-    ensures { λ s. ⌜ ReadAs (header-line (header-step due (r .header) (closed-line (now (line .entry)))) r (now (ns .entry)) (now (bs .entry)) (closed-line (now (line .entry)))) s (now (ns .exit)) (now (bs .exit)) ⌝ }
+    ensures { λ s. ⌜ ReadAs (header-line (header-step due (r .header) (closed-line (now (line .entry)))) r (now (ns .entry)) (now (bs .entry))
+        (closed-line (now (line .entry)))) s (now (ns .exit)) (now (bs .exit)) ⌝ }
 {
     let n = r.number;
     let header = r.header;

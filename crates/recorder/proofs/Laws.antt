@@ -38,7 +38,9 @@ use Rattle.recorder.specs.declared.Recorder.{Recorder}
 use Rattle.recorder.specs.declared.Recorded.{Recorded}
 use Rattle.recorder_lines.specs.KeptLines.{kept-bytes, kept-after}
 use Rattle.recorder.specs.WritesRecording.{writes-recording}
-use Rattle.recorder.specs.LentRecorder.{after-bytes, recorded-event, first-recorded, recorded-opening, recorded-header, recorded-phase, recorded-line, recorded-end, recorder, new-recorder, recorded, RecordEffect, begin, record-end, record-closed, record-byte, then-byte, record-bytes, input-recorded, end-of, all-written, RecordedAs, EndedAs}
+use Rattle.recorder.specs.LentRecorder.{after-bytes, recorded-event, first-recorded, recorded-opening, recorded-header, recorded-phase, recorded-line}
+use Rattle.recorder.specs.LentRecorder.{recorded-end, recorder, new-recorder, recorded, RecordEffect, begin, record-end, record-closed, record-byte}
+use Rattle.recorder.specs.LentRecorder.{then-byte, record-bytes, input-recorded, end-of, all-written, RecordedAs, EndedAs}
 
 -- ---- lines that are written again
 
@@ -116,7 +118,8 @@ ends-recorder r ns bs long h t n' b' before after g =
 
 -- ---- one byte
 
-recorded-as : (d : RecordEffect) (r r' : Recorded) (ns bs before after : List ℕ) → r ≡ r' → RecordedAs d r' ns bs before after → RecordedAs d r ns bs before after
+recorded-as : (d : RecordEffect) (r r' : Recorded) (ns bs before after : List ℕ) → r ≡ r' → RecordedAs d r' ns bs before after
+    → RecordedAs d r ns bs before after
 recorded-as d r r' ns bs before after e h = subst (λ (x : Recorded). RecordedAs d x ns bs before after) (sym e) h
 
 module _ (r : Recorder) (ns bs : List ℕ) (x : ℕ) where

@@ -28,7 +28,8 @@ use Rattle.session.specs.Transcript.{is-event}
 use Rattle.session_state.specs.declared.Phase.{Phase}
 use Rattle.session_state.specs.declared.Phase.the-variants.{Due, Events, Stopped}
 use Rattle.session_state.specs.declared.Session.{Session}
-use Rattle.session_state.specs.Handling.{session, new-session, LineEffect, pools-kept, stopped, silent, node-part, bucket-part, with-machine, opened-then, open-then, reply-effect, event-effect, listing-effect, phase-effect, line-effect, phase-end, end-effect}
+use Rattle.session_state.specs.Handling.{session, new-session, LineEffect, pools-kept, stopped, silent, node-part, bucket-part, with-machine, opened-then}
+use Rattle.session_state.specs.Handling.{open-then, reply-effect, event-effect, listing-effect, phase-effect, line-effect, phase-end, end-effect}
 use Rattle.session_state.specs.PartialLines.{empty-line, line-bytes, pushed}
 use Rattle.session_stream.specs.Stream as stream
 use Rattle.session_stream.specs.OutputBounds as session-bounds
@@ -39,7 +40,9 @@ use Rattle.recorder_lines.specs.declared.KeptLines.{KeptLines}
 use Rattle.recorder.specs.declared.Recorder.{Recorder}
 use Rattle.recorder_lines.specs.KeptLines.{no-lines, kept-bytes, keep-line, kept-after}
 use Rattle.recorder_lines.specs.KeptBytes.{keep-length}
-use Rattle.recorder.specs.LentRecorder.{after-bytes, recorded-event, first-recorded, recorded-opening, recorded-header, recorded-phase, recorded-line, recorded-end, new-recorder, RecordEffect, begin, record-end, record-closed, record-byte, then-byte, record-bytes, input-recorded, end-of, all-written}
+use Rattle.recorder.specs.LentRecorder.{after-bytes, recorded-event, first-recorded, recorded-opening, recorded-header, recorded-phase, recorded-line}
+use Rattle.recorder.specs.LentRecorder.{recorded-end, new-recorder, RecordEffect, begin, record-end, record-closed, record-byte, then-byte}
+use Rattle.recorder.specs.LentRecorder.{record-bytes, input-recorded, end-of, all-written}
 use Rattle.recorder.specs.WritesRecording.{writes-recording}
 
 -- an event's line, closed, and its output line
@@ -248,7 +251,8 @@ unfolding all-written input-recorded record-end new-recorder new-session no-line
 all-bound input ns bs =
     let p = record-bytes (begin new-recorder ns bs) input in
     let f = bytes-spend (begin new-recorder ns bs) input refl in
-    let g = phase-end-bound (phase-of p) (p .recorder .kept) (p .recorder .session) (p .nodes) (p .buckets) (room-after (begin new-recorder ns bs) input refl) in
+    let g =
+    phase-end-bound (phase-of p) (p .recorder .kept) (p .recorder .session) (p .nodes) (p .buckets) (room-after (begin new-recorder ns bs) input refl) in
     simp length-append (omega (arith, f, g))
 
 pub output-bound : (input : List ℕ) → length (recorder-output input) ≤ longest-pair * length input + longest-last

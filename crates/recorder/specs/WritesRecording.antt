@@ -28,7 +28,9 @@ use Rattle.session.specs.Transcript.{is-event, task-in, pool-words, session-ope
 use Rattle.session_state.specs.declared.Phase.{Phase}
 use Rattle.session_state.specs.declared.Phase.the-variants.{Due, Events, Stopped}
 use Rattle.session_state.specs.declared.Session.{Session}
-use Rattle.session_state.specs.Handling.{session, new-session, LineEffect, pools-kept, stopped, silent, node-extent, bucket-extent, node-part, bucket-part, session-machine, with-machine, opened-then, open-then, reply-effect, event-effect, listing-effect, phase-effect, line-effect, phase-end, end-effect}
+use Rattle.session_state.specs.Handling.{session, new-session, LineEffect, pools-kept, stopped, silent, node-extent, bucket-extent, node-part, bucket-part}
+use Rattle.session_state.specs.Handling.{session-machine, with-machine, opened-then, open-then, reply-effect, event-effect, listing-effect, phase-effect}
+use Rattle.session_state.specs.Handling.{line-effect, phase-end, end-effect}
 use Rattle.session_state.specs.PartialLines.{empty-line, line-bytes, pushed}
 use Rattle.session_lines.specs.PoolLengths.{event-lengths}
 use Rattle.session_lines.specs.Openings.{part-length, part-words, machine-back, Alike, opening-same, opening-lengths}
@@ -37,13 +39,17 @@ use Rattle.recording.specs.Recording.{close}
 use Rattle.recording.specs.Verdict.{printed-for}
 use Rattle.recording.specs.Reader.{keep}
 use Rattle.recording.specs.Recorder as defined
-use Rattle.recording.specs.Recorder.{RecorderEffect, recorder-effect, record-last, write-listing, write-pair, record-event, after-kept, record-opened, record-header-line, record-phase, record-phase-end, ByteRecorder, byte-recorder, new-byte-recorder, line-closed, record-input, recorder-output}
+use Rattle.recording.specs.Recorder.{RecorderEffect, recorder-effect, record-last, write-listing, write-pair, record-event, after-kept, record-opened}
+use Rattle.recording.specs.Recorder.{record-header-line, record-phase, record-phase-end, ByteRecorder, byte-recorder, new-byte-recorder, line-closed}
+use Rattle.recording.specs.Recorder.{record-input, recorder-output}
 use Rattle.recording_laws.specs.ByteRecorder.{bytes-write-recording}
 use Rattle.recorder_lines.specs.declared.KeptLines.{KeptLines}
 use Rattle.recorder.specs.declared.Recorder.{Recorder}
 use Rattle.recorder_lines.specs.KeptLines.{kept-bytes, keep-line, kept-after}
 use Rattle.recorder_lines.specs.KeptBytes.{LineIs, line-none, line-more, KeptIs, kept-none, kept-more}
-use Rattle.recorder.specs.LentRecorder.{after-bytes, recorded-event, first-recorded, recorded-opening, recorded-header, recorded-phase, recorded-line, recorded-end, new-recorder, RecordEffect, begin, record-end, record-closed, record-byte, then-byte, record-bytes, input-recorded, end-of, all-written}
+use Rattle.recorder.specs.LentRecorder.{after-bytes, recorded-event, first-recorded, recorded-opening, recorded-header, recorded-phase, recorded-line}
+use Rattle.recorder.specs.LentRecorder.{recorded-end, new-recorder, RecordEffect, begin, record-end, record-closed, record-byte, then-byte}
+use Rattle.recorder.specs.LentRecorder.{record-bytes, input-recorded, end-of, all-written}
 
 -- ---- where the recorder over lent pools stands, and where that of the definition does
 

@@ -11,7 +11,8 @@ ghost use Rattle.session.specs.Grammar.{closed-line};
 ghost use Rattle.session_state.specs.Handling.{LineHandled};
 ghost use Rattle.session_stream.specs.Stream.{EndedBy};
 ghost use Rattle.recording.specs.Recorder.{recorder-output};
-ghost use Rattle.recorder.specs.LentRecorder.{recorded-line, recorder, new-recorder, recorded, record-end, record-byte, begin, record-bytes, RecordedAs, EndedAs};
+ghost use Rattle.recorder.specs.LentRecorder.{recorded-line, recorder, new-recorder, recorded, record-end, record-byte, begin, record-bytes};
+ghost use Rattle.recorder.specs.LentRecorder.{RecordedAs, EndedAs};
 use recorder_lines::KeptLines;
 use session_state::Handled;
 use session_state::Phase;
@@ -67,7 +68,8 @@ pub fn record_line(
     line: &[u8],
     out: &mut [u8],
 ) -> Handled
-    ensures { λ r. ⌜ LineHandled (recorded-line (closed-line (now (line .entry))) k s (now (ns .entry)) (now (bs .entry))) r (now (ns .exit)) (now (bs .exit)) (now (out .entry)) (now (out .exit)) ⌝ }
+    ensures { λ r. ⌜ LineHandled (recorded-line (closed-line (now (line .entry))) k s (now (ns .entry)) (now (bs .entry))) r (now (ns .exit))
+        (now (bs .exit)) (now (out .entry)) (now (out .exit)) ⌝ }
 {
     let phase = s.phase;
     match phase {
@@ -94,7 +96,8 @@ pub fn record_end(r: Recorder, ns: &mut [u32], bs: &mut [u32], out: &mut [u8]) -
 
 // One byte of the input. What is written for it stands from the buffer's first byte on.
 pub fn record_byte(r: Recorder, x: u8, ns: &mut [u32], bs: &mut [u32], out: &mut [u8]) -> Recorded
-    ensures { λ d. ⌜ RecordedAs (record-byte r (now (ns .entry)) (now (bs .entry)) x) d (now (ns .exit)) (now (bs .exit)) (now (out .entry)) (now (out .exit)) ⌝ }
+    ensures { λ d. ⌜ RecordedAs (record-byte r (now (ns .entry)) (now (bs .entry)) x) d (now (ns .exit)) (now (bs .exit)) (now (out .entry))
+        (now (out .exit)) ⌝ }
 {
     let s = r.session;
     let k = r.kept;
@@ -121,7 +124,8 @@ pub fn record_bytes(
     bs: &mut [u32],
     out: &mut [u8],
 ) -> Recorded
-    ensures { λ d. ⌜ RecordedAs (record-bytes (begin r (now (ns .entry)) (now (bs .entry))) (now (input .entry))) d (now (ns .exit)) (now (bs .exit)) (now (out .entry)) (now (out .exit)) ⌝ }
+    ensures { λ d. ⌜ RecordedAs (record-bytes (begin r (now (ns .entry)) (now (bs .entry))) (now (input .entry))) d (now (ns .exit)) (now (bs .exit))
+        (now (out .entry)) (now (out .exit)) ⌝ }
 {
     let mut recorder = r;
     let mut at = 0;
@@ -141,8 +145,10 @@ pub fn record_bytes(
 // A whole input, as a slice, over lent pools. What is written for it stands from the buffer's first byte on, as far as there is room, and
 // its length is given. With 2,176 node words and 13,200 bucket words or more it is the input's recording, or the session's refusal.
 pub fn record(input: &[u8], ns: &mut [u32], bs: &mut [u32], out: &mut [u8]) -> usize
-    ensures all { λ n. ⌜ EndedAs (now (input .entry)) (now (ns .entry)) (now (bs .entry)) (now (out .entry)) n (now (ns .exit)) (now (bs .exit)) (now (out .exit)) ⌝ }
-    ensures whole { λ n. ⌜ (2176 ≤ length (now (ns .entry)) → 13200 ≤ length (now (bs .entry)) → Written (recorder-output (now (input .entry))) (now (out .entry)) (now (out .exit)) n) ⌝ }
+    ensures all { λ n. ⌜ EndedAs (now (input .entry)) (now (ns .entry)) (now (bs .entry)) (now (out .entry)) n (now (ns .exit)) (now (bs .exit))
+        (now (out .exit)) ⌝ }
+    ensures whole { λ n. ⌜ (2176 ≤ length (now (ns .entry)) → 13200 ≤ length (now (bs .entry))
+        → Written (recorder-output (now (input .entry))) (now (out .entry)) (now (out .exit)) n) ⌝ }
 {
     let r = new_recorder();
     let f = record_bytes(r, input, ns, bs, out);

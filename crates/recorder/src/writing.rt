@@ -21,7 +21,8 @@ pub fn event_line(
     line: &[u8],
     out: &mut [u8],
 ) -> Handled
-    ensures { λ r. ⌜ LineHandled (recorded-event (closed-line (now (line .entry))) s (now (ns .entry)) (now (bs .entry))) r (now (ns .exit)) (now (bs .exit)) (now (out .entry)) (now (out .exit)) ⌝ }
+    ensures { λ r. ⌜ LineHandled (recorded-event (closed-line (now (line .entry))) s (now (ns .entry)) (now (bs .entry))) r (now (ns .exit))
+        (now (bs .exit)) (now (out .entry)) (now (out .exit)) ⌝ }
 {
     if recorder_lines::is_event(line) {
         let n = recorder_lines::closed(out, 0, line);
@@ -46,7 +47,8 @@ fn after_opening(
     line: &[u8],
     out: &mut [u8],
 ) -> Handled
-    ensures { λ r. ⌜ LineHandled (after-bytes (kept-bytes k) (first-recorded own (closed-line (now (line .entry))) s (now (ns .entry)) (now (bs .entry)))) r (now (ns .exit)) (now (bs .exit)) (now (out .entry)) (now (out .exit)) ⌝ }
+    ensures { λ r. ⌜ LineHandled (after-bytes (kept-bytes k) (first-recorded own (closed-line (now (line .entry))) s (now (ns .entry)) (now (bs .entry)))) r
+        (now (ns .exit)) (now (bs .exit)) (now (out .entry)) (now (out .exit)) ⌝ }
 {
     let m = recorder_lines::kept_length(k);
     let b = k.bytes;
@@ -76,7 +78,8 @@ fn open_recorded(
     line: &[u8],
     out: &mut [u8],
 ) -> Handled
-    ensures { λ r. ⌜ LineHandled (recorded-opening h k own (closed-line (now (line .entry))) (now (ns .entry)) (now (bs .entry))) r (now (ns .exit)) (now (bs .exit)) (now (out .entry)) (now (out .exit)) ⌝ }
+    ensures { λ r. ⌜ LineHandled (recorded-opening h k own (closed-line (now (line .entry))) (now (ns .entry)) (now (bs .entry))) r (now (ns .exit))
+        (now (bs .exit)) (now (out .entry)) (now (out .exit)) ⌝ }
 {
     let t = session_header::open_machine(h, ns, bs, out);
     let s = t.session;
@@ -97,7 +100,8 @@ pub fn header_line(
     line: &[u8],
     out: &mut [u8],
 ) -> Handled
-    ensures { λ r. ⌜ LineHandled (recorded-header (header-step due (s .header) (closed-line (now (line .entry)))) k (closed-line (now (line .entry))) s (now (ns .entry)) (now (bs .entry))) r (now (ns .exit)) (now (bs .exit)) (now (out .entry)) (now (out .exit)) ⌝ }
+    ensures { λ r. ⌜ LineHandled (recorded-header (header-step due (s .header) (closed-line (now (line .entry)))) k (closed-line (now (line .entry))) s
+        (now (ns .entry)) (now (bs .entry))) r (now (ns .exit)) (now (bs .exit)) (now (out .entry)) (now (out .exit)) ⌝ }
 {
     let header = s.header;
     match session_parse::header_line(due, header, line) {

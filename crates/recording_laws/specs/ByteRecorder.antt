@@ -66,7 +66,9 @@ ended-silent (HeaderDue due) r e = go (optional due)
     silent true = refl
     silent false = refl
 
-    go : (b : Bool) → record-end ((if b then record-opened (session-opening (r .header)) (r .header) (r .kept) write-listing else record-last r (refusal-line 10)) .next) .writes ≡ []
+    go : (b : Bool)
+        → record-end ((if b then record-opened (session-opening (r .header)) (r .header) (r .kept) write-listing
+        else record-last r (refusal-line 10)) .next) .writes ≡ []
     go true = silent (eqb (session-opening (r .header) .refusal) 0)
     go false = refl
 ended-silent Events r e = refl
@@ -108,7 +110,8 @@ bytes-recorded [] line r w = go (eqb (length line) 0)
 bytes-recorded (x ∷ xs) line r w = go (eqb x newline) refl (λ l s v. bytes-recorded xs l s v)
   where
     go : (b : Bool) → eqb x newline ≡ b
-        → ((l : List ℕ) (s : Recorder) (v : List ℕ) → all-written (record-bytes (byte-recorder s (take longest-read l) v) xs) ≡ v ++ record-lines s (split-lines l xs))
+        → ((l : List ℕ) (s : Recorder) (v : List ℕ) → all-written (record-bytes (byte-recorder s (take longest-read l) v) xs)
+        ≡ v ++ record-lines s (split-lines l xs))
         → all-written (record-bytes (byte-recorder r (take longest-read line) w) (x ∷ xs))
         ≡ w ++ record-lines r (if b then (closed-line line ∷ split-lines [] xs) else split-lines (line ++ (x ∷ [])) xs)
     go true e ih =

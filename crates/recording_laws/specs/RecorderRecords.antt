@@ -177,7 +177,8 @@ header-written (l ∷ ls) due h y kept few =
         ≡ with-kept kept' (header-recording (take-from ls due' h')) (header-lines (read-from ls due' h')))
         → (d : HeaderStep) → HeaderKnown due h l d
         → with-rest (record-header-line d r l) ls
-        ≡ with-kept kept (header-recording (after-step d (λ due' h'. take-from ls due' h') l ls)) (header-lines (session-step d (λ due' h'. read-from ls due' h') l ls))
+        ≡ with-kept kept (header-recording (after-step d (λ due' h'. take-from ls due' h') l ls))
+        (header-lines (session-step d (λ due' h'. read-from ls due' h') l ls))
     go ih d (goes-on {due' = due'} {h' = h'} t e) =
         let k = kept-whole kept l due due' few t e in
         ap (λ (b : List ℕ). record-lines (recorder (HeaderDue due') h' y b) ls) (k .0)

@@ -30,7 +30,8 @@ pub struct Outcome {
 
 // Runs one event, given by its words; gives what it changes of the state.
 fn run_event(s: State, kind: u32, task: u32, tag: u32, ns: &mut [u32], bs: &mut [u32]) -> Moved
-    ensures { λ r. ⌜ moved-reply s task r (now (ns .exit)) (now (bs .exit)) ≡ event (machine-of s (now (ns .entry)) (now (bs .entry))) (event-of kind task tag) ⌝ }
+    ensures { λ r. ⌜ moved-reply s task r (now (ns .exit)) (now (bs .exit)) ≡ event (machine-of s (now (ns .entry)) (now (bs .entry)))
+        (event-of kind task tag) ⌝ }
 {
     match schedule_words::asked_by(kind) {
         Asked::Start(call) => hashset::moved_by_start(s, task, call, tag, ns, bs),
@@ -48,8 +49,10 @@ fn run_events(
     outs: &mut [u32],
 ) -> State
     requires { ⌜ (4 * n ≤ length (now events)) × (4 * n ≤ length (now outs)) ⌝ }
-    ensures { λ r. ⌜ (machine-of r (now (ns .exit)) (now (bs .exit)) ≡ run (machine-of s (now (ns .entry)) (now (bs .entry))) (events-of n (now (events .entry))) .machine)
-        × (now (outs .exit) ≡ overwrite (now (outs .entry)) 0 (concat-map output-words (run (machine-of s (now (ns .entry)) (now (bs .entry))) (events-of n (now (events .entry))) .outs))) ⌝ }
+    ensures { λ r. ⌜ (machine-of r (now (ns .exit)) (now (bs .exit)) ≡ run (machine-of s (now (ns .entry)) (now (bs .entry)))
+        (events-of n (now (events .entry))) .machine)
+        × (now (outs .exit) ≡ overwrite (now (outs .entry)) 0 (concat-map output-words
+        (run (machine-of s (now (ns .entry)) (now (bs .entry))) (events-of n (now (events .entry))) .outs))) ⌝ }
 {
     let mut t = s;
     let mut i = 0;

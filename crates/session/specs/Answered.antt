@@ -16,7 +16,8 @@ use Rattle.session.specs.Grammar.{InputLine, input-lines}
 use Rattle.session.specs.Header.{HeaderRead, complete, incomplete, read-header}
 use Rattle.session.specs.Keys.{size-key}
 use Rattle.session.specs.Print.{key-line, refusal-line, listing-lines}
-use Rattle.session.specs.Transcript.{events, all-events, final-listing, end-lines, ran-lines, event-lines, session-opening, opened-lines, header-lines, lines-transcript, transcript}
+use Rattle.session.specs.Transcript.{events, all-events, final-listing, end-lines, ran-lines, event-lines, session-opening, opened-lines}
+use Rattle.session.specs.Transcript.{header-lines, lines-transcript, transcript}
 
 key-some : (key : List ℕ) (n : ℕ) → 1 ≤ length (key-line key n)
 unfolding key-line

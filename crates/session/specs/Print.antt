@@ -12,7 +12,8 @@ use Rattle.spec.specs.declared.Occupancy.the-variants.{NotGiven, Tags}
 use Rattle.spec.specs.declared.Output.{Output}
 use Rattle.spec.specs.declared.Output.the-variants.{At, End, Refuse}
 use Rattle.spec.specs.Lists.{if_then_else_}
-use Rattle.session.specs.Keys.{newline, comma, at-key, end-key, refuse-key, size-key, tags-key, tag-key, yes-word, no-word, full-word, done-word, lost-word, limit-word}
+use Rattle.session.specs.Keys.{newline, comma, at-key, end-key, refuse-key, size-key, tags-key, tag-key, yes-word, no-word, full-word, done-word}
+use Rattle.session.specs.Keys.{lost-word, limit-word}
 
 -- n in decimal, where it has at most so many digits
 unfoldable pub decimal-digits : ℕ → ℕ → List ℕ

@@ -6,7 +6,8 @@ use session_state::Phase;
 
 // Opens the machine with the header's numbers. A refusal is printed, and nothing after it.
 pub fn open_machine(h: Header, ns: &mut [u32], bs: &mut [u32], out: &mut [u8]) -> Handled
-    ensures { λ r. ⌜ LineHandled (open-then h (now (ns .entry)) (now (bs .entry)) silent) r (now (ns .exit)) (now (bs .exit)) (now (out .entry)) (now (out .exit)) ⌝ }
+    ensures { λ r. ⌜ LineHandled (open-then h (now (ns .entry)) (now (bs .entry)) silent) r (now (ns .exit)) (now (bs .exit)) (now (out .entry))
+        (now (out .exit)) ⌝ }
 {
     let a = session_state::pools::node_extent(h.nodes, ns.len());
     let b = session_state::pools::bucket_extent(h.buckets, bs.len());

@@ -19,7 +19,8 @@ use Rattle.laws.specs.AfterWrites.{after-task}
 use Rattle.laws.specs.StepRefusals.{step-sound-facts}
 use Rattle.laws.specs.WritesKeep.{write-keeps}
 use Rattle.laws.specs.LinesKeep.{effect-sound}
-use Rattle.laws.specs.EntriesKeep.{StepOutcome, step-no-task, step-idle, step-unsound, step-all-held, step-accepted, step-outcome, StartOutcome, start-no-task, start-running, start-withdrawn, start-accepted, start-outcome}
+use Rattle.laws.specs.EntriesKeep.{StepOutcome, step-no-task, step-idle, step-unsound, step-all-held, step-accepted, step-outcome, StartOutcome}
+use Rattle.laws.specs.EntriesKeep.{start-no-task, start-running, start-withdrawn, start-accepted, start-outcome}
 
 -- what is left is as long as what there was
 pub record SameLengths (y : Machine) (r : Reply) : Type 0 where

@@ -23,10 +23,13 @@ use Rattle.session.specs.declared.HeaderStep.the-variants.{Next, Complete, Abse
 use Rattle.session.specs.Grammar.{InputLine, parse-event-line}
 use Rattle.session.specs.Header.{empty-header, optional, header-step, complete, incomplete, after-step, read-from, read-header}
 use Rattle.session.specs.Print.{refusal-line, output-line}
-use Rattle.session.specs.Transcript.{add-event, events, is-event, all-events, task-in, output-lines, end-lines, ran-lines, event-lines, pool-words, session-opening, opened-lines, header-lines, lines-transcript}
+use Rattle.session.specs.Transcript.{add-event, events, is-event, all-events, task-in, output-lines, end-lines, ran-lines, event-lines, pool-words}
+use Rattle.session.specs.Transcript.{session-opening, opened-lines, header-lines, lines-transcript}
 use Rattle.session_state.specs.declared.Phase.the-variants.{Due, Events, Stopped}
 use Rattle.session_state.specs.declared.Session.{Session}
-use Rattle.session_state.specs.Handling.{session, new-session, LineEffect, pools-kept, stopped, silent, node-extent, bucket-extent, node-part, bucket-part, session-machine, with-machine, opened-then, open-then, reply-effect, event-effect, listing-effect, header-effect, phase-effect, line-effect, phase-end, end-effect, lines-output}
+use Rattle.session_state.specs.Handling.{session, new-session, LineEffect, pools-kept, stopped, silent, node-extent, bucket-extent, node-part, bucket-part}
+use Rattle.session_state.specs.Handling.{session-machine, with-machine, opened-then, open-then, reply-effect, event-effect, listing-effect, header-effect}
+use Rattle.session_state.specs.Handling.{phase-effect, line-effect, phase-end, end-effect, lines-output}
 use Rattle.session_lines.specs.PoolLengths.{event-lengths}
 use Rattle.session_lines.specs.Openings.{part-length, part-words, machine-back, Alike, opening-same, opening-lengths}
 
@@ -82,7 +85,8 @@ module _ (h : Header) where
       ap (λ (l : List ℕ). output-line k (r .out) ++ l) (ih (r .machine .state) _ _ ∙ ap (λ (z : Machine). event-lines z ls) back)
 
   events-print : (ls : List InputLine) → EventsPrint ls h
-  unfolding lines-output line-effect phase-effect end-effect phase-end event-effect listing-effect pools-kept stopped event event-lines ran-lines events all-events add-event is-event task-in run output-lines end-lines
+  unfolding lines-output line-effect phase-effect end-effect phase-end event-effect listing-effect pools-kept stopped event event-lines ran-lines events
+      all-events add-event is-event task-in run output-lines end-lines
   events-print [] m ns bs = refl
   events-print (l ∷ ls) m ns bs = go (λ m' ns' bs'. events-print ls m' ns' bs') (parse-event-line l) refl
     where

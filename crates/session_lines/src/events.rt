@@ -21,7 +21,8 @@ fn start_task(
     bs: &[u32],
     out: &mut [u8],
 ) -> Handled
-    ensures { λ r. ⌜ LineHandled (reply-effect k (start-of (session-machine s (now (ns .entry)) (now (bs .entry))) k call tag) s (now (ns .entry)) (now (bs .entry))) r (now (ns .entry)) (now (bs .entry)) (now (out .entry)) (now (out .exit)) ⌝ }
+    ensures { λ r. ⌜ LineHandled (reply-effect k (start-of (session-machine s (now (ns .entry)) (now (bs .entry))) k call tag) s (now (ns .entry))
+        (now (bs .entry))) r (now (ns .entry)) (now (bs .entry)) (now (out .entry)) (now (out .exit)) ⌝ }
 {
     let header = s.header;
     let a = session_state::pools::node_extent(header.nodes, ns.len());
@@ -36,7 +37,8 @@ fn start_task(
 
 // Steps a task by one line of Figure 2, and prints the answer.
 fn step_task(s: Session, k: u32, ns: &mut [u32], bs: &mut [u32], out: &mut [u8]) -> Handled
-    ensures { λ r. ⌜ LineHandled (reply-effect k (step-of (session-machine s (now (ns .entry)) (now (bs .entry))) k) s (now (ns .entry)) (now (bs .entry))) r (now (ns .exit)) (now (bs .exit)) (now (out .entry)) (now (out .exit)) ⌝ }
+    ensures { λ r. ⌜ LineHandled (reply-effect k (step-of (session-machine s (now (ns .entry)) (now (bs .entry))) k) s (now (ns .entry)) (now (bs .entry)))
+        r (now (ns .exit)) (now (bs .exit)) (now (out .entry)) (now (out .exit)) ⌝ }
 {
     let header = s.header;
     let a = session_state::pools::node_extent(header.nodes, ns.len());
@@ -56,7 +58,8 @@ pub fn event_line(
     line: &[u8],
     out: &mut [u8],
 ) -> Handled
-    ensures { λ r. ⌜ LineHandled (event-effect (parse-event-line (closed-line (now (line .entry)))) s (now (ns .entry)) (now (bs .entry))) r (now (ns .exit)) (now (bs .exit)) (now (out .entry)) (now (out .exit)) ⌝ }
+    ensures { λ r. ⌜ LineHandled (event-effect (parse-event-line (closed-line (now (line .entry)))) s (now (ns .entry)) (now (bs .entry))) r
+        (now (ns .exit)) (now (bs .exit)) (now (out .entry)) (now (out .exit)) ⌝ }
 {
     match session_parse::event_line(line) {
         EventLine::Start(k, call, tag) => start_task(s, k, call, tag, ns, bs, out),

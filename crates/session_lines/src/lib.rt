@@ -21,7 +21,9 @@ fn header_line(
     line: &[u8],
     out: &mut [u8],
 ) -> Handled
-    ensures { λ r. ⌜ LineHandled (header-effect (header-step due (s .header) (closed-line (now (line .entry)))) (parse-event-line (closed-line (now (line .entry)))) s (now (ns .entry)) (now (bs .entry))) r (now (ns .exit)) (now (bs .exit)) (now (out .entry)) (now (out .exit)) ⌝ }
+    ensures { λ r. ⌜ LineHandled (header-effect (header-step due (s .header) (closed-line (now (line .entry))))
+        (parse-event-line (closed-line (now (line .entry)))) s (now (ns .entry)) (now (bs .entry))) r (now (ns .exit)) (now (bs .exit)) (now (out .entry))
+        (now (out .exit)) ⌝ }
 {
     let header = s.header;
     match session_parse::header_line(due, header, line) {
@@ -51,7 +53,8 @@ pub fn handle_line(
     line: &[u8],
     out: &mut [u8],
 ) -> Handled
-    ensures { λ r. ⌜ LineHandled (line-effect s (now (ns .entry)) (now (bs .entry)) (closed-line (now (line .entry)))) r (now (ns .exit)) (now (bs .exit)) (now (out .entry)) (now (out .exit)) ⌝ }
+    ensures { λ r. ⌜ LineHandled (line-effect s (now (ns .entry)) (now (bs .entry)) (closed-line (now (line .entry)))) r (now (ns .exit)) (now (bs .exit))
+        (now (out .entry)) (now (out .exit)) ⌝ }
 {
     let phase = s.phase;
     match phase {

@@ -18,7 +18,8 @@ use Rattle.session_state.specs.declared.Session.{Session}
 use Rattle.session_state.specs.declared.Handled.{Handled}
 use Rattle.session_state.specs.declared.partial_line.PartialLine.{PartialLine}
 use Rattle.session_state.specs.PartialLines.{partial, pushed}
-use Rattle.session_state.specs.Handling.{session, handled, SessionEffect, SessionHandled, LineEffect, LineHandled, pools-kept, extent, node-extent, bucket-extent, session-machine, with-machine}
+use Rattle.session_state.specs.Handling.{session, handled, SessionEffect, SessionHandled, LineEffect, LineHandled, pools-kept, extent, node-extent}
+use Rattle.session_state.specs.Handling.{bucket-extent, session-machine, with-machine}
 
 -- ---- the extent of a part
 

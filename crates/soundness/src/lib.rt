@@ -104,7 +104,8 @@ fn links_ok(c: Task, ns: &[u32], h: u32) -> bool
 }
 
 fn running_ok(c: Task, k: u32, t: u32, ns: &[u32], h: u32, b: u32) -> bool
-    ensures { λ r. ⌜ ((y : Machine) → y .nodes ≡ now (ns .entry) → y .state .config .tasks ≡ t → y .state .nodes ≡ h → y .state .buckets ≡ b → r ≡ sound-running y k c) ⌝ }
+    ensures { λ r. ⌜ ((y : Machine) → y .nodes ≡ now (ns .entry) → y .state .config .tasks ≡ t → y .state .nodes ≡ h → y .state .buckets ≡ b
+        → r ≡ sound-running y k c) ⌝ }
 {
     if t <= k {
         return false;
@@ -126,7 +127,8 @@ fn running_ok(c: Task, k: u32, t: u32, ns: &[u32], h: u32, b: u32) -> bool
 }
 
 fn task_ok(c: Task, k: u32, t: u32, ns: &[u32], h: u32, b: u32) -> bool
-    ensures { λ r. ⌜ ((y : Machine) → y .nodes ≡ now (ns .entry) → y .state .config .tasks ≡ t → y .state .nodes ≡ h → y .state .buckets ≡ b → r ≡ sound-task y k c) ⌝ }
+    ensures { λ r. ⌜ ((y : Machine) → y .nodes ≡ now (ns .entry) → y .state .config .tasks ≡ t → y .state .nodes ≡ h → y .state .buckets ≡ b
+        → r ≡ sound-task y k c) ⌝ }
 {
     let running = c.running;
     if running {

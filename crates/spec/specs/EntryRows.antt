@@ -12,7 +12,8 @@ use Rattle.spec.specs.declared.Task.{Task}
 use Rattle.spec.specs.Machine.{Machine, machine-of, config-of, zero-config, idle}
 use Rattle.spec.specs.Entries.{Opened, opening, Reply, start, step, show}
 use Rattle.spec.specs.Everything.{everything}
-use Rattle.spec.specs.WholeRows.{call_tag_line_i_own_t_s_b_m_n_new-node_new-bucket_, config_H_B_head_last-node_last-bucket_tasks_, node, bucket, yard, whole-rows}
+use Rattle.spec.specs.WholeRows.{call_tag_line_i_own_t_s_b_m_n_new-node_new-bucket_, config_H_B_head_last-node_last-bucket_tasks_, node, bucket, yard}
+use Rattle.spec.specs.WholeRows.{whole-rows}
 
 -- ---- openings, over pools of sevens
 

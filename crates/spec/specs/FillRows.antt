@@ -4,7 +4,8 @@ use mathlib.Core.Path.{_≡_, refl}
 use mathlib.Core.List.{List, [], _∷_, map}
 use Rattle.spec.specs.Everything.{everything}
 use Rattle.spec.specs.WholeRows.{call_tag_line_i_own_t_s_b_m_n_new-node_new-bucket_, node, bucket, yard, Row, told, stepped, goes, keeps}
-use Rattle.spec.specs.LineRows.{other, node-0, node-1, node-2, bucket-0, bucket-1, bucket-2, bucket-3, old-nodes, with-these-nodes, with-these-buckets, grown, one-yard}
+use Rattle.spec.specs.LineRows.{other, node-0, node-1, node-2, bucket-0, bucket-1, bucket-2, bucket-3, old-nodes, with-these-nodes}
+use Rattle.spec.specs.LineRows.{with-these-buckets, grown, one-yard}
 
 -- ---- what to copy: lines 39 to 47
 

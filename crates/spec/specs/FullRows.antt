@@ -12,7 +12,8 @@ use Rattle.spec.specs.Machine.{Machine, idle}
 use Rattle.spec.specs.Entries.{Written, list}
 use Rattle.spec.specs.Everything.{everything}
 use Rattle.spec.specs.Rows.{counted}
-use Rattle.spec.specs.WholeRows.{call_tag_line_i_own_t_s_b_m_n_new-node_new-bucket_, node, bucket, yard, Row, told, stepped, goes, keeps, ends, ends-writing, refused, whole-rows}
+use Rattle.spec.specs.WholeRows.{call_tag_line_i_own_t_s_b_m_n_new-node_new-bucket_, node, bucket, yard, Row, told, stepped, goes, keeps, ends}
+use Rattle.spec.specs.WholeRows.{ends-writing, refused, whole-rows}
 
 -- every second number from k on, so many
 unfoldable pub by-two : ℕ → ℕ → List ℕ

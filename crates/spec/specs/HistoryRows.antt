@@ -35,7 +35,8 @@ plain-rows = refl
 
 unfoldable pub outs-of : ℕ → List Output
 outs-of k =
-    schedule (config-of k) (replicate 34 7) (replicate 66 7) (starts 0 Insert 5 ∷ steps 0 ∷ starts 0 Insert 5 ∷ steps 1 ∷ steps 0 ∷ steps 0 ∷ steps 0 ∷ []) .outs
+    schedule (config-of k) (replicate 34 7) (replicate 66 7)
+    (starts 0 Insert 5 ∷ steps 0 ∷ starts 0 Insert 5 ∷ steps 1 ∷ steps 0 ∷ steps 0 ∷ steps 0 ∷ []) .outs
 
 pub schedule-rows : map outs-of (1 ∷ 0 ∷ 9 ∷ []) ≡ (At 32 ∷ At 33 ∷ Refuse 5 ∷ Refuse 4 ∷ At 36 ∷ counted Yes 3 1 ∷ Refuse 6 ∷ []) ∷ [] ∷ [] ∷ []
 unfolding everything outs-of

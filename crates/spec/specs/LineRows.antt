@@ -8,7 +8,8 @@ use Rattle.spec.specs.declared.Task.{Task}
 use Rattle.spec.specs.Machine.{Machine}
 use Rattle.spec.specs.Everything.{everything}
 use Rattle.spec.specs.Rows.{ended, counted}
-use Rattle.spec.specs.WholeRows.{call_tag_line_i_own_t_s_b_m_n_new-node_new-bucket_, node, bucket, yard, Row, told, stepped, goes, keeps, ends, ends-writing, whole-rows}
+use Rattle.spec.specs.WholeRows.{call_tag_line_i_own_t_s_b_m_n_new-node_new-bucket_, node, bucket, yard, Row, told, stepped, goes, keeps, ends}
+use Rattle.spec.specs.WholeRows.{ends-writing, whole-rows}
 
 -- ---- one yard for most rows: node 1 is head with place 0 empty, node 0 its predecessor, node 2 and bucket 3 hold old words
 

@@ -13,7 +13,8 @@ use Rattle.spec.specs.declared.Listing.the-variants.{Count, Refused}
 use Rattle.spec.specs.Machine.{config-of}
 use Rattle.spec.specs.Entries.{opening, list}
 use Rattle.spec.specs.Everything.{everything}
-use Rattle.spec.specs.Rows.{Case, expected, observed, stepping, calling, times, in-three, gaining, ended, counted, filling, first-grow, grow-to-24, grow-filling}
+use Rattle.spec.specs.Rows.{Case, expected, observed, stepping, calling, times, in-three, gaining, ended, counted, filling, first-grow, grow-to-24}
+use Rattle.spec.specs.Rows.{grow-filling}
 
 -- ---- openings: T, the pools' words, and the refusal (the bounds of the bucket pool, 67,584 words and more, are in `cases`)
 
@@ -124,7 +125,8 @@ ours =
       config = config-of 2;
       nodes = 3;
       buckets = 4;
-      events = calling 0 Grow 0 7 ++ calling 0 Shrink 0 17 ++ calling 1 Insert 2 2 ++ stepping 0 1 ++ calling 0 Insert 4 7 ++ stepping 1 1 ++ stepping 0 5 ++ stepping 1 3;
+      events = calling 0 Grow 0 7 ++ calling 0 Shrink 0 17 ++ calling 1 Insert 2 2 ++ stepping 0 1 ++ calling 0 Insert 4 7 ++ stepping 1 1 ++ stepping 0 5
+          ++ stepping 1 3;
       outs =
           first-grow ++ grow-to-24 1 ++ At 27 ∷ At 28
           ∷ At 32 ∷ At 33 ∷ At 36
@@ -226,5 +228,6 @@ ours =
     ∷ []
 
 pub ours-hold : map observed ours ≡ map expected ours
-unfolding everything expected observed stepping calling times in-three gaining filling first-grow grow-to-24 grow-filling insert-to-49 insert-filling grow-to-28 ours
+unfolding everything expected observed stepping calling times in-three gaining filling first-grow grow-to-24 grow-filling insert-to-49 insert-filling
+    grow-to-28 ours
 ours-hold = refl

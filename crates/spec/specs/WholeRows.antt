@@ -23,13 +23,36 @@ call_tag_line_i_own_t_s_b_m_n_new-node_new-bucket_ f k l j o t' s' b' m' n' h' d
 -- the same record, but not running
 abbrev pub stopped : Task → Task
 stopped c =
-    record { running = false; call = c .call; tag = c .tag; line = c .line; i = c .i; own = c .own; t = c .t; s = c .s; b = c .b; m = c .m; n = c .n; «new_node» = c .«new_node»; «new_bucket» = c .«new_bucket» }
+    record {
+      running = false;
+      call = c .call;
+      tag = c .tag;
+      line = c .line;
+      i = c .i;
+      own = c .own;
+      t = c .t;
+      s = c .s;
+      b = c .b;
+      m = c .m;
+      n = c .n;
+      «new_node» = c .«new_node»;
+      «new_bucket» = c .«new_bucket»;
+    }
 
 -- the tasks given, then idle ones; the last one chosen is T − 1, as an opening sets it, where a row does not say otherwise
 infix 90 config_H_B_head_last-node_last-bucket_tasks_
 abbrev pub config_H_B_head_last-node_last-bucket_tasks_ : Config → ℕ → ℕ → ℕ → ℕ → ℕ → List Task → State
 config_H_B_head_last-node_last-bucket_tasks_ g h d k ln lb cs =
-    record { config = g; nodes = h; buckets = d; head = k; «last_node» = ln; «last_bucket» = lb; chosen = g .tasks - 1; task = cs ++ replicate (8 - length cs) idle }
+    record {
+      config = g;
+      nodes = h;
+      buckets = d;
+      head = k;
+      «last_node» = ln;
+      «last_bucket» = lb;
+      chosen = g .tasks - 1;
+      task = cs ++ replicate (8 - length cs) idle;
+    }
 
 -- a size, a predecessor's number plus 1, and the first places; the others are empty
 abbrev pub node : ℕ → ℕ → List ℕ → List ℕ

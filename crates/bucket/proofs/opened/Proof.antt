@@ -36,7 +36,9 @@ returns : tie.Need-returns
 returns c =
     let a = c .before .before .before .before .args in
     let ws = a .b .words in
-    fresh-words 1 ws (c .copied .result) (len (c .before .before .before .before)) (c .copied .ensures ∙ ap (λ (n : ℕ). paste (set (set (replicate 66 0) 0 1) 1 n) 2 (drop 2 ws) n) (c .before .before .before .count .ensures .0)) ∙ words-bucket 1 (tags-in ws)
+    fresh-words 1 ws (c .copied .result) (len (c .before .before .before .before))
+    (c .copied .ensures ∙ ap (λ (n : ℕ). paste (set (set (replicate 66 0) 0 1) 1 n) 2 (drop 2 ws) n) (c .before .before .before .count .ensures .0))
+    ∙ words-bucket 1 (tags-in ws)
 
 pub opened-spec : {M : Type 1} → statement M
 opened-spec =

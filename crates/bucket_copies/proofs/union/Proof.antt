@@ -18,7 +18,8 @@ use Rattle.bucket_copies.proofs.union.Tie as tie
 
 abbrev Inv-loop : tie.InvT-loop
 Inv-loop b w out₀ i₀ out i =
-    (i ≤ length (tags-in w)) × (i ≤ 64) × (length (tail-union i (tags-in w) (tags-in (b .words))) ≤ 64) × (out .words ≡ bucket-of 1 (tail-union i (tags-in w) (tags-in (b .words))))
+    (i ≤ length (tags-in w)) × (i ≤ 64) × (length (tail-union i (tags-in w) (tags-in (b .words))) ≤ 64)
+    × (out .words ≡ bucket-of 1 (tail-union i (tags-in w) (tags-in (b .words))))
 
 abbrev μ-loop : tie.MeasureT-loop
 μ-loop b w out₀ i₀ out i = i
@@ -26,7 +27,8 @@ abbrev μ-loop : tie.MeasureT-loop
 len : (c : tie.Start Inv-loop μ-loop) → length (c .args .b .words) ≡ 66
 len c = search needs
 
-next : (ws ys : List ℕ) (i : ℕ) → 0 < i → i ≤ length (tags-in ws) → tail-union (i - 1) (tags-in ws) ys ≡ add-tag (getD ws (1 + i) 0) (tail-union i (tags-in ws) ys)
+next : (ws ys : List ℕ) (i : ℕ) → 0 < i → i ≤ length (tags-in ws) → tail-union (i - 1) (tags-in ws) ys
+    ≡ add-tag (getD ws (1 + i) 0) (tail-union i (tags-in ws) ys)
 next ws ys i z h =
     let l : i - 1 < length (tags-in ws) = omega arith in
     let e : 2 + (i - 1) ≡ 1 + i = omega arith in
@@ -42,8 +44,12 @@ loop-holds : tie.Need-loop-holds Inv-loop μ-loop
 loop-holds c =
     let xs = tags-in (c .before .before .before .args .a .words) in
     let ys = tags-in (c .before .before .before .args .b .words) in
-    let u : tail-union (c .count .result) xs ys ≡ ys = union-start xs ys (c .count .result) (omega arith) in
-    (omega arith, omega arith, rw u (tags-size (c .before .before .before .args .b .words) (len (c .before .before .before))), rw u (c .before .opened .ensures))
+    let u : tail-union (c .count .result) xs ys ≡ ys = union-start xs ys (c .count .result) (omega arith) in (
+      omega arith,
+      omega arith,
+      rw u (tags-size (c .before .before .before .args .b .words) (len (c .before .before .before))),
+      rw u (c .before .opened .ensures),
+    )
 
 add-add : tie.Need-add-add Inv-loop μ-loop
 add-add c = search needs

@@ -22,7 +22,8 @@ returns c =
     let a = at-open .before .before .before .before .before .args in
     let o = at-open .«open» .ensures in
     let d = c .if1 .taken in
-    let refused = not-run (a .t) (now (a .vs)) (now (a .events)) (now (a .outs)) _ (ap (λ (x : Opened). x .refusal) o) _ (ap (λ (x : Opened). x .machine) o) d in
+    let refused =
+    not-run (a .t) (now (a .vs)) (now (a .events)) (now (a .outs)) _ (ap (λ (x : Opened). x .refusal) o) _ (ap (λ (x : Opened). x .machine) o) d in
     (refused, (λ z. absurd (d z), (λ z. absurd (d z), λ z. absurd (d z))))
 
 number-of-events-requires : tie.Need-number-of-events-requires

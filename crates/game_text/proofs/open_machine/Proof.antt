@@ -1,4 +1,5 @@
--- `game_text::open_machine` meets its contract: the contract of `opening::open` over the session's part of the pools, put back into the whole of them. Assumes nothing.
+-- `game_text::open_machine` meets its contract: the contract of `opening::open` over the session's part of the pools, put back into the whole of
+-- them. Assumes nothing.
 use mathlib.Core.Path.{sym}
 use lib.Seq.{length-take-le}
 use denote.Ref.{now}

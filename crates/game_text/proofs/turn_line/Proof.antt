@@ -39,7 +39,8 @@ returns c =
     let at-enum-told = at-header-number .before .before in
     let entry = at-enum-told .before .before .before .before .before in
     let a = entry .args in
-    game-at (a .t) (now (a .ns)) (now (a .bs)) _ (at-enum-told .enum-told .given .1) (at-header-number .header-number .result) (at-header-number .header-number .ensures)
+    game-at (a .t) (now (a .ns)) (now (a .bs)) _ (at-enum-told .enum-told .given .1) (at-header-number .header-number .result)
+    (at-header-number .header-number .ensures)
     (at-n .n .given .0 .0) (at-n .n .given .1) _ (c .stands .ensures)
 
 same-length : tie.Need-same-length

@@ -59,7 +59,8 @@ returns-2 c =
     let v = node-of (a .size) (a .pred) in
     let l : 34 ≤ length d = rw (length-drop (34 * a .k) p) (omega arith) in
     let f : write-front d v ≡ overwrite d 0 v = rw (le-leb _ _ l) in
-    back p (34 * a .k) v (c .before .before .write-over .last .0) (c .before .before .write-over .ensures ∙ ap (λ (w : List ℕ). write-front w v) (rest p (34 * a .k)) ∙ f) ∙ sym (node-here p (a .k) (a .size) (a .pred) (omega arith))
+    back p (34 * a .k) v (c .before .before .write-over .last .0) (c .before .before .write-over .ensures
+    ∙ ap (λ (w : List ℕ). write-front w v) (rest p (34 * a .k)) ∙ f) ∙ sym (node-here p (a .k) (a .size) (a .pred) (omega arith))
 
 pub new-node-spec : {M : Type 1} → statement M
 new-node-spec =

@@ -15,7 +15,8 @@ place-at-requires c κs = search needs
 
 returns : tie.Need-returns
 returns c =
-    c .place-at .ensures ∙ ap (λ (k : ℕ). place (now (c .before .before .before .args .ns)) k (c .before .before .before .args .i)) (c .before .number-of .ensures)
+    c .place-at .ensures ∙ ap (λ (k : ℕ). place (now (c .before .before .before .args .ns)) k (c .before .before .before .args .i))
+    (c .before .number-of .ensures)
 
 pub place-of-spec : {M : Type 1} → statement M
 place-of-spec = tie.close (tie.spec number-of-requires place-at-requires returns)

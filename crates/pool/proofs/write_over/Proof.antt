@@ -56,7 +56,8 @@ returns-2 : tie.Need-returns-2 Inv-loop μ-loop
 unfolding write-front
 returns-2 c =
     let a = c .before .before .before .args in
-    rw (le-leb _ _ (c .before .before .if1 .left)) (over-all (now (a .part)) (now (a .v)) (c .before .loop .i) (c .before .loop .part) (c .before .loop .inv .2) (omega arith))
+    rw (le-leb _ _ (c .before .before .if1 .left)) (over-all (now (a .part)) (now (a .v)) (c .before .loop .i) (c .before .loop .part)
+    (c .before .loop .inv .2) (omega arith))
 
 pub write-over-spec : {M : Type 1} → statement M
 write-over-spec =

@@ -29,7 +29,8 @@ returns c =
     let entry = at-line-length .before .before .before .before .before in
     let call = entry .args in
     let n = at-line-length .line-length in
-    ends-bytes (call .p) (now (call .ns)) (now (call .bs)) (n .result) (n .ensures .0) (room entry) (n .ensures .1) _ refl _ _ _ (at-read-end .read-end .ensures)
+    ends-bytes (call .p) (now (call .ns)) (now (call .bs)) (n .result) (n .ensures .0) (room entry) (n .ensures .1) _ refl _ _ _
+    (at-read-end .read-end .ensures)
 
 pub end-bytes-spec : {M : Type 1} → statement M
 end-bytes-spec =

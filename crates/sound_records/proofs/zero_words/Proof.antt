@@ -37,8 +37,11 @@ loop-less c = omega arith
 loop-again : tie.Need-loop-again Inv-loop μ-loop
 loop-again c =
     let w = c .before .before .before .args .w .now in
-    let i = c .before .before .loop .inv in
-    (omega arith, or-turn w (c .before .before .before .args .first) (c .before .before .before .args .n) (c .before .before .loop .j) (c .before .before .loop .all) (omega arith) (omega arith) ∙ i .1)
+    let i = c .before .before .loop .inv in (
+      omega arith,
+      or-turn w (c .before .before .before .args .first) (c .before .before .before .args .n) (c .before .before .loop .j)
+          (c .before .before .loop .all) (omega arith) (omega arith) ∙ i .1,
+    )
 
 returns : tie.Need-returns Inv-loop μ-loop
 returns c =

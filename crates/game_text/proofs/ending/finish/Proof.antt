@@ -43,7 +43,8 @@ returns c =
     let at-asked-at-end = at-n .before .before in
     let entry = at-asked-at-end .before .before .before .before in
     let a = entry .args in
-    played-to _ (a .t) (now (a .ns)) (now (a .bs)) (at-n .n .given .0 .0) (sym (at-asked-at-end .asked-at-end .ensures) ∙ at-n .n .given .1) _ _ _ _ _ (at-play .play .ensures)
+    played-to _ (a .t) (now (a .ns)) (now (a .bs)) (at-n .n .given .0 .0) (sym (at-asked-at-end .asked-at-end .ensures) ∙ at-n .n .given .1) _ _ _ _ _
+    (at-play .play .ensures)
 
 same-length-4 : tie.Need-same-length-4
 same-length-4 c = search needs

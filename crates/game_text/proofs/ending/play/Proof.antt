@@ -56,7 +56,8 @@ returns c =
     let x = entry .args in
     let a = at-node-extent .node-extent in
     let b = at-bucket-extent .bucket-extent in
-    part-played (x .s) (x .n) (now (x .ns)) (now (x .bs)) (a .result) (b .result) (a .ensures .0) (b .ensures .0) (at-game .game .result) _ _ (at-game .game .ensures)
+    part-played (x .s) (x .n) (now (x .ns)) (now (x .bs)) (a .result) (b .result) (a .ensures .0) (b .ensures .0) (at-game .game .result) _ _
+    (at-game .game .ensures)
     _ _ _ (at-print .print .ensures)
 
 pub play-spec : {M : Type 1} → statement M

@@ -52,7 +52,8 @@ returns : tie.Need-returns Inv-loop μ-loop
 returns c =
     let l = c .before .loop in
     let e : l .i ≡ 66 = omega arith in
-    ap bucket-with (l .inv .2 ∙ ap (λ (n : ℕ). over _ (now (c .before .before .args .part)) n) e ∙ over-full _ (now (c .before .before .args .part)) 66 (omega arith))
+    ap bucket-with (l .inv .2 ∙ ap (λ (n : ℕ). over _ (now (c .before .before .args .part)) n) e
+    ∙ over-full _ (now (c .before .before .args .part)) 66 (omega arith))
 
 pub front-spec : {M : Type 1} → statement M
 front-spec =

@@ -31,7 +31,10 @@ part-front-end c = search needs
 
 front-requires : tie.Need-front-requires
 front-requires c κs =
-    rw (rest (now (c .before .before .before .args .pool)) (66 * c .before .before .before .args .k), length-drop (66 * c .before .before .before .args .k) (now (c .before .before .before .args .pool))) (omega arith)
+    rw (
+      rest (now (c .before .before .before .args .pool)) (66 * c .before .before .before .args .k),
+      length-drop (66 * c .before .before .before .args .k) (now (c .before .before .before .args .pool)),
+    ) (omega arith)
 
 returns-2 : tie.Need-returns-2
 returns-2 c =

@@ -43,8 +43,14 @@ loop-less c = search needs
 loop-again : tie.Need-loop-again Inv-loop μ-loop
 loop-again c =
     let a = c .before .before .before .args in
-    let l = c .before .loop in
-    (omega arith, simp length-set (l .inv .1), over-more (now (a .part)) (a .b .words) (l .i) (l .part) (l .inv .2) (omega arith) (omega (arith, len (c .before .before .before))))
+    let l = c .before .loop in (
+      omega arith,
+      simp length-set (l .inv .1),
+      over-more (now (a .part)) (a .b .words) (l .i) (l .part) (l .inv .2) (omega arith) (omega (
+        arith,
+        len (c .before .before .before),
+      )),
+    )
 
 same-length : tie.Need-same-length Inv-loop μ-loop
 same-length c = c .before .loop .inv .1
@@ -52,7 +58,8 @@ same-length c = c .before .loop .inv .1
 returns : tie.Need-returns Inv-loop μ-loop
 returns c =
     let a = c .before .before .before .args in
-    over-all (now (a .part)) (a .b .words) (c .before .loop .i) (c .before .loop .part) (c .before .loop .inv .2) (omega (arith, len (c .before .before .before)))
+    over-all (now (a .part)) (a .b .words) (c .before .loop .i) (c .before .loop .part) (c .before .loop .inv .2)
+    (omega (arith, len (c .before .before .before)))
 
 pub store-spec : {M : Type 1} → statement M
 store-spec =

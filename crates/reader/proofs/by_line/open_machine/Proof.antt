@@ -1,4 +1,5 @@
--- `reader::by_line::open_machine` meets its contract. The contract of `opening::open` over the reader's part of the pools, put back into the whole of them. Assumes nothing.
+-- `reader::by_line::open_machine` meets its contract. The contract of `opening::open` over the reader's part of the pools, put back into the whole of
+-- them. Assumes nothing.
 use mathlib.Core.Path.{sym}
 use Prim.Native.Nat.{_≤_}
 use denote.Ref.{now}

@@ -1,4 +1,5 @@
--- `reader::by_line::print_listed` meets its contract. The contract of `queries::list`: a count is at most 64, and so many of the words are the tags; and the line at the place. Assumes nothing.
+-- `reader::by_line::print_listed` meets its contract. The contract of `queries::list`: a count is at most 64, and so many of the words are the tags;
+-- and the line at the place. Assumes nothing.
 use mathlib.Core.Path.{sym, ap, _∙_}
 use mathlib.Core.List.{List}
 use Prim.Native.Nat.{ℕ}
@@ -89,7 +90,8 @@ returns c =
     let b = at-bucket-extent .bucket-extent in
     let l = at-list .list in
     prints-refused (call .r) (now (call .ns)) (now (call .bs)) (a .result) (b .result) (a .ensures .0) (b .ensures .0) (l .result) (l .ensures .0)
-    (at-listed2 .listed2 .given .0 .0) (call .k) _ _ (at-listed2 .listed2 .given .1) (c .before .before .before .before .if1 .taken) (c .before .before .refusal .ensures)
+    (at-listed2 .listed2 .given .0 .0) (call .k) _ _ (at-listed2 .listed2 .given .1) (c .before .before .before .before .if1 .taken)
+    (c .before .before .refusal .ensures)
 
 same-length-2 : tie.Need-same-length-2
 same-length-2 c = search needs

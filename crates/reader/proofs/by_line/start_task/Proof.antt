@@ -1,4 +1,5 @@
--- `reader::by_line::start_task` meets its contract. The contract of `lent::start_local` over the reader's part of the pools, which it only reads. Assumes nothing.
+-- `reader::by_line::start_task` meets its contract. The contract of `lent::start_local` over the reader's part of the pools, which it only reads.
+-- Assumes nothing.
 use mathlib.Core.Path.{sym}
 use denote.Ref.{now}
 use lib.Seq.{length-take-le}

@@ -1,4 +1,5 @@
--- `reader::by_line::step_task` meets its contract. The contract of `lent::step_local` over the reader's part of the pools, put back into the whole of them. Assumes nothing.
+-- `reader::by_line::step_task` meets its contract. The contract of `lent::step_local` over the reader's part of the pools, put back into the whole of
+-- them. Assumes nothing.
 use mathlib.Core.Path.{sym}
 use denote.Ref.{now}
 use lib.Seq.{length-take-le}

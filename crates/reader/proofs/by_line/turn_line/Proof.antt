@@ -75,7 +75,8 @@ returns-2 c =
     let at-starts-with = at-if1 .before in
     let entry = at-starts-with .before .before .before .before .before in
     let line = now (entry .args .line) in
-    let told = turn-event line _ (sym (at-starts-with .starts-with .ensures) ∙ at-if1 .if1 .left) (sym (at-event-line .event-line .ensures) ∙ at-match .k .given .1) in
+    let told =
+    turn-event line _ (sym (at-starts-with .starts-with .ensures) ∙ at-if1 .if1 .left) (sym (at-event-line .event-line .ensures) ∙ at-match .k .given .1) in
     rw told (c .start-task .ensures)
 
 same-length-5 : tie.Need-same-length-5
@@ -93,7 +94,8 @@ returns-3 c =
     let at-starts-with = at-if1 .before in
     let entry = at-starts-with .before .before .before .before .before in
     let line = now (entry .args .line) in
-    let told = turn-event line _ (sym (at-starts-with .starts-with .ensures) ∙ at-if1 .if1 .left) (sym (at-event-line .event-line .ensures) ∙ at-match .k2 .given .1) in
+    let told = turn-event line _ (sym (at-starts-with .starts-with .ensures) ∙ at-if1 .if1 .left)
+    (sym (at-event-line .event-line .ensures) ∙ at-match .k2 .given .1) in
     rw told (c .before .before .before .before .step-task .ensures)
 
 returns-4 : tie.Need-returns-4
@@ -105,7 +107,8 @@ returns-4 c =
     let at-starts-with = at-if1 .before in
     let entry = at-starts-with .before .before .before .before .before in
     let line = now (entry .args .line) in
-    let told = turn-event line _ (sym (at-starts-with .starts-with .ensures) ∙ at-if1 .if1 .left) (sym (at-event-line .event-line .ensures) ∙ at-match .enum-told .given .1) in
+    let told = turn-event line _ (sym (at-starts-with .starts-with .ensures) ∙ at-if1 .if1 .left)
+    (sym (at-event-line .event-line .ensures) ∙ at-match .enum-told .given .1) in
     rw told
     (read-as _ _ _ _ _ (c .decided .ensures) (decided-back (entry .args .r) (now (entry .args .ns)) (now (entry .args .bs)) (number-fits entry) (Refusal 10)))
 
