@@ -3,7 +3,7 @@ use Prim.Native.Nat.{ℕ, _*_}
 use mathlib.Core.Path.{_≡_, refl}
 use mathlib.Core.List.{[], _∷_, map}
 use Rattle.spec.specs.Everything.{everything}
-use Rattle.spec.specs.OurCases.{sized, refusal-of}
+use Rattle.cases.specs.OurCases.{sized, refusal-of}
 
 pub bucket-bounds : map refusal-of (sized 1 34 (66 * 1024) 0 ∷ sized 1 34 (66 * 1025) 3 ∷ []) ≡ 0 ∷ 3 ∷ []
 unfolding everything refusal-of

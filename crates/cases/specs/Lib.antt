@@ -1,2 +1,4 @@
 pub mod Table
+pub mod OurCases
 pub mod Bounds
+pub mod SpoiltLengths

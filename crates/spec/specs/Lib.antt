@@ -16,7 +16,6 @@ pub mod Everything
 pub mod Rows
 pub mod ContainsSteps
 pub mod ContainsExamples
-pub mod OurCases
 pub mod WholeRows
 pub mod LineRows
 pub mod FillRows

@@ -1,7 +1,7 @@
 -- Rows of spoilt memory: for each condition of refusal 8 a memory that breaks it and nothing else, and for each bound a memory at the
--- bound, which is sound. Start and step are asked for a task that is not there, the list has no room: 8 comes before 4 and 9.
--- Assumes nothing.
-use Prim.Native.Nat.{ℕ, _*_}
+-- bound, which is sound (H, B and the slices' lengths: SpoiltLengths of `cases`; a task's record: SpoiltTaskRows). Start and step are asked
+-- for a task that is not there, the list has no room: 8 comes before 4 and 9. Assumes nothing.
+use Prim.Native.Nat.{ℕ}
 use mathlib.Core.Path.{_≡_, refl}
 use mathlib.Core.List.{List, [], _∷_, _++_, map}
 use lib.ListN.{replicate}
@@ -67,34 +67,6 @@ right-numbers = numbered 1 0 0 0 ∷ numbered 8 0 0 0 ∷ numbered 2 1 2 1 ∷ w
 pub numbers-sound : map said right-numbers ≡ map sound-with-5 right-numbers
 unfolding everything whole-rows said refusing sound-with-5 some-nodes some-buckets numbered right-numbers
 numbers-sound = refl
-
--- H and B, and after node 0 and bucket 0 so many more words
-unfoldable pub long : ℕ → ℕ → ℕ → ℕ → Machine
-long h d w x =
-    machine-of (config (config-of 2) H h B d head 0 last-node 0 last-bucket 0 tasks [])
-    (node 1 0 (1 ∷ []) ++ replicate w 0)
-    (bucket 1 (5 ∷ []) ++ replicate x 0)
-
--- 65 nodes, 1,025 buckets, a word too many or one too few
-unfoldable pub spoilt-lengths : List Machine
-spoilt-lengths =
-    long 65 1 (34 * 64) 0 ∷ long 1 1025 0 (66 * 1024) ∷ long 1 1 1 0 ∷ long 1 1 0 1 ∷ long 2 1 33 0 ∷ long 1 2 0 65 ∷ []
-
-pub lengths-spoilt : map said spoilt-lengths ≡ map spoilt spoilt-lengths
-unfolding everything whole-rows said refusing spoilt long spoilt-lengths
-lengths-spoilt = refl
-
-unfoldable pub sound-lengths : List Machine
-sound-lengths = long 64 1 (34 * 63) 0 ∷ long 1 2 0 66 ∷ []
-
-pub lengths-sound : map said sound-lengths ≡ map sound-with-5 sound-lengths
-unfolding everything whole-rows said refusing sound-with-5 long sound-lengths
-lengths-sound = refl
-
--- 1,024 buckets
-pub buckets-sound : show (long 1 1024 0 (66 * 1023)) 0 ≡ 5 ∷ []
-unfolding everything long
-buckets-sound = refl
 
 -- ---- one node or bucket in the place of another
 
