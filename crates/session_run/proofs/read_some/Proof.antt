@@ -1,11 +1,11 @@
--- `yardrun::read_some` meets its contract. No more is printed than the buffer has room for. Assumes nothing.
+-- `session_run::read_some` meets its contract. No more is printed than the buffer has room for. Assumes nothing.
 use mathlib.Core.Path.{sym}
 use lib.Seq.{length-take-le}
 use Rattle.session.specs.BufferLaws.{append-within}
 use native.Mathlib.Omega.{arith}
 use borrow.Author.Needs.{needs}
-use Rattle.yardrun.proofs.read_some.Statement.{statement}
-use Rattle.yardrun.proofs.read_some.Tie as tie
+use Rattle.session_run.proofs.read_some.Statement.{statement}
+use Rattle.session_run.proofs.read_some.Tie as tie
 
 input-room-requires : tie.Need-input-room-requires
 input-room-requires c κs = search needs
@@ -16,14 +16,14 @@ slice-aggregate-read c = search needs
 read-requires : tie.Need-read-requires
 read-requires c κs = search needs
 
+returns : tie.Need-returns
+returns c = search needs
+
 slice-aggregate-count : tie.Need-slice-aggregate-count
 slice-aggregate-count c = search needs
 
 count-requires : tie.Need-count-requires
 count-requires c κs = search needs
-
-returns : tie.Need-returns
-returns c = search needs
 
 output-room-requires : tie.Need-output-room-requires
 output-room-requires c κs = search needs
@@ -40,24 +40,30 @@ slice-aggregate-feed-bytes-2 c = search needs
 feed-bytes-requires : tie.Need-feed-bytes-requires
 feed-bytes-requires c κs = search needs
 
+has-stopped-requires : tie.Need-has-stopped-requires
+has-stopped-requires c κs = search needs
+
 array-share-prefix-out : tie.Need-array-share-prefix-out
 array-share-prefix-out c =
-    let at-feed-bytes = c .before .before .before .before .before .before .before in
+    let at-feed-bytes = c .before .before .before .before .before .before .before .before in
     let at-output-room = at-feed-bytes .before .before .before .before .before in
     let f = at-feed-bytes .feed-bytes in
     omega (arith, append-within _ _ _ _ (f .ensures .wrote), f .kept .1 .1 .1 .1 .1 .0, at-output-room .output-room .ensures)
 
-slice-aggregate-write-all : tie.Need-slice-aggregate-write-all
-slice-aggregate-write-all c =
-    let at-feed-bytes = c .before .before .before .before .before .before .before .before in
+slice-aggregate-show : tie.Need-slice-aggregate-show
+slice-aggregate-show c =
+    let at-feed-bytes = c .before .before .before .before .before .before .before .before .before in
     let at-output-room = at-feed-bytes .before .before .before .before .before in
     let f = at-feed-bytes .feed-bytes in
     let within = append-within _ _ _ _ (f .ensures .wrote) in
     let room = at-output-room .output-room .ensures in
     sym (length-take-le (f .result .printed) (f .last .1 .1 .1 .1 .1 .0) (omega (arith, within, f .kept .1 .1 .1 .1 .1 .0, room)))
 
-write-all-requires : tie.Need-write-all-requires
-write-all-requires c κs = search needs
+show-requires : tie.Need-show-requires
+show-requires c κs = search needs
+
+after-write-requires : tie.Need-after-write-requires
+after-write-requires c κs = search needs
 
 same-length : tie.Need-same-length
 same-length c = search needs
@@ -75,17 +81,19 @@ read-some-spec =
     input-room-requires
     slice-aggregate-read
     read-requires
+    returns
     slice-aggregate-count
     count-requires
-    returns
     output-room-requires
     array-share-prefix-input
     slice-aggregate-feed-bytes
     slice-aggregate-feed-bytes-2
     feed-bytes-requires
+    has-stopped-requires
     array-share-prefix-out
-    slice-aggregate-write-all
-    write-all-requires
+    slice-aggregate-show
+    show-requires
+    after-write-requires
     same-length
     same-length-2
     returns-2)

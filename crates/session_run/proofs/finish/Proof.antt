@@ -1,11 +1,11 @@
--- `yardrun::finish` meets its contract. No more is printed than the buffer has room for. Assumes nothing.
+-- `session_run::finish` meets its contract. No more is printed than the buffer has room for. Assumes nothing.
 use mathlib.Core.Path.{sym}
 use lib.Seq.{length-take-le}
 use Rattle.session.specs.BufferLaws.{append-within}
 use native.Mathlib.Omega.{arith}
 use borrow.Author.Needs.{needs}
-use Rattle.yardrun.proofs.finish.Statement.{statement}
-use Rattle.yardrun.proofs.finish.Tie as tie
+use Rattle.session_run.proofs.finish.Statement.{statement}
+use Rattle.session_run.proofs.finish.Tie as tie
 
 output-room-requires : tie.Need-output-room-requires
 output-room-requires c κs = search needs
@@ -23,8 +23,8 @@ array-share-prefix-out c =
     let e = at-end-stream .end-stream in
     omega (arith, append-within _ _ _ _ (e .ensures .wrote), e .kept .1 .1 .1 .1 .0, at-output-room .output-room .ensures)
 
-slice-aggregate-write-all : tie.Need-slice-aggregate-write-all
-slice-aggregate-write-all c =
+slice-aggregate-shown-end : tie.Need-slice-aggregate-shown-end
+slice-aggregate-shown-end c =
     let at-end-stream = c .before .before .before .before .before .before in
     let at-output-room = at-end-stream .before .before .before .before in
     let e = at-end-stream .end-stream in
@@ -32,8 +32,8 @@ slice-aggregate-write-all c =
     sym
     (length-take-le (e .result) (e .last .1 .1 .1 .1 .0) (omega (arith, within, e .kept .1 .1 .1 .1 .0, at-output-room .output-room .ensures)))
 
-write-all-requires : tie.Need-write-all-requires
-write-all-requires c κs = search needs
+shown-end-requires : tie.Need-shown-end-requires
+shown-end-requires c κs = search needs
 
 same-length : tie.Need-same-length
 same-length c = search needs
@@ -52,8 +52,8 @@ finish-spec =
     slice-aggregate-end-stream
     end-stream-requires
     array-share-prefix-out
-    slice-aggregate-write-all
-    write-all-requires
+    slice-aggregate-shown-end
+    shown-end-requires
     same-length
     same-length-2
     returns)
