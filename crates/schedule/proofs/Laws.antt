@@ -69,7 +69,8 @@ module _ (ws : List ℕ) (n i : ℕ) where
       let later = events-of (n - (i + 1)) (drop (4 * (i + 1)) ws) in
       let q : 4 * i + 4 ≡ 4 * (i + 1) = omega arith in
       let written = overwrite w (4 * i) (output-words (event y (event-at ws i) .out)) in
-      rw (g, e) (subst (λ (j : ℕ). Rest y₀ w₀ es₀ (event y (event-at ws i) .machine) written j later) q (rest-on (event-at ws i) later (rw (events-on ws n i h) at l) f))
+      let next = rest-on (event-at ws i) later (rw (events-on ws n i h) at l) f in
+      rw (g, e) (subst (λ (j : ℕ). Rest y₀ w₀ es₀ (event y (event-at ws i) .machine) written j later) q next)
 
   -- after the last
   pub finished : {y₀ : Machine} {w₀ : List ℕ} {es₀ : List Event} {y : Machine} {w : List ℕ} → n ≤ i

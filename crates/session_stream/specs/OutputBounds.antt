@@ -28,7 +28,8 @@ use Rattle.session_state.specs.declared.Phase.{Phase}
 use Rattle.session_state.specs.declared.Phase.the-variants.{Due, Events, Stopped}
 use Rattle.session_state.specs.declared.Session.{Session}
 use Rattle.session_state.specs.PartialLines.{empty-line, line-bytes}
-use Rattle.session_state.specs.Handling.{LineEffect, new-session, session-machine, pools-kept, stopped, node-part, bucket-part, with-machine, silent, open-then, reply-effect, event-effect, listing-effect, header-effect, phase-effect, line-effect, phase-end, end-effect}
+use Rattle.session_state.specs.Handling.{LineEffect, new-session, session-machine, pools-kept, stopped, node-part, bucket-part, with-machine, silent}
+use Rattle.session_state.specs.Handling.{open-then, reply-effect, event-effect, listing-effect, header-effect, phase-effect, line-effect, phase-end, end-effect}
 use Rattle.session_stream.specs.Stream.{Progress, begin, handled, kept, feed, feeds, stream-end, stream-output, streamed}
 use Rattle.session_stream.specs.PrintsTranscript.{opened-either, stream-prints-transcript}
 

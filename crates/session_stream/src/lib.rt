@@ -55,7 +55,8 @@ pub fn feed_bytes(
     bs: &mut [u32],
     out: &mut [u8],
 ) -> Fed
-    ensures { λ r. ⌜ FedAs (feeds (begin s h (now (ns .entry)) (now (bs .entry))) (now (input .entry))) r (now (ns .exit)) (now (bs .exit)) (now (out .entry)) (now (out .exit)) ⌝ }
+    ensures { λ r. ⌜ FedAs (feeds (begin s h (now (ns .entry)) (now (bs .entry))) (now (input .entry))) r
+        (now (ns .exit)) (now (bs .exit)) (now (out .entry)) (now (out .exit)) ⌝ }
 {
     let mut session = s;
     let mut line = h;
@@ -84,7 +85,8 @@ pub fn end_stream(
     bs: &mut [u32],
     out: &mut [u8],
 ) -> usize
-    ensures { λ r. ⌜ EndedBy (stream-end (begin s h (now (ns .entry)) (now (bs .entry)))) r (now (ns .exit)) (now (bs .exit)) (now (out .entry)) (now (out .exit)) ⌝ }
+    ensures { λ r. ⌜ EndedBy (stream-end (begin s h (now (ns .entry)) (now (bs .entry)))) r
+        (now (ns .exit)) (now (bs .exit)) (now (out .entry)) (now (out .exit)) ⌝ }
 {
     let n = session_state::partial_line::line_length(h);
     if n == 0 {
@@ -99,8 +101,10 @@ pub fn end_stream(
 // A whole session: its input as a slice, over lent pools. What it prints is written from the buffer's first byte on, as far as
 // there is room, and its length given. With 2,176 node words and 13,200 bucket words or more it is the input's transcript.
 pub fn transcript(input: &[u8], ns: &mut [u32], bs: &mut [u32], out: &mut [u8]) -> usize
-    ensures all { λ r. ⌜ EndedAs (now (input .entry)) (now (ns .entry)) (now (bs .entry)) (now (out .entry)) r (now (ns .exit)) (now (bs .exit)) (now (out .exit)) ⌝ }
-    ensures whole { λ r. ⌜ (2176 ≤ length (now (ns .entry)) → 13200 ≤ length (now (bs .entry)) → Written (transcript (now (input .entry))) (now (out .entry)) (now (out .exit)) r) ⌝ }
+    ensures all { λ r. ⌜ EndedAs (now (input .entry)) (now (ns .entry)) (now (bs .entry)) (now (out .entry)) r
+        (now (ns .exit)) (now (bs .exit)) (now (out .exit)) ⌝ }
+    ensures whole { λ r. ⌜ (2176 ≤ length (now (ns .entry)) → 13200 ≤ length (now (bs .entry))
+        → Written (transcript (now (input .entry))) (now (out .entry)) (now (out .exit)) r) ⌝ }
 {
     let s = session_state::new_session();
     let h = session_state::partial_line::empty_line();

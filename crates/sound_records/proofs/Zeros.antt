@@ -37,7 +37,8 @@ module _ (w : List ℕ) (f n j a : ℕ) where
   or-turn h l =
       let e : n - j ≡ suc (n - (j + 1)) = omega arith in
       let d : f + (j + 1) ≡ suc (f + j) = omega arith in
-      rw (e, d, drop-cons w (f + j) 0 l, or-zero a (getD w (f + j) 0)) (and-assoc (eqb a 0) (eqb (getD w (f + j) 0) 0) (zeros (n - (j + 1)) (drop (suc (f + j)) w)))
+      rw (e, d, drop-cons w (f + j) 0 l, or-zero a (getD w (f + j) 0))
+      (and-assoc (eqb a 0) (eqb (getD w (f + j) 0) 0) (zeros (n - (j + 1)) (drop (suc (f + j)) w)))
 
   pub or-end : n ≤ j → (eqb a 0 && zeros (n - j) (drop (f + j) w)) ≡ eqb a 0
   unfolding zeros
