@@ -13,15 +13,15 @@ pub fn count(row: &str, implementation: &str, at_most: &str) -> Option<()> {
     let (_, run) = IMPLEMENTATIONS
         .into_iter()
         .find(|&(name, _)| name == implementation)?;
-    let count = row.counted.min(at_most.parse().ok()?);
+    let count = row.events.min(at_most.parse().ok()?);
     let shape = row.shape();
-    let schedule = row.schedule(row.counted);
+    let schedule = row.schedule(row.events);
     black_box(run(
         shape.opening,
         &mut vec![0; shape.node_words()],
         &mut vec![0; shape.bucket_words()],
         &schedule[..count * EVENT_WORDS],
-        &mut vec![0; row.counted * OUTPUT_WORDS],
+        &mut vec![0; row.events * OUTPUT_WORDS],
         &mut [0; MAX_TAGS],
     ));
     println!("{count}");

@@ -23,9 +23,8 @@ pub struct Row {
     resize_percent: u32,
     /// The head does not grow past it.
     max_size: u32,
-    /// How many events `bench time` runs, and `bench count` at most.
-    pub timed: usize,
-    pub counted: usize,
+    /// How many events a run has.
+    pub events: usize,
 }
 
 /// The smallest pools, in which a grow is always refused; small ones; what always suffices for four tasks; the largest.
@@ -37,8 +36,7 @@ pub const ROWS: [Row; 5] = [
         tag_count: 40,
         resize_percent: 0,
         max_size: 1,
-        timed: 500_000,
-        counted: 20_000,
+        events: 20_000,
     },
     Row {
         tasks: 2,
@@ -47,8 +45,7 @@ pub const ROWS: [Row; 5] = [
         tag_count: 40,
         resize_percent: 10,
         max_size: 2,
-        timed: 500_000,
-        counted: 20_000,
+        events: 20_000,
     },
     Row {
         tasks: 2,
@@ -57,8 +54,7 @@ pub const ROWS: [Row; 5] = [
         tag_count: 40,
         resize_percent: 10,
         max_size: 4,
-        timed: 500_000,
-        counted: 20_000,
+        events: 20_000,
     },
     Row {
         tasks: 4,
@@ -67,8 +63,7 @@ pub const ROWS: [Row; 5] = [
         tag_count: 90,
         resize_percent: 10,
         max_size: 32,
-        timed: 100_000,
-        counted: 8_000,
+        events: 8_000,
     },
     Row {
         tasks: 8,
@@ -77,8 +72,7 @@ pub const ROWS: [Row; 5] = [
         tag_count: 90,
         resize_percent: 10,
         max_size: 32,
-        timed: 40_000,
-        counted: 4_000,
+        events: 4_000,
     },
 ];
 

@@ -26,7 +26,7 @@ fn sum(words: &[u32]) -> u32 {
 
 /// Prints how fast the work reads so many words.
 fn print(name: &str, words: usize, mut work: impl FnMut()) {
-    let times = 1 + 40_000_000 / words;
+    let times = 1 + 4_000_000 / words;
     let nanoseconds = fastest(|| (0..times).for_each(|_| work())) / times as f64;
     let speed = (4 * words) as f64 / nanoseconds;
     println!("  {name:<20} {speed:6.1} GB/s, {nanoseconds:9.1} ns");

@@ -8,7 +8,8 @@ use crate::schedule::{Run, EVENT_WORDS, OUTPUT_WORDS};
 use std::hint::black_box;
 use std::time::Instant;
 
-const ROUNDS: usize = 15;
+/// Many short rounds, so that some of them are not interrupted.
+const ROUNDS: usize = 100;
 
 fn nanoseconds(work: impl FnOnce()) -> f64 {
     let start = Instant::now();
@@ -16,14 +17,14 @@ fn nanoseconds(work: impl FnOnce()) -> f64 {
     start.elapsed().as_nanos() as f64
 }
 
-/// The fastest of some rounds, in nanoseconds.
+/// The fastest of the rounds, in nanoseconds.
 pub fn fastest(mut work: impl FnMut()) -> f64 {
     (0..ROUNDS)
         .map(|_| nanoseconds(&mut work))
         .fold(f64::INFINITY, f64::min)
 }
 
-/// Nanoseconds of a whole run, the fastest of some rounds, for each implementation; their
+/// Nanoseconds of a whole run, the fastest of the rounds, for each implementation; their
 /// rounds alternate. Every run clears its pools by opening them, and all buffers are in use
 /// already, as one round goes before the timed ones.
 fn time_runs(row: &Row, events: &[u32]) -> [f64; IMPLEMENTATIONS.len()] {
@@ -59,13 +60,13 @@ fn step_share(events: &[u32]) -> usize {
 }
 
 fn print_events(row: &Row) {
-    let events = row.schedule(row.timed);
+    let events = row.schedule(row.events);
     let share = step_share(&events);
-    let (name, count) = (row.name(), row.timed);
+    let (name, count) = (row.name(), row.events);
     println!("{name}: {count} accepted events, {share}% of them steps");
     let times = time_runs(row, &events);
     for ((name, _), time) in IMPLEMENTATIONS.iter().zip(times) {
-        let each = time / row.timed as f64;
+        let each = time / row.events as f64;
         let ratio = time / times[0];
         println!("  {name:<20} {each:9.1} ns per event, {ratio:.2} times plain");
     }
