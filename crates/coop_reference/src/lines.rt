@@ -1,6 +1,6 @@
 // Figure 6 as a table. A row: a line; the first and the last of the calls that come there; "o" and "p" where it goes through o and through op of
-// HELPFINISH, "k" where o is needed later, "n" for "o ← b.node"; what it tests, or "x" for a line that "belongs to the line before", "h" if it
-// calls HELPFINISH; the line after it where that holds, and where not. 000 ends the call and 001 HELPFINISH; where a line calls HELPFINISH the last number is the line after that has ended.
+// HELPFINISH, "k" where o is needed later, "n" for "o ← b.node"; what it tests, or "x" for a line that "belongs to the line before", "h" if it calls HELPFINISH; the line after it where that
+// holds, and where not. 000 ends the call and 001 HELPFINISH; where a line calls HELPFINISH the last number is the line after that has ended.
 // Tests: 1 "b.node.op ≠ ⊥ ∧ op.prio ≠ ∞", 2 "b.flag", 3 "o.op = nil" (in a CAS too), 4 op.prio ≠ ∞, 5 "b.node.op ≠ ⊥", 6 "op ≠ nil ∧ op ≠ ⊥" of
 // o.op, 7 whether an invoke has called DOFREEZE, 0 nothing.
 use crate::words::BACK;
