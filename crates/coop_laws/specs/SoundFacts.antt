@@ -15,7 +15,7 @@ use Rattle.spec.specs.Lists.{ascending, every}
 use Rattle.spec.specs.Sound.{within}
 use Rattle.spec.specs.Words.{count, tags}
 use Rattle.laws.specs.Lists.{all-zeros}
-use Rattle.laws.specs.Tests.{all4, and-i, bool?, or-l, or-r}
+use Rattle.laws.specs.Tests.{and4-i, and-i, bool?, or-l, or-r}
 use Rattle.coop_spec.specs.Machine.{Machine, never-invoked, operation-of}
 use Rattle.coop_spec.specs.Sound.{sound, sound-numbers, sound-op-word, sound-operation, sound-tags, sound-tasks, sound-version}
 use Rattle.coop_spec.specs.Sound.{sound-versions, version-count, was-invoked, zero-operation}
@@ -124,7 +124,7 @@ module _ (y : Machine) (f : MemoryFacts y) (done : (n : ℕ) → operation-of y 
   pub facts-sound : y .state .node < version-count y → length (y .versions) ≡ 66 * version-count y → sound-tasks y 0 (y .state .task) ≡ true → sound y ≡ true
   unfolding sound sound-numbers operation-of version-words
   facts-sound node long tasks =
-      all4 _ _ _ _ numbers (every-of sound-operation never-invoked (y .state .operation) operation-sound)
+      and4-i _ _ _ _ numbers (every-of sound-operation never-invoked (y .state .operation) operation-sound)
       (at-versions y (version-count y) (y .versions) (λ k b. facts-version y k (f .version k b))) tasks
     where
       numbers : (within 1 8 (y .state .tasks) && within 1 1024 (version-count y) && eqb (length (y .versions)) (66 * version-count y) && ltb (y .state .node)

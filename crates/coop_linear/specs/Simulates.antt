@@ -12,7 +12,7 @@ use lib.ListN.{getD, length}
 use Rattle.spec.specs.Lists.{member}
 use Rattle.spec.specs.Words.{link, number}
 use Rattle.laws.specs.Links.{true-filled}
-use Rattle.laws.specs.Tests.{and-i, and-never, nor2}
+use Rattle.laws.specs.Tests.{and-i, and-never, or-none-i}
 use Rattle.coop_spec.specs.Atomic.{AtomicCall, FSet, Operations, get-response, invoke}
 use Rattle.coop_spec.specs.History.{Occurrence}
 use Rattle.coop_spec.specs.Linearizable.{No65thTag}
@@ -230,6 +230,6 @@ module _ {T : Operations} {y : Machine} {w : Configuration} (sim : Simulates T y
   pub step-sound : (p : ℕ) → unsound-step y (task-of y p) ≡ false
   unfolding unsound-step
   step-sound p =
-      nor2 (through-empty (task-of y p)) (needs-65th-tag y (task-of y p))
+      or-none-i (through-empty (task-of y p)) (needs-65th-tag y (task-of y p))
       (rw (sim .images p .1) (image-filled T (sim .slot) (sim .images p .0) (w .position p)))
       (no-65th p)

@@ -7,7 +7,7 @@ use borrow.Author.Tests.{eq-eqb, eqb-false, eqb-true, le-leb, lt-ltb, ne-eqb}
 use lib.Dec.{eqb, ltb}
 use Rattle.spec.specs.Lists.{every, if_then_else_, member}
 use Rattle.spec.specs.Words.{filled, link, number}
-use Rattle.laws.specs.Tests.{all6, and-i, or-r}
+use Rattle.laws.specs.Tests.{and6-i, and-i, or-r}
 use Rattle.coop_spec.specs.Atomic.{AtomicCall, Operations, freeze, get-response, has-member, invoke}
 use Rattle.coop_spec.specs.Machine.{Machine, operation-of}
 use Rattle.coop_spec.specs.Sound.{back-of-line, freeze-lines, help-lines, invoke-lines, invokes, lines-of, member-lines, operation-of-call}
@@ -167,7 +167,7 @@ module _ (T : Operations) (y : Machine) (slot : ℕ → ℕ) (own : ℕ) where
     image-sound no-call b s k h w = refl
     image-sound (running j l) b s k h w =
         and-i _ _
-        (all6 _ _ _ _ _ _ (lt-ltb p (y .state .tasks) (below j b)) (role-line T j l s) (role-back T slot own j l s) (role-operation j l k)
+        (and6-i _ _ _ _ _ _ (lt-ltb p (y .state .tasks) (below j b)) (role-line T j l s) (role-back T slot own j l s) (role-operation j l k)
         (or-r (eqb (call-number T j) 4) true refl) (le-leb (link-in slot (parts l .o)) (version-count y) (o-below (parts l .o) w)))
         (role-helped (parts l .helped) h)
       where

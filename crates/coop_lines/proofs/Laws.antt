@@ -7,7 +7,7 @@ use native.Mathlib.Omega.{arith}
 use borrow.Author.Tests.{eq-eqb, ne-eqb, eqb-true, eqb-false, not-true}
 use lib.Dec.{ltb, eqb}
 use lib.ListN.{length}
-use Rattle.laws.specs.Tests.{tf, none2, none3, and-left, and-right}
+use Rattle.laws.specs.Tests.{tf, or-none, or-none3, and-left, and-right}
 use Rattle.spec.specs.Lists.{if_then_else_, member}
 use Rattle.spec.specs.Words.{number, filled}
 use Rattle.coop_spec.specs.declared.Task.{Task}
@@ -45,7 +45,7 @@ module _ (y : Machine) (k : ℕ) (c : Task) where
   pub plain : (n : ℕ) → c .line ≡ n → (member n o-lines || member n helped-lines || eqb n 140) ≡ false
       → step-running y k c ≡ accept y k (c .own) (find-line n all-lines y c)
   unfolding step-at
-  plain n e f = let q = none3 (member n o-lines) (member n helped-lines) (eqb n 140) f in at-line n e ∙ rw (q .0, q .1, q .2)
+  plain n e f = let q = or-none3 (member n o-lines) (member n helped-lines) (eqb n 140) f in at-line n e ∙ rw (q .0, q .1, q .2)
 
   -- ---- one that goes through o
 
@@ -55,8 +55,8 @@ module _ (y : Machine) (k : ℕ) (c : Task) where
   through n e t f = go (eqb (c .o) 0) refl
     where
       go : (b : Bool) → eqb (c .o) 0 ≡ b → step-running y k c ≡ through-o y c (accept y k (c .own) (find-line n all-lines y c))
-      go true p = let q = none2 (member n helped-lines) (eqb n 140) f in at-line n e ∙ rw (t, q .0, q .1, p)
-      go false p = let q = none2 (member n helped-lines) (eqb n 140) f in at-line n e ∙ rw (t, q .0, q .1, p)
+      go true p = let q = or-none (member n helped-lines) (eqb n 140) f in at-line n e ∙ rw (t, q .0, q .1, p)
+      go false p = let q = or-none (member n helped-lines) (eqb n 140) f in at-line n e ∙ rw (t, q .0, q .1, p)
 
   pub empty-o : (r : Reply) → c .o ≡ 0 → through-o y c r ≡ refuse 8 y
   unfolding through-o
@@ -98,11 +98,11 @@ module _ (y : Machine) (k : ℕ) (c : Task) where
   module _ (n : ℕ) (e : c .line ≡ n) (o : (member n o-lines || eqb n 140) ≡ false) (t : member n helped-lines ≡ true) where
     pub empty-helped : c .helped ≡ 0 → step-running y k c ≡ refuse 8 y
     unfolding step-at
-    empty-helped z = let q = none2 (member n o-lines) (eqb n 140) o in at-line n e ∙ rw (q .0, q .1, t, eq-eqb (c .helped) 0 z)
+    empty-helped z = let q = or-none (member n o-lines) (eqb n 140) o in at-line n e ∙ rw (q .0, q .1, t, eq-eqb (c .helped) 0 z)
 
     pub filled-helped : (c .helped ≡ 0 → ⊥) → step-running y k c ≡ accept y k (c .own) (find-line n all-lines y c)
     unfolding step-at
-    filled-helped z = let q = none2 (member n o-lines) (eqb n 140) o in at-line n e ∙ rw (q .0, q .1, t, ne-eqb (c .helped) 0 z)
+    filled-helped z = let q = or-none (member n o-lines) (eqb n 140) o in at-line n e ∙ rw (q .0, q .1, t, ne-eqb (c .helped) 0 z)
 
   -- ---- line 140
 

@@ -24,7 +24,7 @@ use Rattle.spec.specs.Listed.{listed}
 use Rattle.spec.specs.Lines.{effect}
 use Rattle.spec.specs.StepRefusals.{unsound-step, all-held}
 use Rattle.spec.specs.Entries.{Opened, opening, not-opened, pool-fits, Reply, refuse, withdrawn, start, step-running, step, Written, list}
-use Rattle.laws.specs.Tests.{tf, bool?, and-left, and-right, all2, or-none, choose, if-true, if-false}
+use Rattle.laws.specs.Tests.{tf, bool?, and-left, and-right, and-i, or-none, choose, if-true, if-false}
 use Rattle.laws.specs.SoundFacts.{SoundFacts}
 use Rattle.laws.specs.Withdrawn.{InsertOfZero, withdrawn-means, means-withdrawn}
 use Rattle.laws.specs.Soundness.{sound-facts, facts-sound}
@@ -59,7 +59,7 @@ within-means : (low high n : ℕ) → within low high n ≡ true → Within low 
 within-means low high n e = (leb-true low n (and-left (leb low n) (leb n high) e), leb-true n high (and-right (leb low n) (leb n high) e))
 
 means-within : (low high n : ℕ) → Within low high n → within low high n ≡ true
-means-within low high n p = all2 (leb low n) (leb n high) (le-leb low n (p .0)) (le-leb n high (p .1))
+means-within low high n p = and-i (leb low n) (leb n high) (le-leb low n (p .0)) (le-leb n high (p .1))
 
 module _ (width most : ℕ) (w : List ℕ) where
   fits-means : pool-fits width most (length w) ≡ true → Records width most w
@@ -75,7 +75,7 @@ module _ (width most : ℕ) (w : List ℕ) where
   means-fits h r =
       let q : length w / width ≡ r .number = div-eq-of-eq-mul-right h (r .words) in
       let m : length w % width ≡ 0 = ap (λ (n : ℕ). n % width) (r .words) ∙ mul-mod-right width (r .number) in
-      all2 (eqb (length w % width) 0) (within 1 most (length w / width)) (eq-eqb _ _ m) (rw q (means-within 1 most (r .number) (r .some, r .few)))
+      and-i (eqb (length w % width) 0) (within 1 most (length w / width)) (eq-eqb _ _ m) (rw q (means-within 1 most (r .number) (r .some, r .few)))
 
 -- "The installer, opening with T and two slices, in this order"
 pub data OpeningRefused (g : Config) (ns bs : List ℕ) (r : ℕ) : Type 0 where

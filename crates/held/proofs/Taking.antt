@@ -8,7 +8,7 @@ use native.Mathlib.Omega.{arith}
 use borrow.Author.Tests.{lt-ltb, le-ltb, le-leb, lt-leb, leb-true}
 use lib.Dec.{ltb, leb}
 use lib.ListN.{length, getD}
-use Rattle.laws.specs.Tests.{same-test, and2, all2}
+use Rattle.laws.specs.Tests.{same-test, and2, and-i}
 use Rattle.laws.specs.Lists.{member-append, member-here, member-there, range-low, range-has}
 use Rattle.laws.specs.Ascending.{member-filter}
 use Rattle.laws.specs.Soundness.{sound-facts}
@@ -78,7 +78,7 @@ module _ (y : Machine) (nodes : List Bool) (n : length nodes ≡ 64) (x : Exactl
       let e : link i - 1 ≡ i = omega arith in
       let m : member (link i) (held-nodes y) ≡ true = sym (x .each (link i) (omega arith) (omega arith)) ∙ ap (λ (j : ℕ). getD nodes j false) e ∙ q .0 in
       let g : member (link i) (filter low (held-nodes y)) ≡ true =
-      member-filter (link i) low (held-nodes y) ∙ all2 (low (link i)) (member (link i) (held-nodes y)) (le-leb (link i) 64 (omega arith)) m in
+      member-filter (link i) low (held-nodes y) ∙ and-i (low (link i)) (member (link i) (held-nodes y)) (le-leb (link i) 64 (omega arith)) m in
       from-join of-link k (link i) (filter low (held-nodes y)) g (rw e (p .2))
 
   backward : (k : ℕ) → member k (placed-low y) ≡ true → member k (concat-map (places (y .nodes)) (marked-numbers nodes)) ≡ true
@@ -92,7 +92,7 @@ module _ (y : Machine) (nodes : List Bool) (n : length nodes ≡ 64) (x : Exactl
       let i : 0 < l = omega (arith, z) in
       let m : is-marked (number l) ≡ true = x .each l i (omega arith) ∙ q .1 in
       let g : member (number l) (filter is-marked (range 0 64)) ≡ true = member-filter (number l) is-marked (range 0 64)
-      ∙ all2 (is-marked (number l)) (member (number l) (range 0 64)) m (range-has (number l) 0 64 (omega arith) (omega arith)) in
+      ∙ and-i (is-marked (number l)) (member (number l) (range 0 64)) m (range-has (number l) 0 64 (omega arith) (omega arith)) in
       from-join (places (y .nodes)) k (number l) (filter is-marked (range 0 64)) g (p .2)
 
   pub same-places : (k : ℕ) → member k (concat-map (places (y .nodes)) (marked-numbers nodes)) ≡ member k (placed-low y)

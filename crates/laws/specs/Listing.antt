@@ -12,7 +12,7 @@ use Rattle.spec.specs.Lists.{if_then_else_, member, union, concat-map, ascendin
 use Rattle.spec.specs.Machine.{Machine}
 use Rattle.spec.specs.Words.{link, number, filled, size, place, places}
 use Rattle.spec.specs.Listed.{size-of, pred-of, place-of, slot, place-for, tags-of, head-of, in-bucket, in-set, placed-tags, node-tags, listed}
-use Rattle.laws.specs.Tests.{bool?, and2, or-l, or-r, if-true, all2}
+use Rattle.laws.specs.Tests.{bool?, and2, or-l, or-r, if-true, and-i}
 use Rattle.laws.specs.SoundFacts.{NodeLink, SoundFacts}
 use Rattle.laws.specs.Soundness.{named}
 use Rattle.laws.specs.Sizes.{listed-low, listed-high}
@@ -46,7 +46,7 @@ module _ (y : Machine) where
 
   pub means-in-bucket : (p k : ℕ) → ¬ (p ≡ 0) → member k (tags-of y p) ≡ true → in-bucket y p k ≡ true
   unfolding in-bucket
-  means-in-bucket p k n e = all2 (filled p) (member k (tags-of y p)) (true-filled p n) e
+  means-in-bucket p k n e = and-i (filled p) (member k (tags-of y p)) (true-filled p n) e
 
   pub in-set-means : (k : ℕ) → in-set y k ≡ true → (in-bucket y (place-for y (head-of y) k) k ≡ true)
       ⊎ ((place-for y (head-of y) k ≡ 0) × (¬ (pred-of y (head-of y) ≡ 0)) × (in-bucket y (place-for y (pred-of y (head-of y)) k) k ≡ true))

@@ -12,7 +12,7 @@ use Rattle.spec.specs.Lists.{ascending}
 use Rattle.spec.specs.Machine.{Machine}
 use Rattle.spec.specs.Words.{changeable, count, tags}
 use Rattle.spec.specs.Sound.{bucket-count, zeros, sound-bucket, sound-buckets}
-use Rattle.laws.specs.Tests.{and-left, and-right, and-i, and4, all4}
+use Rattle.laws.specs.Tests.{and-left, and-right, and-i, and4, and4-i}
 use Rattle.laws.specs.Lists.{zeros-at, all-zeros}
 use Rattle.laws.specs.SoundFacts.{BucketFacts}
 
@@ -71,7 +71,7 @@ module _ (y : Machine) (fits : length (y .buckets) ≡ 66 * bucket-count y) (k :
 
   pub facts-bucket : BucketFacts y k → sound-bucket bucket-words ≡ true
   unfolding sound-bucket
-  facts-bucket f = all4 _ _ _ _ t0 t1 t2 (all-zeros _ _ rest)
+  facts-bucket f = and4-i _ _ _ _ t0 t1 t2 (all-zeros _ _ rest)
     where
       t0 : leb (getD bucket-words 0 0) 1 ≡ true
       t0 = le-leb (getD bucket-words 0 0) 1 (rw bword-0 (f .flag))

@@ -14,7 +14,7 @@ use Rattle.spec.specs.Lists.{every}
 use Rattle.spec.specs.Machine.{Machine}
 use Rattle.spec.specs.Words.{number, filled, size, pred, place}
 use Rattle.spec.specs.Sound.{node-count, bucket-count, listed-size, zeros, node-link, bucket-link, sound-node, sound-nodes}
-use Rattle.laws.specs.Tests.{and-left, and-right, and-i, and4, all4, or-e, or-l, or-r}
+use Rattle.laws.specs.Tests.{and-left, and-right, and-i, and4, and4-i, or-e, or-l, or-r}
 use Rattle.laws.specs.Lists.{every-at, every-take, zeros-at, all-zeros}
 use Rattle.laws.specs.SoundFacts.{NodeLink, NodeFacts}
 use Rattle.laws.specs.Sizes.{Size, unused, used}
@@ -94,7 +94,7 @@ module _ (y : Machine) (k : ℕ) where
 
   pub facts-node : NodeFacts y k → sound-node y words ≡ true
   unfolding sound-node bucket-link
-  facts-node f = all4 _ _ _ _ t0 t1 t2 (all-zeros _ _ rest)
+  facts-node f = and4-i _ _ _ _ t0 t1 t2 (all-zeros _ _ rest)
     where
       t0 : (eqb (getD words 0 0) 0 || listed-size (getD words 0 0)) ≡ true
       t0 = rw word-0 (tests-size (f .size-ok))

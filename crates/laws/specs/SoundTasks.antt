@@ -12,7 +12,7 @@ use Rattle.spec.specs.declared.Task.{Task}
 use Rattle.spec.specs.Lists.{if_then_else_, member, every}
 use Rattle.spec.specs.Machine.{Machine, idle}
 use Rattle.spec.specs.Sound.{bucket-count, lines-of, resizes, node-link, bucket-link, sound-running, zero-task, sound-task, sound-tasks}
-use Rattle.laws.specs.Tests.{tf, and-left, and-right, and-i, and6, all6, or-e, if-true}
+use Rattle.laws.specs.Tests.{tf, and-left, and-right, and-i, and6, and6-i, or-e, if-true}
 use Rattle.laws.specs.Lists.{every-head, every-tail, every-cons, every-nil}
 use Rattle.laws.specs.SoundFacts.{RunFacts, TaskFacts, is-idle, runs}
 use Rattle.laws.specs.SoundNodes.{node-linked, link-noded}
@@ -59,7 +59,7 @@ module _ (y : Machine) (k : ℕ) (c : Task) where
 
   facts-run : RunFacts y k c → sound-running y k c ≡ true
   unfolding sound-running bucket-link
-  facts-run f = all6 _ _ _ _ _ _ (lt-ltb k (y .state .config .tasks) (f .below-T)) (f .line) (le-leb (c .i) 32 (f .i)) tag-test
+  facts-run f = and6-i _ _ _ _ _ _ (lt-ltb k (y .state .config .tasks) (f .below-T)) (f .line) (le-leb (c .i) 32 (f .i)) tag-test
       (every-cons _ _ _ (link-noded y (c .t) (f .t)) (every-cons _ _ _ (link-noded y (c .s) (f .s))
       (every-cons _ _ _ (link-noded y (c .«new_node») (f .new-node)) (every-nil _))))
       (every-cons _ _ _ (le-leb (c .b) (bucket-count y) (f .b)) (every-cons _ _ _ (le-leb (c .m) (bucket-count y) (f .m))

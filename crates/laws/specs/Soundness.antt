@@ -14,7 +14,7 @@ use Rattle.spec.specs.declared.Config.{Config}
 use Rattle.spec.specs.Machine.{Machine, idle, task-of}
 use Rattle.spec.specs.Words.{link, number, size}
 use Rattle.spec.specs.Sound.{within, config-sound, node-count, bucket-count, sound-nodes, sound-buckets, sound-tasks, sound-numbers, sound}
-use Rattle.laws.specs.Tests.{tf, and2, and4, all2, all4, passes, no-more, _also_, all-pass}
+use Rattle.laws.specs.Tests.{tf, and2, and4, and-i, and4-i, passes, no-more, _also_, all-pass}
 use Rattle.laws.specs.SoundNodes.{words, node-facts, at-nodes, nodes-at, facts-node}
 use Rattle.laws.specs.SoundFacts.{ConfigFacts, SoundFacts, RunFacts, NodeLink, TaskFacts, runs, is-idle}
 use Rattle.laws.specs.Sizes.{ListedSize, size-listed}
@@ -28,7 +28,7 @@ pub within-facts : (lo hi n : ℕ) → within lo hi n ≡ true → (lo ≤ n) ×
 within-facts lo hi n e = let p = and2 (leb lo n) (leb n hi) e in (leb-true lo n (p .0), leb-true n hi (p .1))
 
 facts-within : (lo hi n : ℕ) → lo ≤ n → n ≤ hi → within lo hi n ≡ true
-facts-within lo hi n a b = all2 (leb lo n) (leb n hi) (le-leb lo n a) (le-leb n hi b)
+facts-within lo hi n a b = and-i (leb lo n) (leb n hi) (le-leb lo n a) (le-leb n hi b)
 
 -- ---- what the state keeps of its opening
 
@@ -84,11 +84,10 @@ module _ (y : Machine) where
 
   pub facts-sound : SoundFacts y → sound y ≡ true
   unfolding sound sound-numbers words bucket-words task-of
-  facts-sound f = all4 _ _ _ _
+  facts-sound f = and4-i _ _ _ _
       (all-pass (facts-config _ (f .config) also facts-within 1 64 _ (f .H-low) (f .H-high) also facts-within 1 1024 _ (f .B-low) (f .B-high)
-      also eq-eqb _ _ (f .nodes-length) also eq-eqb _ _ (f .buckets-length) also lt-ltb _ _ (f .head) also lt-ltb _ _ (f .last-node) also lt-ltb _ _
-      (f .last-bucket)
-      also true-filled _ (f .head-sized) also lt-ltb _ _ (f .chosen) also no-more))
+      also eq-eqb _ _ (f .nodes-length) also eq-eqb _ _ (f .buckets-length) also lt-ltb _ _ (f .head) also lt-ltb _ _ (f .last-node)
+      also lt-ltb _ _ (f .last-bucket) also true-filled _ (f .head-sized) also lt-ltb _ _ (f .chosen) also no-more))
       (at-nodes y (node-count y) (y .nodes) (λ k q. facts-node y k (f .node k q)))
       (at-buckets (bucket-count y) (y .buckets) (λ k q. facts-bucket y (f .buckets-length) k q (f .bucket k q)))
       (at-tasks y 0 (y .state .task) (λ k. let z : 0 + k ≡ k = omega arith in rw z (facts-task y k (getD (y .state .task) k idle) (f .task k))))

@@ -18,7 +18,7 @@ use Rattle.spec.specs.Held.{free-node, free-bucket}
 use Rattle.spec.specs.Lines.{Effect, all-lines, find-line, effect, resized, gathered}
 use Rattle.spec.specs.StepRefusals.{through-empty, past-size, overfull-36, overfull-49, overfull, unlisted-size, unsound-step, all-held}
 use Rattle.spec.specs.Entries.{Reply, refuse, accept, step-running}
-use Rattle.laws.specs.Tests.{tf, and-none, and-never, or-l, or-r, or-none, nor2}
+use Rattle.laws.specs.Tests.{tf, and-none, and-never, or-l, or-r, or-none, or-none-i}
 use Rattle.laws.specs.Links.{filled-true, true-filled, false-filled}
 
 -- ---- a test of a step
@@ -99,8 +99,8 @@ one-fails (next {x} {xs} e) = or-r (fails x) (some-fails xs) (one-fails e)
 pub none-fails : (xs : List Test) → AllPass xs → some-fails xs ≡ false
 unfolding some-fails AllPass
 none-fails [] p = refl
-none-fails (x ∷ []) p = nor2 (fails x) false (passing x p) refl
-none-fails (x ∷ (z ∷ zs)) p = nor2 (fails x) _ (passing x (p .0)) (none-fails (z ∷ zs) (p .1))
+none-fails (x ∷ []) p = or-none-i (fails x) false (passing x p) refl
+none-fails (x ∷ (z ∷ zs)) p = or-none-i (fails x) _ (passing x (p .0)) (none-fails (z ∷ zs) (p .1))
 
 pub all-passed : (xs : List Test) → some-fails xs ≡ false → AllPass xs
 unfolding some-fails AllPass
@@ -157,7 +157,7 @@ row-passes (r ∷ rs) e (suc i) = row-passes rs (or-none (r .on && fails (r .tes
 pass-rows : {rs : List Row} → RowsPass rs → row-fails rs ≡ false
 unfolding row-fails
 pass-rows no-more = refl
-pass-rows (_also_ {r} {rs} p ps) = nor2 _ _ (and-never (r .on) (fails (r .test)) (λ h. passing (r .test) (p h))) (pass-rows ps)
+pass-rows (_also_ {r} {rs} p ps) = or-none-i _ _ (and-never (r .on) (fails (r .test)) (λ h. passing (r .test) (p h))) (pass-rows ps)
 
 -- ---- the table of the figure
 

@@ -18,7 +18,7 @@ use Rattle.spec.specs.Listed.{size-of, tags-of}
 use Rattle.spec.specs.Held.{free-node, free-bucket}
 use Rattle.spec.specs.Lines.{answer-36, frozen, resized, gathered}
 use Rattle.spec.specs.StepRefusals.{gains, overfull-36, unsound-step, all-held}
-use Rattle.laws.specs.Tests.{bool?, tf, and4, all4}
+use Rattle.laws.specs.Tests.{bool?, tf, and4, and4-i}
 use Rattle.laws.specs.Answers.{gains-yes}
 use Rattle.laws.specs.StepAt.{through-t, through-s, no-more, _also_, row-of, refusals, step-sound-row, rows-step-sound, step-table, taken-at}
 
@@ -55,7 +55,7 @@ module _ (y : Machine) (c : Task) where
       gaining = rw a
 
       go : (leb 64 (length (tags-of y (c .b))) ≡ true) ⊎ (leb 64 (length (tags-of y (c .b))) ≡ false) → length (tags-of y (c .b)) < 64
-      go (inl t) = absurd (tf (all4 _ _ _ _ may-change (eq-eqb (c .call) 1 q) t gaining) e)
+      go (inl t) = absurd (tf (and4-i _ _ _ _ may-change (eq-eqb (c .call) 1 q) t gaining) e)
       go (inr t) = leb-false 64 (length (tags-of y (c .b))) t
 
   pub has-room-36 : (frozen y (c .b) ≡ false → c .call ≡ 1 → answer-36 y c ≡ Yes → length (tags-of y (c .b)) < 64) → overfull-36 y c ≡ false

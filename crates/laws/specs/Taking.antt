@@ -17,7 +17,7 @@ use Rattle.spec.specs.Words.{link, filled}
 use Rattle.spec.specs.Sound.{node-count, bucket-count}
 use Rattle.spec.specs.Held.{held-nodes, held-buckets, first-free, cyclic-order, free-node, free-bucket}
 use Rattle.spec.specs.StepRefusals.{all-held}
-use Rattle.laws.specs.Tests.{bool?, tf, and2, all2, or-e, or-l, or-r, if-true, if-false}
+use Rattle.laws.specs.Tests.{bool?, tf, and2, and-i, or-e, or-l, or-r, if-true, if-false}
 use Rattle.laws.specs.SoundFacts.{SoundFacts}
 use Rattle.laws.specs.Links.{filled-false, false-filled}
 use Rattle.laws.specs.Held.{HeldNode, HeldBucket, member-held, member-held-bucket, held-member, held-bucket-member}
@@ -156,10 +156,10 @@ module _ (y : Machine) (f : SoundFacts y) where
   unfolding all-held
   means-all-held c (all-nodes p h) =
       or-l (eqb (c .line) 27 && not (filled (free-node y))) _
-      (all2 (eqb (c .line) 27) (not (filled (free-node y))) (eq-eqb (c .line) 27 p) (rw (false-filled (free-node y) (no-node-iff-all-held .1 h))))
+      (and-i (eqb (c .line) 27) (not (filled (free-node y))) (eq-eqb (c .line) 27 p) (rw (false-filled (free-node y) (no-node-iff-all-held .1 h))))
   means-all-held c (all-buckets p h) =
       or-r (eqb (c .line) 27 && not (filled (free-node y))) _
-      (all2 (eqb (c .line) 49) (not (filled (free-bucket y))) (eq-eqb (c .line) 49 p) (rw (false-filled (free-bucket y) (no-bucket-iff-all-held .1 h))))
+      (and-i (eqb (c .line) 49) (not (filled (free-bucket y))) (eq-eqb (c .line) 49 p) (rw (false-filled (free-bucket y) (no-bucket-iff-all-held .1 h))))
 
   -- a step is refused with 7 exactly then
   pub all-held-iff : (c : Task) → (all-held y c ≡ true) ↔ AllHeld y c

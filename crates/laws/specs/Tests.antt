@@ -63,17 +63,14 @@ and-none a b e f = rw f at e
 pub and2 : (a b : Bool) → (a && b) ≡ true → (a ≡ true) × (b ≡ true)
 and2 a b p = (and-left a b p, and-right a b p)
 
-pub all2 : (a b : Bool) → a ≡ true → b ≡ true → (a && b) ≡ true
-all2 a b p0 p1 = rw (p0, p1)
-
 pub and3 : (a b c : Bool) → (a && b && c) ≡ true → (a ≡ true) × (b ≡ true) × (c ≡ true)
 and3 a b c p = let q = and2 a b (and-left (a && b) c p) in (q .0, q .1, and-right (a && b) c p)
 
 pub and4 : (a b c d : Bool) → (a && b && c && d) ≡ true → (a ≡ true) × (b ≡ true) × (c ≡ true) × (d ≡ true)
 and4 a b c d p = let q = and3 a b c (and-left (a && b && c) d p) in (q .0, q .1, q .2, and-right (a && b && c) d p)
 
-pub all4 : (a b c d : Bool) → a ≡ true → b ≡ true → c ≡ true → d ≡ true → (a && b && c && d) ≡ true
-all4 a b c d p0 p1 p2 p3 = rw (p0, p1, p2, p3)
+pub and4-i : (a b c d : Bool) → a ≡ true → b ≡ true → c ≡ true → d ≡ true → (a && b && c && d) ≡ true
+and4-i a b c d p0 p1 p2 p3 = rw (p0, p1, p2, p3)
 
 pub and5 : (a b c d e : Bool) → (a && b && c && d && e) ≡ true → (a ≡ true) × (b ≡ true) × (c ≡ true) × (d ≡ true) × (e ≡ true)
 and5 a b c d e p = let q = and4 a b c d (and-left (a && b && c && d) e p) in (q .0, q .1, q .2, q .3, and-right (a && b && c && d) e p)
@@ -81,8 +78,8 @@ and5 a b c d e p = let q = and4 a b c d (and-left (a && b && c && d) e p) in (q 
 pub and6 : (a b c d e f : Bool) → (a && b && c && d && e && f) ≡ true → (a ≡ true) × (b ≡ true) × (c ≡ true) × (d ≡ true) × (e ≡ true) × (f ≡ true)
 and6 a b c d e f p = let q = and5 a b c d e (and-left (a && b && c && d && e) f p) in (q .0, q .1, q .2, q .3, q .4, and-right (a && b && c && d && e) f p)
 
-pub all6 : (a b c d e f : Bool) → a ≡ true → b ≡ true → c ≡ true → d ≡ true → e ≡ true → f ≡ true → (a && b && c && d && e && f) ≡ true
-all6 a b c d e f p0 p1 p2 p3 p4 p5 = rw (p0, p1, p2, p3, p4, p5)
+pub and6-i : (a b c d e f : Bool) → a ≡ true → b ≡ true → c ≡ true → d ≡ true → e ≡ true → f ≡ true → (a && b && c && d && e && f) ≡ true
+and6-i a b c d e f p0 p1 p2 p3 p4 p5 = rw (p0, p1, p2, p3, p4, p5)
 
 -- ---- a list of tests that all pass: the i-th of them passes; and from the fact of each back to all
 
@@ -102,14 +99,11 @@ unfolding all-true
 all-pass no-more = refl
 all-pass (_also_ {b} {bs} p q) = and-i b (all-true bs) p (all-pass q)
 
-pub none2 : (a b : Bool) → (a || b) ≡ false → (a ≡ false) × (b ≡ false)
-none2 a b p = or-none a b p
+pub or-none-i : (a b : Bool) → a ≡ false → b ≡ false → (a || b) ≡ false
+or-none-i a b p0 p1 = rw (p0, p1)
 
-pub nor2 : (a b : Bool) → a ≡ false → b ≡ false → (a || b) ≡ false
-nor2 a b p0 p1 = rw (p0, p1)
-
-pub none3 : (a b c : Bool) → (a || b || c) ≡ false → (a ≡ false) × (b ≡ false) × (c ≡ false)
-none3 a b c p = let r = or-none (a || b) c p in let q = none2 a b (r .0) in (q .0, q .1, r .1)
+pub or-none3 : (a b c : Bool) → (a || b || c) ≡ false → (a ≡ false) × (b ≡ false) × (c ≡ false)
+or-none3 a b c p = let r = or-none (a || b) c p in let q = or-none a b (r .0) in (q .0, q .1, r .1)
 
 -- a test that never passes where another does
 pub and-never : (a b : Bool) → (a ≡ true → b ≡ false) → (a && b) ≡ false

@@ -16,7 +16,7 @@ use Rattle.spec.specs.Machine.{Machine}
 use Rattle.spec.specs.Words.{number, filled, size, pred, place, tags}
 use Rattle.spec.specs.Sound.{sound, bucket-count}
 use Rattle.spec.specs.Listed.{slot, size-of, pred-of, place-of, place-for, tags-of, head-of, in-bucket, in-set, listed}
-use Rattle.laws.specs.Tests.{and2, all2, or-e, or-l, or-r, if-true, if-false, same-test}
+use Rattle.laws.specs.Tests.{and2, and-i, or-e, or-l, or-r, if-true, if-false, same-test}
 use Rattle.laws.specs.Lists.{member-append, no-member}
 use Rattle.laws.specs.Ascending.{Rising, ascending-rising, member-filter, rising-filter}
 use Rattle.laws.specs.SoundFacts.{NodeLink, SoundFacts}
@@ -57,7 +57,7 @@ module _ (g : Config) (ns bs : List ℕ) (head k : ℕ) (old : Bool) where
   unfolding place-tags looked-up
   place-at j t q h f =
       member-filter t (looked-up g ns head k old j) (linked-tags bs (place ns k j))
-      ∙ all2 (looked-up g ns head k old j t) _ (all2 (eqb (spot t) j) (left-over g ns head old t) (eq-eqb (spot t) j q) f) (rw q at h)
+      ∙ and-i (looked-up g ns head k old j t) _ (and-i (eqb (spot t) j) (left-over g ns head old t) (eq-eqb (spot t) j q) f) (rw q at h)
 
   pub met : (j n t : ℕ) → member t (places-tags g ns bs head k old j n) ≡ true → Met t j n
   unfolding places-tags

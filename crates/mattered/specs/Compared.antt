@@ -4,7 +4,7 @@ use mathlib.Core.List.{List, [], _∷_}
 use mathlib.Core.Bool.{true}
 use borrow.Author.Tests.{eqb-true, eq-eqb}
 use lib.Dec.{eqb}
-use Rattle.laws.specs.Tests.{tf, and2, and4, all4}
+use Rattle.laws.specs.Tests.{tf, and2, and4, and4-i}
 use Rattle.mattered.specs.EndedCalls.{EndedCall, same-call, same-calls}
 
 same-call-true : (a b : EndedCall) → same-call a b ≡ true → a ≡ b
@@ -19,7 +19,7 @@ same-call-true a b e =
 
 same-call-refl : (a : EndedCall) → same-call a a ≡ true
 unfolding same-call
-same-call-refl a = all4 _ _ _ _ (eq-eqb (a .task) _ refl) (eq-eqb (a .call) _ refl) (eq-eqb (a .tag) _ refl) (eq-eqb (a .answer) _ refl)
+same-call-refl a = and4-i _ _ _ _ (eq-eqb (a .task) _ refl) (eq-eqb (a .call) _ refl) (eq-eqb (a .tag) _ refl) (eq-eqb (a .answer) _ refl)
 
 pub same-calls-true : (xs ys : List EndedCall) → same-calls xs ys ≡ true → xs ≡ ys
 unfolding same-calls

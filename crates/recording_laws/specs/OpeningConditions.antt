@@ -11,7 +11,7 @@ use lib.Dec.{leb}
 use lib.ListN.{length, replicate, length-replicate}
 use Rattle.spec.specs.Lists.{if_then_else_}
 use Rattle.spec.specs.Sound.{within}
-use Rattle.laws.specs.Tests.{and-left, and-right, all2}
+use Rattle.laws.specs.Tests.{and-left, and-right, and-i}
 use Rattle.corollaries.specs.Tables.{Within, Records}
 use Rattle.corollaries.specs.Refusals.{refusal-1 as opening-1, refusal-2 as opening-2, refusal-3 as opening-3, refusal-11 as opening-11}
 use Rattle.session.specs.declared.Header.{Header}
@@ -35,7 +35,7 @@ module _ (width most limit n : ℕ) (some : (k : ℕ) → 1 ≤ k → 1 ≤ widt
   within-words : Within 1 most n → Records width limit (pool-words width most n)
   unfolding pool-words
   within-words p =
-      let e : within 1 most n ≡ true = all2 (leb 1 n) (leb n most) (le-leb 1 n (p .0)) (le-leb n most (p .1)) in
+      let e : within 1 most n ≡ true = and-i (leb 1 n) (leb n most) (le-leb 1 n (p .0)) (le-leb n most (p .1)) in
       record { number = n; some = p .0; few = omega arith; words = rw e (length-replicate (width * n) 0) }
 
 abbrev nodes-within : (h : Header) → Records 34 64 (pool-words 34 64 (h .nodes)) → Within 1 64 (h .nodes)

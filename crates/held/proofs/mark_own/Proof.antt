@@ -44,8 +44,9 @@ loop-less c = search needs
 
 loop-again : tie.Need-loop-again Inv-loop μ-loop
 loop-again c =
-    let loop = c .before .before .before .before .before .before .loop in
-    let start = c .before .before .before .before .before .before .before .before .before in
+    let in-loop = c .before .before .before .before .before .before in
+    let loop = in-loop .loop in
+    let start = in-loop .before .before .before in
     let a = start .args in
     let ts = a .s .task in
     let marks = c .before .before .mark-task-buckets .ensures in

@@ -76,16 +76,18 @@ loop-less c = search needs
 
 loop-again : tie.Need-loop-again Inv-loop μ-loop
 loop-again c =
-    let a = c .before .before .before .before .before .before .before .before .before .before .before .args in
+    let loop = c .before .before .before .loop in
+    let at-load = c .before .before .before .before .before .before in
+    let a = at-load .before .before .before .before .before .args in
     let g = a .g in
     let f = looked-up g (now (a .ns)) (a .head) (a .k) (a .old) (a .j) in
-    let ws = c .before .before .before .before .before .before .load .result .words in
+    let ws = at-load .load .result .words in
     let ts = tags-in ws in
-    let i = c .before .before .before .loop .i in
+    let i = loop .i in
     let h : i < length ts = omega arith in
     let t : getD ts i 0 ≡ getD ws (2 + i) 0 = tag-at ws i h in
     let test = ap f t ∙ sym (c .before .is-looked-up .ensures) in
-    let v = c .before .before .before .loop .inv .2 in
+    let v = loop .inv .2 in
     ⊎-elim
     (λ w. (omega arith, omega arith, omega (arith, ap length (pass f ts i h (test ∙ w .0 .taken)))))
     (λ w. (omega arith, omega arith, omega (arith, ap length (skip f ts i h (test ∙ w .0 .left)))))

@@ -73,10 +73,10 @@ loop-less c = search needs
 loop-again : tie.Need-loop-again Inv-loop μ-loop
 loop-again c =
     let loop = c .before .before .before .loop in
-    let loaded = c .before .before .before .before .before .before .load in
-    let a = c .before .before .before .before .before .before .before .before .before .before .before .args in
+    let at-load = c .before .before .before .before .before .before in
+    let a = at-load .before .before .before .before .before .args in
     let f = looked-up (a .g) (now (a .ns)) (a .head) (a .k) (a .old) (a .j) in
-    let ws = loaded .result .words in
+    let ws = at-load .load .result .words in
     let ts = tags-in ws in
     let i = loop .i in
     let h : i < length ts = omega arith in

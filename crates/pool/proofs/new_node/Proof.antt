@@ -52,9 +52,10 @@ same-length c = search needs
 returns-2 : tie.Need-returns-2
 unfolding node-of write-front
 returns-2 c =
-    let a = c .before .before .before .before .before .before .before .args in
+    let at-if1 = c .before .before .before .before .before in
+    let a = at-if1 .before .before .args in
     let p = now (a .ns) in
-    let i = c .before .before .before .before .before .if1 .left in
+    let i = at-if1 .if1 .left in
     let d = drop (34 * a .k) p in
     let v = node-of (a .size) (a .pred) in
     let l : 34 ≤ length d = rw (length-drop (34 * a .k) p) (omega arith) in

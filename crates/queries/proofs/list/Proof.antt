@@ -86,8 +86,9 @@ same-length c = search needs
 returns-4 : tie.Need-returns-4
 unfolding overwrite write-front
 returns-4 c =
-    let counted = c .before .before .before .before .before .before .before .count in
-    let at-room = c .before .before .before .before .before .before .before .before .before in
+    let at-count = c .before .before .before .before .before .before .before in
+    let counted = at-count .count in
+    let at-room = at-count .before .before in
     let at-full = at-room .before in
     let held = at-full .before .gather in
     let at-sound = at-full .before .before in

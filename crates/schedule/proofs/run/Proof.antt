@@ -23,8 +23,9 @@ same-length-2 c = search needs
 
 returns : tie.Need-returns
 returns c =
-    let a = c .before .before .before .before .before .before .before .before .before .before .before .before .before .before .args in
-    let o = c .before .before .before .before .before .before .«open» .ensures in
+    let at-open = c .before .before .before .before .before .before in
+    let a = at-open .before .before .before .before .before .before .before .before .args in
+    let o = at-open .«open» .ensures in
     let d = c .if1 .taken in (
       not-run (a .g) (now (a .ns)) (now (a .bs)) (now (a .events)) (now (a .outs)) (now (a .tags)) _ (o .0) _ (o .1) d,
       (λ z. absurd (d z), (λ z. absurd (d z), λ z. absurd (d z))),

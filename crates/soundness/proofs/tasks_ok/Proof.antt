@@ -71,8 +71,9 @@ unsound-requires c κs = search needs
 
 returns : tie.Need-returns Inv-loop μ-loop Inv-loop2 μ-loop2
 returns c =
-    let loop = c .before .before .before .before .before .loop in
-    let first = c .before .before .before .before .before .before .before .before in
+    let in-loop = c .before .before .before .before .before in
+    let loop = in-loop .loop in
+    let first = in-loop .before .before .before in
     λ y e s.
     let fails = sym (c .before .before .task-ok .ensures y e (tasks-of s) (nodes-of s) (buckets-of s)) ∙ not-true _ (c .before .if1 .taken) in
     let none = loop .inv .3 y e (tasks-of s) (nodes-of s) (buckets-of s) ∙ tasks-no y (first .args .s .task) (loop .k) _ (omega (arith, len first)) fails in

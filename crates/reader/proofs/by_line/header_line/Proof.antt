@@ -48,12 +48,13 @@ same-length-2 c = search needs
 returns : tie.Need-returns
 unfolding header-line
 returns c =
-    let at-match = c .before .before .before .before .before .before .before .before .before .before .before .before .before .before .before .before .before in
+    let at-if1 = c .before .before .before .before .before .before .before in
+    let at-open-machine2 = at-if1 .before .before .before .before .before .before in
+    let at-match = at-open-machine2 .before .before .before .before in
     let at-header-line = at-match .before .before in
     let entry = at-header-line .before .before .before .before .before in
     let told = sym (at-header-line .header-line .ensures) ∙ at-match .h2 .given .1 in
-    let o = c .before .before .before .before .before .before .before .before .before .before .before .before .before .open-machine2 in
-    let at-if1 = c .before .before .before .before .before .before .before in
+    let o = at-open-machine2 .open-machine2 in
     rw told (opened-turn _ (o .result) _ _ (o .ensures) _ (sym (at-if1 .before .awaits-event .ensures) ∙ at-if1 .if1 .taken) _ _ _
     (c .before .before .before .before .turn-line .ensures))
 
@@ -79,11 +80,12 @@ same-length-4 c = search needs
 
 returns-3 : tie.Need-returns-3
 returns-3 c =
-    let at-match = c .before .before .before .before .before .before .before .before .before in
+    let at-next-number2 = c .before .before .before .before .before .before .before in
+    let at-match = at-next-number2 .before .before in
     let at-header-line = at-match .before .before in
     let entry = at-header-line .before .before .before .before .before in
     let told = sym (at-header-line .header-line .ensures) ∙ at-match .h .given .1 in
-    rw told (completes (entry .args .r) _ _ _ _ _ _ _ _ (c .before .before .before .before .before .before .before .next-number2 .ensures)
+    rw told (completes (entry .args .r) _ _ _ _ _ _ _ _ (at-next-number2 .next-number2 .ensures)
     (c .before .before .before .before .open-machine .ensures))
 
 same-length-5 : tie.Need-same-length-5
@@ -95,11 +97,12 @@ same-length-6 c = search needs
 returns-4 : tie.Need-returns-4
 unfolding header-line
 returns-4 c =
-    let at-match = c .before .before .before .before .before .before .before .before .before .before in
+    let at-open-machine2 = c .before .before .before .before .before .before in
+    let at-match = at-open-machine2 .before .before .before .before in
     let at-header-line = at-match .before .before in
     let entry = at-header-line .before .before .before .before .before in
     let told = sym (at-header-line .header-line .ensures) ∙ at-match .h2 .given .1 in
-    let o = c .before .before .before .before .before .before .open-machine2 in
+    let o = at-open-machine2 .open-machine2 in
     rw told (opened-stays _ (o .result) _ _ (o .ensures) _ (sym (c .before .awaits-event .ensures) ∙ c .if1 .left))
 
 returns-5 : tie.Need-returns-5

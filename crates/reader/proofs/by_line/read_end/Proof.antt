@@ -31,14 +31,15 @@ same-length-2 c = search needs
 returns : tie.Need-returns
 unfolding phase-end
 returns c =
-    let at-match = c .before .before .before .before .before .before .before .before .before .before .before .before in
+    let at-open-machine = c .before .before .before .before .before in
+    let at-if1 = at-open-machine .before .before .before .before in
+    let at-match = at-if1 .before .before .before in
     let at-missing = at-match .before .before in
     let entry = at-missing .before .before .before in
     let call = entry .args in
     reads-end (call .r) (Due (at-match .phase .given .0 .0)) (at-match .phase .given .1) _ _ _ _ _ _
-    (rw (sym (c .before .before .before .before .before .before .before .before .before .before .optional .ensures)
-    ∙ c .before .before .before .before .before .before .before .before .before .if1 .taken)
-    (ends-opened _ _ _ _ (c .before .before .before .before .before .open-machine .ensures) _ _ (at-missing .missing .ensures) _ (c .answer-at-end .ensures)))
+    (rw (sym (at-if1 .before .optional .ensures) ∙ at-if1 .if1 .taken)
+    (ends-opened _ _ _ _ (at-open-machine .open-machine .ensures) _ _ (at-missing .missing .ensures) _ (c .answer-at-end .ensures)))
 
 enum-told : tie.Need-enum-told
 enum-told c = search needs
