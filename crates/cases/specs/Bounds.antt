@@ -1,5 +1,5 @@
 -- "66 × 1,024 pass, 66 × 1,025 give 3": openings with the largest bucket pool and with one bucket more. Assumes nothing.
-use Prim.Native.Nat.{ℕ, _*_}
+use Prim.Native.Nat.{_*_}
 use mathlib.Core.Path.{_≡_, refl}
 use mathlib.Core.List.{[], _∷_, map}
 use Rattle.spec.specs.Everything.{everything}

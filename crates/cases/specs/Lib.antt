@@ -1,4 +1,10 @@
 pub mod Table
 pub mod OurCases
 pub mod Bounds
+pub mod ListedRows
+pub mod StepRefusalRows
+pub mod SpoiltRows
+pub mod SpoiltTaskRows
 pub mod SpoiltLengths
+pub mod HistoryRows
+pub mod OrderExamples

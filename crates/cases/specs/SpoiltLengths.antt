@@ -1,5 +1,5 @@
--- Rows of spoilt memory: H, B and the slices' lengths, each wrong by itself, and right at its bound. As `SpoiltRows` of spec for the other
--- conditions of refusal 8; they stand here, since the largest pools take time. Assumes nothing.
+-- Rows of spoilt memory: H, B and the slices' lengths, each wrong by itself, and right at its bound, as SpoiltRows for the other
+-- conditions of refusal 8. Assumes nothing.
 use Prim.Native.Nat.{ℕ, _*_}
 use mathlib.Core.Path.{_≡_, refl}
 use mathlib.Core.List.{List, [], _∷_, _++_, map}
@@ -8,7 +8,7 @@ use Rattle.spec.specs.Machine.{Machine, machine-of, config-of}
 use Rattle.spec.specs.Entries.{show}
 use Rattle.spec.specs.Everything.{everything}
 use Rattle.spec.specs.WholeRows.{config_H_B_head_last-node_last-bucket_tasks_, node, bucket, whole-rows}
-use Rattle.spec.specs.SpoiltRows.{said, refusing, spoilt, sound-with-5}
+use Rattle.cases.specs.SpoiltRows.{said, refusing, spoilt, sound-with-5}
 
 -- H and B, and after node 0 and bucket 0 so many more words
 unfoldable pub long : ℕ → ℕ → ℕ → ℕ → Machine

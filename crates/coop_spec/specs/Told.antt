@@ -7,6 +7,9 @@ use mathlib.Core.Bool.{true, false}
 use native.Mathlib.Omega.{arith}
 use lib.ListN.{replicate}
 use Rattle.coop_spec.specs.declared.Call.the-variants.{InvokeInsert, Freeze, GetResponse}
+use Rattle.coop_spec.specs.Machine.{Machine}
+use Rattle.coop_spec.specs.Entries.{opening}
+use Rattle.coop_spec.specs.Schedule.{run}
 use Rattle.coop_spec.specs.Atomic.{AtomicCall, invoke, freeze, get-response, Result, boolean, tag-set, empty-bucket}
 use Rattle.coop_spec.specs.History.{History, Ended, Occurrence, operations, history}
 use Rattle.coop_spec.specs.Linearizable.{Answers, EachOnce, In, Timely, here, there}
@@ -46,10 +49,14 @@ pub order-answers : Answers (operations (told .machine)) empty-bucket order
 unfolding everything stepping calling told order
 order-answers = (refl, (refl, (refl, (refl, (refl, tt)))))
 
+-- operation 0, an insert of 5, has been invoked
+unfoldable pub invoked : Machine
+invoked = run (opening 2 (replicate 66 7) .machine) (calling 0 InvokeInsert 0 5 0) .machine
+
 -- a second invoke of operation 0 is told yes and does nothing: its response stays what it was
-pub again-answers : Answers (operations (told .machine)) empty-bucket
+pub again-answers : Answers (operations invoked) empty-bucket
     (called 0 0 (invoke 0) (boolean true) ∷ called 1 1 (invoke 0) (boolean true) ∷ called 0 2 (get-response 0) (boolean true) ∷ [])
-unfolding everything stepping calling told
+unfolding everything stepping calling invoked
 again-answers = (refl, (refl, (refl, tt)))
 
 -- ---- orders that are none
@@ -62,13 +69,13 @@ untimely t =
     omega arith
 
 -- nor does the atomic bucket give its answer there, nor let an invoke after a freeze take effect
-pub wrong-answer : ¬ Answers (operations (told .machine)) empty-bucket (called 0 34 (get-response 0) (boolean true) ∷ [])
-unfolding everything stepping calling told
+pub wrong-answer : ¬ Answers (operations invoked) empty-bucket (called 0 34 (get-response 0) (boolean true) ∷ [])
+unfolding everything stepping calling invoked
 wrong-answer a = let z : _≡_ {A = ℕ} 0 1 = cc in omega arith
 
-pub after-the-freeze : ¬ Answers (operations (told .machine)) empty-bucket
+pub after-the-freeze : ¬ Answers (operations invoked) empty-bucket
     (called 0 36 freeze (tag-set []) ∷ called 1 43 (invoke 0) (boolean true) ∷ [])
-unfolding everything stepping calling told
+unfolding everything stepping calling invoked
 after-the-freeze (_, (a, _)) = let z : _≡_ {A = ℕ} 0 1 = cc in omega arith
 
 -- nor does a call stand in it twice

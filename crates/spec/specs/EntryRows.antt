@@ -13,7 +13,7 @@ use Rattle.spec.specs.Machine.{Machine, machine-of, config-of, zero-conf
 use Rattle.spec.specs.Entries.{Opened, opening, Reply, start, step, show}
 use Rattle.spec.specs.Everything.{everything}
 use Rattle.spec.specs.WholeRows.{call_tag_line_i_own_t_s_b_m_n_new-node_new-bucket_, config_H_B_head_last-node_last-bucket_tasks_, node, bucket, yard}
-use Rattle.spec.specs.WholeRows.{whole-rows}
+use Rattle.spec.specs.WholeRows.{stopped, whole-rows}
 
 -- ---- openings, over pools of sevens
 
@@ -110,6 +110,15 @@ pub eight-first :
     ≡ refuses 8 (worn ∷ []) ∷ refuses 8 (worn ∷ []) ∷ refuses 8 (worn ∷ wants-node ∷ []) ∷ refuses 7 (insert-at-33 ∷ wants-node ∷ []) ∷ []
 unfolding everything whole-rows small insert-at-33 replies refuses worn wants-node
 eight-first = refl
+
+-- 8 also where an idle task's record is not zeros: it has made a step
+
+unfoldable pub left-over : Task
+left-over = stopped (call 0 tag 0 line 0 i 0 own 1 t 0 s 0 b 0 m 0 n 0 new-node 0 new-bucket 0)
+
+pub eight-for-an-idle-task : step (small (insert-at-33 ∷ left-over ∷ [])) 0 ≡ refuses 8 (insert-at-33 ∷ left-over ∷ [])
+unfolding everything whole-rows small insert-at-33 replies refuses left-over
+eight-for-an-idle-task = refl
 
 -- ---- show: each bucket's tags, none past the pool, none in spoilt memory
 

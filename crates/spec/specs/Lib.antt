@@ -19,14 +19,9 @@ pub mod ContainsExamples
 pub mod WholeRows
 pub mod LineRows
 pub mod FillRows
-pub mod ListedRows
 pub mod FullRows
 pub mod HeldRows
-pub mod SpoiltRows
-pub mod SpoiltTaskRows
-pub mod StepRefusalRows
+pub mod RefusalOrderRows
 pub mod EntryRows
 pub mod VersionRows
 pub mod WithdrawnRows
-pub mod OrderExamples
-pub mod HistoryRows

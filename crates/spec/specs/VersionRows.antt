@@ -1,6 +1,6 @@
 -- Rows of sets of version 2 (paper 02, U3): tags whose first digits agree share a place at every size, lines 13, 16, 17, 33, 49 and the
--- listing go by tag div 10, line 43 by the place's number; the opening's 11 comes after 3; another version in the state is 8. Assumes
--- nothing.
+-- listing go by tag div 10, line 43 by the place's number; the opening's 11 comes after 3 (another version in the state: SpoiltRows of
+-- `cases`). Assumes nothing.
 use Prim.Native.Nat.{ℕ}
 use mathlib.Core.Path.{_≡_, refl}
 use mathlib.Core.List.{List, [], _∷_, _++_, map}
@@ -16,7 +16,6 @@ use Rattle.spec.specs.Rows.{Case, observed, expected, stepping, calling,
 use Rattle.spec.specs.WholeRows.{call_tag_line_i_own_t_s_b_m_n_new-node_new-bucket_, config_H_B_head_last-node_last-bucket_tasks_}
 use Rattle.spec.specs.WholeRows.{node, bucket, pool, Row, told, stepped, goes, keeps, whole-rows}
 use Rattle.spec.specs.EntryRows.{opened, not-opened-by}
-use Rattle.spec.specs.SpoiltRows.{said, refusing, spoilt, sound-with-5, some-nodes, some-buckets}
 
 unfoldable pub version-2 : ℕ → Config
 version-2 t' = with-version 2 (config-of t')
@@ -140,17 +139,3 @@ eleven-last = refl
 pub zero-version : opened (with-version 3 (config-of 2)) 34 66 .machine .state .config .version ≡ 0
 unfolding everything opened
 zero-version = refl
-
--- ---- the version that a state keeps
-
-unfoldable pub versioned : ℕ → Machine
-versioned v =
-    machine-of (config (with-version v (config-of 2)) H 3 B 2 head 0 last-node 0 last-bucket 0 tasks []) (pool some-nodes) (pool some-buckets)
-
-pub versions-spoilt : said (versioned 0) ∷ said (versioned 3) ∷ [] ≡ spoilt (versioned 0) ∷ spoilt (versioned 3) ∷ []
-unfolding everything whole-rows said refusing spoilt some-nodes some-buckets versioned
-versions-spoilt = refl
-
-pub versions-sound : said (versioned 1) ∷ said (versioned 2) ∷ [] ≡ sound-with-5 (versioned 1) ∷ sound-with-5 (versioned 2) ∷ []
-unfolding everything whole-rows said refusing sound-with-5 some-nodes some-buckets versioned
-versions-sound = refl

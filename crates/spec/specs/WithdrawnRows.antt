@@ -10,12 +10,12 @@ use Rattle.spec.specs.declared.Config.{Config}
 use Rattle.spec.specs.declared.Occupancy.the-variants.{Tags}
 use Rattle.spec.specs.declared.Output.the-variants.{At, End, Refuse}
 use Rattle.spec.specs.declared.Task.{Task}
-use Rattle.spec.specs.Machine.{Machine, machine-of, config-of, with-version, with-zero-withdrawn, idle}
-use Rattle.spec.specs.Entries.{Reply, start, step}
+use Rattle.spec.specs.Machine.{Machine, machine-of, config-of, with-version, with-zero-withdrawn}
+use Rattle.spec.specs.Entries.{start, step}
 use Rattle.spec.specs.Listed.{listed}
 use Rattle.spec.specs.Everything.{everything}
 use Rattle.spec.specs.WholeRows.{call_tag_line_i_own_t_s_b_m_n_new-node_new-bucket_, config_H_B_head_last-node_last-bucket_tasks_}
-use Rattle.spec.specs.WholeRows.{node, bucket, pool, whole-rows}
+use Rattle.spec.specs.WholeRows.{node, bucket, whole-rows}
 use Rattle.spec.specs.EntryRows.{opened, not-opened-by, insert-at-33, worn, replies}
 
 -- two tasks, of version 2, under this rule

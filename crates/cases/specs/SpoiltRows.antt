@@ -1,18 +1,18 @@
 -- Rows of spoilt memory: for each condition of refusal 8 a memory that breaks it and nothing else, and for each bound a memory at the
--- bound, which is sound (H, B and the slices' lengths: SpoiltLengths of `cases`; a task's record: SpoiltTaskRows). Start and step are asked
+-- bound, which is sound (H, B and the slices' lengths: SpoiltLengths; a task's record: SpoiltTaskRows). Start and step are asked
 -- for a task that is not there, the list has no room: 8 comes before 4 and 9. Assumes nothing.
 use Prim.Native.Nat.{ℕ}
 use mathlib.Core.Path.{_≡_, refl}
 use mathlib.Core.List.{List, [], _∷_, _++_, map}
 use lib.ListN.{replicate}
 use Rattle.spec.specs.declared.Call.the-variants.{Insert}
 use Rattle.spec.specs.declared.Listing.the-variants.{Refused}
 use Rattle.spec.specs.declared.Output.the-variants.{Refuse}
 use Rattle.spec.specs.Lists.{range}
-use Rattle.spec.specs.Machine.{Machine, machine-of, config-of, with-chosen}
+use Rattle.spec.specs.Machine.{Machine, machine-of, config-of, with-version, with-chosen}
 use Rattle.spec.specs.Entries.{Reply, Written, start, step, list, show}
 use Rattle.spec.specs.Everything.{everything}
 use Rattle.spec.specs.WholeRows.{config_H_B_head_last-node_last-bucket_tasks_, node, bucket, pool, whole-rows}
 
 -- ---- what the entries say of a memory
 
@@ -67,6 +67,20 @@ right-numbers = numbered 1 0 0 0 ∷ numbered 8 0 0 0 ∷ numbered 2 1 2 1 ∷ w
 pub numbers-sound : map said right-numbers ≡ map sound-with-5 right-numbers
 unfolding everything whole-rows said refusing sound-with-5 some-nodes some-buckets numbered right-numbers
 numbers-sound = refl
+
+-- ---- the version that a state keeps
+
+unfoldable pub versioned : ℕ → Machine
+versioned v =
+    machine-of (config (with-version v (config-of 2)) H 3 B 2 head 0 last-node 0 last-bucket 0 tasks []) (pool some-nodes) (pool some-buckets)
+
+pub versions-spoilt : said (versioned 0) ∷ said (versioned 3) ∷ [] ≡ spoilt (versioned 0) ∷ spoilt (versioned 3) ∷ []
+unfolding everything whole-rows said refusing spoilt some-nodes some-buckets versioned
+versions-spoilt = refl
+
+pub versions-sound : said (versioned 1) ∷ said (versioned 2) ∷ [] ≡ sound-with-5 (versioned 1) ∷ sound-with-5 (versioned 2) ∷ []
+unfolding everything whole-rows said refusing sound-with-5 some-nodes some-buckets versioned
+versions-sound = refl
 
 -- ---- one node or bucket in the place of another
 

@@ -1,17 +1,16 @@
 -- Rows of the refusals of a step: 8 where its line goes through an empty place, uses a place at or past its node's size or makes a
--- node of an unlisted size (a 65th tag: FullRows), and 8 before 7. Nothing changes. Assumes nothing.
-use Prim.Native.Nat.{ℕ}
+-- node of an unlisted size (a 65th tag: FullRows of spec; 7, and 8 before 7: RefusalOrderRows of spec). Nothing changes. Assumes nothing.
 use mathlib.Core.Path.{_≡_, refl}
 use mathlib.Core.List.{List, [], _∷_, map}
 use Rattle.spec.specs.declared.Answer.the-variants.{No, Lost}
 use Rattle.spec.specs.declared.Output.{Output}
 use Rattle.spec.specs.declared.Output.the-variants.{At}
 use Rattle.spec.specs.declared.Task.{Task}
 use Rattle.spec.specs.Machine.{Machine}
 use Rattle.spec.specs.Entries.{step}
 use Rattle.spec.specs.Everything.{everything}
 use Rattle.spec.specs.Rows.{ended, counted}
 use Rattle.spec.specs.WholeRows.{call_tag_line_i_own_t_s_b_m_n_new-node_new-bucket_, node, bucket, yard, Row, told, stepped, refused, whole-rows}
 
 -- node 0 is head with one place, node 1 has two, node 2 has four and is free, and so is bucket 2
 unfoldable pub three : Task → Machine
@@ -101,7 +100,7 @@ pub sparse-accepted :
 unfolding everything whole-rows three sparse out-of
 sparse-accepted = refl
 
--- ---- a place at or past its node's size, an unlisted size, and 7
+-- ---- a place at or past its node's size, an unlisted size
 
 unfoldable pub size-rows : List Row
 size-rows =
@@ -120,33 +119,6 @@ size-rows =
     ∷ call 5 tag 0 line 27 i 0 own 1 t 1 s 0 b 1 m 1 n 1 new-node 0 new-bucket 1
     ∷ [])
 
--- t is node 0, of this size, with no predecessor
-unfoldable pub sized-t : ℕ → Task → Machine
-sized-t sz c = yard 1 0 0 (node sz 0 [] ∷ node 1 0 (1 ∷ []) ∷ node 1 0 [] ∷ []) (bucket 1 (5 ∷ []) ∷ []) (c ∷ [])
-
--- every node is held, every bucket is held
-unfoldable pub all-taken : Task → Machine
-all-taken c = yard 0 0 0 (node 1 2 (1 ∷ []) ∷ node 2 0 (0 ∷ 2 ∷ []) ∷ []) (bucket 1 (5 ∷ []) ∷ bucket 1 [] ∷ []) (c ∷ [])
-
-unfoldable pub order-rows : List Row
-order-rows =
-    -- line 47 and no s, where place 0 + 1 of node 0 would be one
-    refused 8 (sized-t 4) (call 1 tag 5 line 47 i 0 own 1 t 2 s 0 b 1 m 1 n 1 new-node 1 new-bucket 1)
-    -- twice 32
-    ∷ refused 8 (sized-t 32) (call 4 tag 0 line 27 i 0 own 1 t 1 s 0 b 0 m 0 n 0 new-node 0 new-bucket 0)
-    -- 7
-    ∷ refused 7 all-taken (call 4 tag 0 line 27 i 0 own 1 t 1 s 0 b 0 m 0 n 0 new-node 0 new-bucket 0)
-    ∷ refused 7 all-taken (call 1 tag 5 line 49 i 0 own 1 t 1 s 0 b 0 m 1 n 0 new-node 0 new-bucket 0)
-    -- an empty place or an unlisted size, and 7 too: 8
-    ∷ refused 8 all-taken (call 4 tag 0 line 27 i 0 own 1 t 0 s 0 b 0 m 0 n 0 new-node 0 new-bucket 0)
-    ∷ refused 8 all-taken (call 5 tag 0 line 27 i 0 own 1 t 1 s 0 b 0 m 0 n 0 new-node 0 new-bucket 0)
-    ∷ refused 8 all-taken (call 1 tag 5 line 49 i 0 own 1 t 1 s 0 b 0 m 0 n 0 new-node 0 new-bucket 0)
-    ∷ []
-
 pub size-rows-hold : map stepped size-rows ≡ map told size-rows
 unfolding everything whole-rows three size-rows
 size-rows-hold = refl
-
-pub order-rows-hold : map stepped order-rows ≡ map told order-rows
-unfolding everything whole-rows sized-t all-taken order-rows
-order-rows-hold = refl

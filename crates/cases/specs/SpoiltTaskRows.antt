@@ -2,13 +2,13 @@
 use Prim.Native.Nat.{ℕ}
 use mathlib.Core.Path.{_≡_, refl}
 use mathlib.Core.List.{List, [], _∷_, map}
 use Rattle.spec.specs.declared.Task.{Task}
 use Rattle.spec.specs.Lists.{member, range, filter}
 use Rattle.spec.specs.Machine.{Machine, idle}
 use Rattle.spec.specs.Entries.{show}
 use Rattle.spec.specs.Everything.{everything}
 use Rattle.spec.specs.WholeRows.{call_tag_line_i_own_t_s_b_m_n_new-node_new-bucket_, stopped, node, bucket, yard, whole-rows}
-use Rattle.spec.specs.SpoiltRows.{said, refusing, spoilt, sound-with-5, some-nodes, some-buckets}
+use Rattle.cases.specs.SpoiltRows.{said, refusing, spoilt, sound-with-5, some-nodes, some-buckets}
 
 -- the tasks of a yard with three nodes, the last of them never used, and two buckets
 unfoldable pub with-tasks : List Task → Machine
