@@ -185,6 +185,17 @@ pub fn start(
     if !sound(state, nodes, buckets) {
         return Err(Refusal::Corrupt);
     }
+    start_unscanned(state, task, call, tag)
+}
+
+/// A start of memory that is sound.
+#[inline(always)]
+pub fn start_unscanned(
+    state: &mut State,
+    task: u32,
+    call: Call,
+    tag: u32,
+) -> Result<Output, Refusal> {
     if task >= state.tasks {
         return Err(Refusal::NoSuchTask);
     }
@@ -214,6 +225,17 @@ pub fn step(
     if !sound(state, nodes, buckets) {
         return Err(Refusal::Corrupt);
     }
+    step_unscanned(state, nodes, buckets, task)
+}
+
+/// A step of memory that is sound.
+#[inline(always)]
+pub fn step_unscanned(
+    state: &mut State,
+    nodes: &mut [u32],
+    buckets: &mut [u32],
+    task: u32,
+) -> Result<Output, Refusal> {
     if task >= state.tasks {
         return Err(Refusal::NoSuchTask);
     }

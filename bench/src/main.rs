@@ -33,7 +33,7 @@ use std::env;
 use std::process::ExitCode;
 
 const DEFAULT_EVENTS: u64 = 4_000_000;
-const USAGE: &str = "usage: bench check [events] | bench time | bench count ROW plain|schedule|calls EVENTS | bench example";
+const USAGE: &str = "usage: bench check [events] | bench time | bench count ROW plain|unscanned|schedule|calls EVENTS | bench example";
 
 fn command(arguments: &[&str]) -> Result<(), String> {
     match arguments {

@@ -5,12 +5,16 @@ use crate::owned::Owned;
 use crate::random::{Random, Shape};
 use crate::schedule::{self, encode_event, Event, Opening, Run, EVENT_WORDS};
 
-/// The implementations by name, the plain one first.
+/// The implementations by name, the plain one first, then the plain one without its scans.
 #[cfg(not(feature = "proved"))]
-pub const IMPLEMENTATIONS: [(&str, Run); 1] = [("plain", schedule::run)];
-#[cfg(feature = "proved")]
-pub const IMPLEMENTATIONS: [(&str, Run); 3] = [
+pub const IMPLEMENTATIONS: [(&str, Run); 2] = [
     ("plain", schedule::run),
+    ("unscanned", schedule::run_unscanned),
+];
+#[cfg(feature = "proved")]
+pub const IMPLEMENTATIONS: [(&str, Run); 4] = [
+    ("plain", schedule::run),
+    ("unscanned", schedule::run_unscanned),
     ("schedule", crate::proved::run),
     ("calls", crate::proved::run_by_calls),
 ];

@@ -116,6 +116,7 @@ fn decode_refusal(value: u32) -> Option<Refusal> {
     .find(|&r| r as u32 == value)
 }
 
+#[inline(always)]
 pub fn apply(
     state: &mut State,
     nodes: &mut [u32],
@@ -128,9 +129,57 @@ pub fn apply(
     }
 }
 
+/// The same, of memory that is sound: without the scan.
+fn apply_unscanned(
+    state: &mut State,
+    nodes: &mut [u32],
+    buckets: &mut [u32],
+    event: Event,
+) -> Result<Output, Refusal> {
+    match event {
+        Event::Start(task, call, tag) => machine::start_unscanned(state, task, call, tag),
+        Event::Step(task) => machine::step_unscanned(state, nodes, buckets, task),
+    }
+}
+
+type Apply = fn(&mut State, &mut [u32], &mut [u32], Event) -> Result<Output, Refusal>;
+
 /// Opens with the two pools, runs every event, writing an output for each, and lists the
 /// tags at the end. A refused opening writes nothing. `outputs` has room for every event.
 pub fn run(
+    opening: Opening,
+    nodes: &mut [u32],
+    buckets: &mut [u32],
+    events: &[u32],
+    outputs: &mut [u32],
+    tags: &mut [u32],
+) -> u32 {
+    run_with(apply, opening, nodes, buckets, events, outputs, tags)
+}
+
+/// The same without a scan before each event: memory stays sound.
+pub fn run_unscanned(
+    opening: Opening,
+    nodes: &mut [u32],
+    buckets: &mut [u32],
+    events: &[u32],
+    outputs: &mut [u32],
+    tags: &mut [u32],
+) -> u32 {
+    run_with(
+        apply_unscanned,
+        opening,
+        nodes,
+        buckets,
+        events,
+        outputs,
+        tags,
+    )
+}
+
+#[inline(always)]
+fn run_with(
+    apply: Apply,
     opening: Opening,
     nodes: &mut [u32],
     buckets: &mut [u32],

@@ -3,7 +3,7 @@
 use Prim.Native.Nat.{ℕ, suc, _+_, _*_, _-_, _≤_, _<_}
 use mathlib.Core.Path.{_≡_, refl, sym, ap, _∙_, subst}
 use mathlib.Core.List.{List, [], _∷_}
-use mathlib.Core.Bool.{not, _||_}
+use mathlib.Core.Bool.{true, not, _||_}
 use native.Mathlib.Omega.{arith}
 use borrow.Author.Tests.{eq-eqb, ne-eqb, ltb-false}
 use lib.Dec.{eqb, leb, ltb}
@@ -19,6 +19,7 @@ use Rattle.spec.specs.Sound.{sound}
 use Rattle.spec.specs.Listed.{listed}
 use Rattle.spec.specs.Entries.{opening, Reply, Written, list}
 use Rattle.laws.specs.Tests.{choose, or-none}
+use Rattle.laws.specs.EntriesKeep.{event-keeps}
 use Rattle.spec.specs.Schedule.{Event, event, run, run-opened, schedule}
 use Rattle.schedule_words.specs.Events.{events-of, listing-number}
 use Rattle.schedule_words.specs.EventLaws.{events-length, event-at, events-on, events-end}
@@ -53,6 +54,11 @@ module _ {y₀ : Machine} {w₀ : List ℕ} {es₀ : List Event} {y : Machine} {
         words = l .words ∙ over-then w i (output-words o) (concat-map output-words (run (event y e .machine) es .outs)) (omega arith)
             ∙ ap (λ (j : ℕ). overwrite (overwrite w i (output-words o)) j (concat-map output-words (run (event y e .machine) es .outs))) q;
       }
+
+-- ---- an event keeps memory sound
+
+pub stays-sound : (y : Machine) (v : Event) → sound y ≡ true → (r : Reply) → r ≡ event y v → sound (r .machine) ≡ true
+stays-sound y v s r e = rw e (event-keeps y v s)
 
 -- ---- event i of n
 

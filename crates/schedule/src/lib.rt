@@ -5,12 +5,14 @@ use spec::Config;
 use spec::Listing;
 use spec::State;
 ghost use mathlib.Core.Path.{_≡_};
+ghost use mathlib.Core.Bool.{true};
 ghost use Prim.Native.Nat.{_*_, _≤_};
 ghost use lib.ListN.{length};
 ghost use Rattle.spec.specs.Lists.{concat-map};
 ghost use Rattle.spec.specs.Numbers.{output-words};
 ghost use Rattle.spec.specs.Machine.{machine-of};
 ghost use Rattle.spec.specs.Words.{overwrite};
+ghost use Rattle.spec.specs.Sound.{sound};
 ghost use Rattle.spec.specs.Schedule.{event, run, schedule};
 ghost use Rattle.spec.specs.Linearizable.{Linearizable};
 ghost use Rattle.spec.specs.ContainsSteps.{ContainsExact};
@@ -28,18 +30,21 @@ pub struct Outcome {
     pub listing: Listing,
 }
 
-// Runs one event, given by its words; gives what it changes of the state.
+// Runs one event, given by its words; gives what it changes of the state. Memory is sound, and is not scanned again.
 fn run_event(s: State, kind: u32, task: u32, tag: u32, ns: &mut [u32], bs: &mut [u32]) -> Moved
+    requires { ⌜ sound (machine-of s (now ns) (now bs)) ≡ true ⌝ }
     ensures { λ r. ⌜ moved-reply s task r (now (ns .exit)) (now (bs .exit)) ≡ event (machine-of s (now (ns .entry)) (now (bs .entry)))
         (event-of kind task tag) ⌝ }
 {
+    let d = soundness::known_sound(s, task);
     match schedule_words::asked_by(kind) {
-        Asked::Start(call) => hashset::moved_by_start(s, task, call, tag, ns, bs),
-        Asked::Step => hashset::moved_by_step(s, task, ns, bs),
+        Asked::Start(call) => checked_start::start(s, d, task, call, tag),
+        Asked::Step => checked_step::step(s, d, task, ns, bs),
     }
 }
 
-// Runs the first n events and writes their outputs. The state is changed in place, as `settle` of lines has it.
+// Runs the first n events and writes their outputs. The state is changed in place, as `settle` of lines has it. Memory is sound before
+// the first event, and every event keeps it so.
 fn run_events(
     s: State,
     n: usize,
@@ -48,7 +53,7 @@ fn run_events(
     bs: &mut [u32],
     outs: &mut [u32],
 ) -> State
-    requires { ⌜ (4 * n ≤ length (now events)) × (4 * n ≤ length (now outs)) ⌝ }
+    requires { ⌜ (4 * n ≤ length (now events)) × (4 * n ≤ length (now outs)) × (sound (machine-of s (now ns) (now bs)) ≡ true) ⌝ }
     ensures { λ r. ⌜ (machine-of r (now (ns .exit)) (now (bs .exit)) ≡ run (machine-of s (now (ns .entry)) (now (bs .entry)))
         (events-of n (now (events .entry))) .machine)
         × (now (outs .exit) ≡ overwrite (now (outs .entry)) 0 (concat-map output-words

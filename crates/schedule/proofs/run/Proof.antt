@@ -4,6 +4,8 @@
 -- Assumes nothing.
 use denote.Ref.{now}
 use Rattle.schedule.specs.Encoding.{room-for, decoded}
+use native.Mathlib.Omega.{arith}
+use Rattle.laws.specs.OpeningSound.{opening-sound}
 use Rattle.linear.specs.Theorems.{linearizable, contains-exact}
 use Rattle.pace.specs.Theorems.{steps-within}
 use mathlib.Core.Path.{sym, _∙_}
@@ -35,7 +37,13 @@ number-of-events-requires : tie.Need-number-of-events-requires
 number-of-events-requires c κs = search needs
 
 run-events-requires : tie.Need-run-events-requires
-run-events-requires c κs = search needs
+run-events-requires c κs =
+    let at-number = c .before .before .before in
+    let at-open = at-number .before .before .before .before .before .before .before in
+    let a = at-open .before .before .before .before .before .before .before .before .args in
+    let o = at-open .«open» .ensures in
+    let accepted = sym (o .0) ∙ at-number .before .if1 .left in
+    (omega arith, omega arith, rw (o .1) (opening-sound (a .g) (now (a .ns)) (now (a .bs)) accepted))
 
 list-requires : tie.Need-list-requires
 list-requires c κs = search needs

@@ -5,10 +5,13 @@ use denote.Ref.{now}
 use Prim.Native.Nat.{_≤_, _+_, _-_, _*_}
 use mathlib.Core.Path.{_≡_, refl, sym, _∙_}
 use lib.ListN.{length, drop, getD}
+use mathlib.Core.Bool.{true}
+use Rattle.spec.specs.Sound.{sound}
 use Rattle.spec.specs.Machine.{machine-of, state-head, state-last-node, state-last-bucket, state-task}
 use Rattle.lines.proofs.Settling.{changes-below, moved-on, moved-off}
 use Rattle.schedule_words.specs.Events.{events-of}
-use Rattle.schedule.proofs.Laws.{Rest, rest-start, turn, finished}
+use Rattle.schedule_words.specs.EventLaws.{event-at}
+use Rattle.schedule.proofs.Laws.{Rest, rest-start, stays-sound, turn, finished}
 use native.Mathlib.Omega.{arith}
 use borrow.Author.Needs.{needs}
 use Rattle.schedule.proofs.run_events.Statement.{statement}
@@ -17,6 +20,7 @@ use Rattle.schedule.proofs.run_events.Tie as tie
 abbrev Inv-loop : tie.InvT-loop
 Inv-loop n events ns₀ bs₀ outs₀ t₀ i₀ ns bs outs t i =
     (i ≤ n) × (length ns ≡ length ns₀) × (length bs ≡ length bs₀) × (length outs ≡ length outs₀)
+    × (sound (machine-of t ns bs) ≡ true)
     × Rest (machine-of t₀ ns₀ bs₀) outs₀ (events-of n events) (machine-of t ns bs) outs (4 * i) (events-of (n - i) (drop (4 * i) events))
 
 abbrev μ-loop : tie.MeasureT-loop
@@ -24,8 +28,9 @@ abbrev μ-loop : tie.MeasureT-loop
 
 loop-holds : tie.Need-loop-holds Inv-loop μ-loop
 loop-holds c =
-    let a = c .before .before .before .before .args in
-    (omega arith, refl, refl, refl, rest-start (now (a .events)) (a .n) 0 _ _)
+    let start = c .before .before .before .before in
+    let a = start .args in
+    (omega arith, refl, refl, refl, start .pre .2, rest-start (now (a .events)) (a .n) 0 _ _)
 
 add-next : tie.Need-add-next Inv-loop μ-loop
 add-next c = search needs
@@ -58,7 +63,9 @@ shared-slice-read-run-event-2 : tie.Need-shared-slice-read-run-event-2 Inv-loop 
 shared-slice-read-run-event-2 c = search needs
 
 run-event-requires : tie.Need-run-event-requires Inv-loop μ-loop
-run-event-requires c κs = search needs
+run-event-requires c κs =
+    let at-loop = c .before .before .before .before .before .before in
+    at-loop .loop .inv .4
 
 write-output-requires : tie.Need-write-output-requires Inv-loop μ-loop
 write-output-requires c κs = search needs
@@ -92,12 +99,14 @@ loop-again c =
     let m = at-event .run-event in
     let o = at-write .write-output in
     let k = getD (now (start .args .events)) (4 * l .i + 1) 0 in
-    let q = sym (c .before .before .changes .ensures) ∙ c .before .if1 .taken in (
+    let q = sym (c .before .before .changes .ensures) ∙ c .before .if1 .taken in
+    let reply = moved-on (l .t) k (m .result) _ _ (m .ensures) q in (
       omega arith,
       m .kept .1 .1 .1 .1 .0 ∙ l .inv .1,
       m .kept .1 .1 .1 .1 .1 .0 ∙ l .inv .2,
       o .kept .0 ∙ l .inv .3,
-      turn (now (start .args .events)) (start .args .n) (l .i) h (omega arith) (l .inv .4) _ (moved-on (l .t) k (m .result) _ _ (m .ensures) q) _ (o .ensures),
+      stays-sound _ (event-at (now (start .args .events)) (l .i)) (l .inv .4) _ reply,
+      turn (now (start .args .events)) (start .args .n) (l .i) h (omega arith) (l .inv .5) _ reply _ (o .ensures),
     )
 
 loop-less-2 : tie.Need-loop-less-2 Inv-loop μ-loop
@@ -116,12 +125,14 @@ loop-again-2 c =
     let m = at-event .run-event in
     let o = at-write .write-output in
     let k = getD (now (start .args .events)) (4 * l .i + 1) 0 in
-    let q = sym (c .before .changes .ensures) ∙ c .if1 .left in (
+    let q = sym (c .before .changes .ensures) ∙ c .if1 .left in
+    let reply = moved-off (l .t) k (m .result) _ _ (m .ensures) q in (
       omega arith,
       m .kept .1 .1 .1 .1 .0 ∙ l .inv .1,
       m .kept .1 .1 .1 .1 .1 .0 ∙ l .inv .2,
       o .kept .0 ∙ l .inv .3,
-      turn (now (start .args .events)) (start .args .n) (l .i) h (omega arith) (l .inv .4) _ (moved-off (l .t) k (m .result) _ _ (m .ensures) q) _ (o .ensures),
+      stays-sound _ (event-at (now (start .args .events)) (l .i)) (l .inv .4) _ reply,
+      turn (now (start .args .events)) (start .args .n) (l .i) h (omega arith) (l .inv .5) _ reply _ (o .ensures),
     )
 
 same-length : tie.Need-same-length Inv-loop μ-loop
@@ -137,7 +148,7 @@ returns : tie.Need-returns Inv-loop μ-loop
 returns c =
     let l = c .before .loop in
     let a = c .before .before .before .before .before .before .args in
-    finished (now (a .events)) (a .n) (l .i) (omega arith) (l .inv .4)
+    finished (now (a .events)) (a .n) (l .i) (omega arith) (l .inv .5)
 
 pub run-events-spec : {M : Type 1} → statement M
 run-events-spec =

@@ -1,4 +1,4 @@
--- `hashset::step_checked` meets its contract: each early return is a refusal of `step`; past them the task runs, and stands at a line of
+-- `checked_step::step` meets its contract: each early return is a refusal of `step`; past them the task runs, and stands at a line of
 -- the procedure that its number's range names. Assumes nothing.
 use mathlib.Core.Path.{_≡_, refl, sym, ap, _∙_}
 use mathlib.Core.List.{List}
@@ -15,10 +15,10 @@ use Rattle.spec.specs.Entries.{step, step-running}
 use Rattle.soundness.specs.declared.Checked.{Checked}
 use Rattle.lines.specs.Running.{contains-lines, resize-lines, apply-lines, init-bucket-lines, Runs}
 use Rattle.lines.proofs.Giving.{gives-as, refusing}
-use Rattle.hashset.proofs.Laws.{step-idle, step-goes, tells, reads, runs-as, facts-as}
-use Rattle.hashset.proofs.Ranges.{at-contains, at-resize, at-apply, at-init-bucket}
-use Rattle.hashset.proofs.step_checked.Statement.{statement}
-use Rattle.hashset.proofs.step_checked.Tie as tie
+use Rattle.checked_start.proofs.Laws.{step-idle, step-goes, tells, reads, runs-as, facts-as}
+use Rattle.checked_step.proofs.Ranges.{at-contains, at-resize, at-apply, at-init-bucket}
+use Rattle.checked_step.proofs.step.Statement.{statement}
+use Rattle.checked_step.proofs.step.Tie as tie
 
 -- ---- what is known at a place
 
@@ -155,8 +155,8 @@ returns-6 c =
     let at-if5 = called .before .before .before in
     gives-as (sym (goes (at-if5 .before .before .before))) (called .step4 .ensures)
 
-pub step-checked-spec : {M : Type 1} → statement M
-step-checked-spec =
+pub step-spec : {M : Type 1} → statement M
+step-spec =
     tie.close
     (tie.spec
     barred-requires

@@ -1,9 +1,9 @@
--- `hashset::barred` meets its contract: its two tests are the first two of `start` and of `step`. Assumes nothing.
+-- `checked_start::barred` meets its contract: its two tests are the first two of `start` and of `step`. Assumes nothing.
 use mathlib.Core.Path.{sym, _∙_}
 use borrow.Author.Tests.{not-true, not-false}
-use Rattle.hashset.proofs.Laws.{barred-8, barred-4, barred-0}
-use Rattle.hashset.proofs.barred.Statement.{statement}
-use Rattle.hashset.proofs.barred.Tie as tie
+use Rattle.checked_start.proofs.Laws.{barred-8, barred-4, barred-0}
+use Rattle.checked_start.proofs.barred.Statement.{statement}
+use Rattle.checked_start.proofs.barred.Tie as tie
 
 returns : tie.Need-returns
 returns c = λ y o g. barred-8 y (c .before .args .k) (sym o ∙ not-true _ (c .if1 .taken))

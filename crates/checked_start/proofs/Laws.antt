@@ -17,7 +17,7 @@ use Rattle.spec.specs.Entries.{refuse, withdrawn, start, started, step, step-ru
 use Rattle.spec.specs.declared.Output.the-variants.{At}
 use Rattle.soundness.specs.Told.{told, checked-of}
 use Rattle.soundness.specs.declared.Checked.{Checked}
-use Rattle.hashset.specs.Barred.{Barred}
+use Rattle.checked_start.specs.Barred.{Barred}
 
 module _ (y : Machine) (k : ℕ) where
   pub step-spoilt : sound y ≡ false → step y k ≡ refuse 8 y

@@ -1,13 +1,13 @@
--- `hashset::start_checked` meets its contract: each return is the case of `start` that its tests lead to. Assumes nothing.
+-- `checked_start::start` meets its contract: each return is the case of `start` that its tests lead to. Assumes nothing.
 use mathlib.Core.Path.{refl, sym, _∙_}
 use borrow.Author.Needs.{needs}
 use borrow.Author.Tests.{lt-ltb}
 use Rattle.spec.specs.Machine.{with-task, with-state, state-head, state-last-node, state-last-bucket, state-task, set-task, machine-of}
 use Rattle.lines.specs.Reply.{changes, settled}
 use Rattle.lines.proofs.Giving.{refusing, going}
-use Rattle.hashset.proofs.Laws.{start-busy, start-withdrawn, start-goes, below-8, tells, runs-as}
-use Rattle.hashset.proofs.start_checked.Statement.{statement}
-use Rattle.hashset.proofs.start_checked.Tie as tie
+use Rattle.checked_start.proofs.Laws.{start-busy, start-withdrawn, start-goes, below-8, tells, runs-as}
+use Rattle.checked_start.proofs.start.Statement.{statement}
+use Rattle.checked_start.proofs.start.Tie as tie
 
 barred-requires : tie.Need-barred-requires
 barred-requires c κs = search needs
@@ -76,8 +76,8 @@ returns-4 c =
     let goes = start-goes y (a .k) (a .call) (a .tag) (passed .0) (passed .1) rests w in
     going low (rw (c .begun .ensures, low) (sym goes))
 
-pub start-checked-spec : {M : Type 1} → statement M
-start-checked-spec =
+pub start-spec : {M : Type 1} → statement M
+start-spec =
     tie.close
     (tie.spec
     barred-requires

@@ -1,8 +1,8 @@
--- `hashset::withdrawn` meets its contract: each arm is the clause of `withdrawn` for its call. Assumes nothing.
+-- `checked_start::withdrawn` meets its contract: each arm is the clause of `withdrawn` for its call. Assumes nothing.
 use borrow.Author.Needs.{needs}
 use Rattle.spec.specs.Entries.{withdrawn}
-use Rattle.hashset.proofs.withdrawn.Statement.{statement}
-use Rattle.hashset.proofs.withdrawn.Tie as tie
+use Rattle.checked_start.proofs.withdrawn.Statement.{statement}
+use Rattle.checked_start.proofs.withdrawn.Tie as tie
 
 enum-told : tie.Need-enum-told
 enum-told c = search needs
