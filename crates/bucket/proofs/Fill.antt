@@ -21,7 +21,8 @@ use Rattle.bucket.specs.declared.Response.{Response}
 use Rattle.bucket.specs.declared.Response.the-variants.{Yes, No, Full}
 use Rattle.bucket.specs.Bucket.{tags-in, rank, found, added, changed}
 use Rattle.bucket.proofs.Response.{the-type}
-use Rattle.bucket.proofs.Laws.{add-rank, add-present}
+use Rattle.bucket_words.proofs.Laws.{add-rank}
+use Rattle.bucket.proofs.Laws.{add-present}
 use Rattle.bucket.proofs.Pad.{padded, words-bucket, tags-of-bucket}
 
 pub length-add : (x : ℕ) (ts : List ℕ) → length ts ≤ length (add-tag x ts)

@@ -1,33 +1,17 @@
--- A bucket by value: its 66 words, and what the search, add, remove and freeze make of them, for any words.
+-- A bucket by value: what add, remove and freeze make of its 66 words, for any words.
 -- Assumes nothing.
-use mathlib.Core.List.{List, [], _∷_}
-use mathlib.Core.Bool.{Bool, _&&_}
-use Prim.Native.Nat.{ℕ, suc}
-use lib.ListN.{length, getD, take, drop, set}
-use lib.Dec.{leb, ltb, eqb}
+use mathlib.Core.List.{List}
+use Prim.Native.Nat.{ℕ}
+use lib.ListN.{length, getD, set}
+use lib.Dec.{leb, eqb}
 use Rattle.spec.specs.Lists.{if_then_else_, add-tag, remove-tag}
 use Rattle.spec.specs.Words.{bucket-of}
 use Rattle.bucket.specs.declared.Bucket.{Bucket}
 use Rattle.bucket.specs.declared.Changed.{Changed}
 use Rattle.bucket.specs.declared.Response.{Response}
 use Rattle.bucket.specs.declared.Response.the-variants.{Yes, No, Frozen, Full}
-
--- the tags of a bucket's own 66 words: `tags ws 0` of the pool that they are by themselves
-abbrev pub tags-in : List ℕ → List ℕ
-tags-in ws = take (getD ws 1 0) (drop 2 ws)
-
--- how many tags at the front are below x: the position at which the search ends
-unfoldable pub rank : ℕ → List ℕ → ℕ
-rank x [] = 0
-rank x (y ∷ ys) = if ltb y x then suc (rank x ys) else 0
-
--- the tag stands at position p
-unfoldable pub stands-at : ℕ → ℕ → List ℕ → Bool
-stands-at p x ts = ltb p (length ts) && eqb (getD ts p 0) x
-
--- the search finds x: of an ascending list this is `member x ts`
-unfoldable pub found : ℕ → List ℕ → Bool
-found x ts = stands-at (rank x ts) x ts
+pub use Rattle.bucket_search.specs.Tags.{tags-in}
+unfoldable pub use Rattle.bucket_search.specs.Tags.{rank, stands-at, found}
 
 -- the next words and the answer, with the number of tags that these words have
 abbrev pub changed : List ℕ → Response → Changed

@@ -1,19 +1,20 @@
 // A bucket of at most 64 tags, by value: 66 words. Its methods take it by value and hand back the next bucket with the answer.
 // Every contract holds for any words: what a bucket says of its tags, `tags-in` of specs/, is defined for all of them.
-use spec::Config;
 ghost use mathlib.Core.Path.{_≡_};
-ghost use mathlib.Core.Bool.{true, false};
-ghost use Prim.Native.Nat.{_+_, _%_, _≤_, _<_};
-ghost use lib.ListN.{length, drop};
+ghost use mathlib.Core.Bool.{true};
+ghost use Prim.Native.Nat.{_≤_};
+ghost use lib.ListN.{length};
 ghost use lib.Dec.{ltb};
-ghost use lib.Seq.{paste};
-ghost use Rattle.spec.specs.Lists.{filter, ascending, add-tag, remove-tag};
+ghost use Rattle.spec.specs.Lists.{filter, ascending};
 ghost use Rattle.spec.specs.Words.{bucket-of};
-ghost use Rattle.spec.specs.Listed.{key, slot};
 ghost use Rattle.bucket.specs.Bucket.{rank, stands-at, found, tags-in, added, removed, frozen-of, changed};
 
+// The number of a tag's place, passed on to those who look a bucket up.
+pub use slots::remainder;
+pub use slots::slot;
+
 // A bucket's words, and the most tags that it may have.
-pub const WORDS: usize = 66;
+pub const WORDS: usize = bucket_words::WORDS;
 
 pub const MOST_TAGS: usize = 64;
 
@@ -38,42 +39,6 @@ pub struct Changed {
     pub count: u32,
 }
 
-// n mod size, n itself for size 0. A place's number, which is no tag, goes through this alone.
-pub fn remainder(n: u32, size: u32) -> u32
-    ensures { λ r. ⌜ r ≡ n % size ⌝ }
-{
-    if size == 0 { n } else { n % size }
-}
-
-// What of a tag is taken mod a node's size in a set opened so: in version 2 the tag without its check digit.
-pub fn key(g: Config, tag: u32) -> u32
-    ensures { λ r. ⌜ r ≡ key g tag ⌝ }
-{
-    if g.version == 2 { tag / 10 } else { tag }
-}
-
-// The number of a tag's place in a node of this size.
-pub fn slot(g: Config, tag: u32, size: u32) -> u32
-    ensures { λ r. ⌜ r ≡ slot g tag size ⌝ }
-{
-    let k = key(g, tag);
-    remainder(k, size)
-}
-
-// d with n words of s, from word `from`, put at word `at`.
-fn copied(d: [u32; WORDS], at: usize, s: &[u32], from: usize, n: usize) -> [u32; WORDS]
-    requires { ⌜ (at + n ≤ 66) × (from + n ≤ length (now s)) ⌝ }
-    ensures { λ r. ⌜ r ≡ paste d at (drop from (now (s .entry))) n ⌝ }
-{
-    let mut out = d;
-    let mut i = 0;
-    while i < n {
-        out[at + i] = s[from + i];
-        i += 1;
-    }
-    out
-}
-
 impl Bucket {
     // How many tags it has, at most 64.
     pub fn count(self) -> usize
@@ -94,15 +59,8 @@ impl Bucket {
         ensures most { λ r. ⌜ r ≤ 64 ⌝ }
         ensures below { λ r. ⌜ (ascending (tags-in (self .words)) ≡ true → r ≡ length (filter (λ k. ltb k tag) (tags-in (self .words)))) ⌝ }
     {
-        let n = self.count() as u8;
-        let mut i: u8 = 0;
-        while i < n {
-            if tag <= self.words[2 + i as usize] {
-                return i;
-            }
-            i += 1;
-        }
-        i
+        let n = self.count();
+        bucket_search::position(&self.words, n as u8, tag)
     }
 
     // The tag stands at position p.
@@ -124,37 +82,6 @@ impl Bucket {
         self.stands_at(p, tag)
     }
 
-    // The changeable bucket with a tag more, at position p.
-    fn put(self, n: usize, p: usize, tag: u32) -> Bucket
-        requires { ⌜ (n ≡ length (tags-in (self .words))) × (n < 64) × (p ≤ n) × (p ≡ rank tag (tags-in (self .words)))
-            × (found tag (tags-in (self .words)) ≡ false) ⌝ }
-        ensures { λ r. ⌜ r .words ≡ bucket-of 1 (add-tag tag (tags-in (self .words))) ⌝ }
-    {
-        let w = self.words;
-        let mut out = [0u32; WORDS];
-        out[0] = 1;
-        out[1] = n as u32 + 1;
-        out = copied(out, 2, &w, 2, p);
-        out[2 + p] = tag;
-        out = copied(out, 3 + p, &w, 2 + p, n - p);
-        Bucket { words: out }
-    }
-
-    // The changeable bucket without the tag at position p.
-    fn cut(self, n: usize, p: usize, tag: u32) -> Bucket
-        requires { ⌜ (n ≡ length (tags-in (self .words))) × (n ≤ 64) × (p < n) × (p ≡ rank tag (tags-in (self .words)))
-            × (found tag (tags-in (self .words)) ≡ true) ⌝ }
-        ensures { λ r. ⌜ r .words ≡ bucket-of 1 (remove-tag tag (tags-in (self .words))) ⌝ }
-    {
-        let w = self.words;
-        let mut out = [0u32; WORDS];
-        out[0] = 1;
-        out[1] = n as u32 - 1;
-        out = copied(out, 2, &w, 2, p);
-        out = copied(out, 2 + p, &w, 3 + p, n - 1 - p);
-        Bucket { words: out }
-    }
-
     pub fn add(self, tag: u32) -> Changed
         ensures { λ r. ⌜ r ≡ added self tag ⌝ }
     {
@@ -170,7 +97,9 @@ impl Bucket {
         if MOST_TAGS <= n {
             return answered(self, Response::Full);
         }
-        let b = self.put(n, p as usize, tag);
+        let b = Bucket {
+            words: bucket_words::put(&self.words, n, p as usize, tag),
+        };
         answered(b, Response::Yes)
     }
 
@@ -184,7 +113,9 @@ impl Bucket {
         let p = self.position(tag);
         if self.stands_at(p, tag) {
             let n = self.count();
-            let b = self.cut(n, p as usize, tag);
+            let b = Bucket {
+                words: bucket_words::cut(&self.words, n, p as usize, tag),
+            };
             return answered(b, Response::Yes);
         }
         answered(self, Response::No)
@@ -216,11 +147,10 @@ pub fn opened(b: Bucket) -> Bucket
     ensures { λ r. ⌜ r .words ≡ bucket-of 1 (tags-in (b .words)) ⌝ }
 {
     let n = b.count();
-    let w = b.words;
     let mut out = [0u32; WORDS];
     out[0] = 1;
     out[1] = n as u32;
     Bucket {
-        words: copied(out, 2, &w, 2, n),
+        words: bucket_words::copied(out, 2, &b.words, 2, n),
     }
 }

@@ -1,18 +1,15 @@
--- Which lines stand between two numbers, and what an accepted opening's pool is. Assumes nothing.
+-- Which lines stand between two numbers. Assumes nothing.
 use mathlib.Core.Path.{_≡_, refl, ap, _∙_}
 use mathlib.Core.List.{List, [], _∷_}
-use mathlib.Core.Bool.{Bool, true, _&&_, _||_}
-use Prim.Native.Nat.{ℕ, zero, suc, _*_, _%_, _/_, _<_, _≤_}
+use mathlib.Core.Bool.{Bool, true, _||_}
+use Prim.Native.Nat.{ℕ, zero, suc, _<_, _≤_}
 use native.Mathlib.Omega.{arith}
-use borrow.Author.Tests.{eqb-true, leb-true, le-ltb, lt-leb}
+use borrow.Author.Tests.{eqb-true, le-ltb, lt-leb}
 use lib.Dec.{leb, ltb, eqb}
 use Rattle.laws.specs.Tests.{tf, and-left, and-right, or-case}
 use Rattle.spec.specs.Lists.{member, every}
-use Rattle.spec.specs.Entries.{pool-fits}
 use Rattle.coop_spec.specs.Sound.{invoke-lines, member-lines, help-lines, freeze-lines, lines-of}
 use Rattle.coop_sound.proofs.Laws as calls
-
--- ---- lines
 
 -- of the lines xs, those from lo to below hi are among ys
 module _ (lo hi l : ℕ) (ys : List ℕ) (from : lo ≤ l) (below : l < hi) where
@@ -48,18 +45,3 @@ known (suc (suc (suc (suc zero)))) l e = narrow 0 (suc l) l every-line (omega ar
 known (suc (suc (suc (suc (suc zero))))) l e = narrow 0 (suc l) l every-line (omega arith) (omega arith) calls.response-call refl e
 known (suc (suc (suc (suc (suc (suc n)))))) l e =
     absurd (tf e (ap (member l) (calls.lines-past (suc (suc (suc (suc (suc (suc n)))))) (omega arith))))
-
--- ---- a pool of versions that fits
-
-pub record Pool (n : ℕ) : Type 0 where
-  pub whole : 66 * (n / 66) ≡ n
-  pub most : n / 66 ≤ 1024
-
-pub pool-of : (n : ℕ) → pool-fits 66 1024 n ≡ true → Pool n
-unfolding pool-fits
-pool-of n e =
-    let a : Bool = eqb (n % 66) 0 in
-    let b : Bool = leb 1 (n / 66) in
-    let c : Bool = leb (n / 66) 1024 in
-    let z = eqb-true (n % 66) 0 (and-left a (b && c) e) in
-    record { whole = omega arith; most = leb-true _ _ (and-right b c (and-right a (b && c) e)) }

@@ -4,8 +4,8 @@ use crate::flat;
 use crate::vars::DIFFERS;
 use crate::vars::FIRST_VERSIONS;
 use crate::vars::RAN;
-use coop::Opened;
 use coop_lines::Stepped;
+use coop_opening::Opened;
 use coop_reference::words::ASKED_K;
 use coop_reference::words::ASKED_N;
 use coop_reference::words::ASKED_TAG;
@@ -106,7 +106,7 @@ fn open(m: &mut [u32], lent: usize) {
     if m.len() < end {
         return;
     }
-    let r = coop::open(get(m, ASKED_K), &mut m[from..end]);
+    let r = coop_opening::open(get(m, ASKED_K), &mut m[from..end]);
     compare_open(m, r);
 }
 

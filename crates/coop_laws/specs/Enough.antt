@@ -17,7 +17,7 @@ use Rattle.spec.specs.Lists.{if_then_else_, every, member, range}
 use Rattle.spec.specs.Sound.{within}
 use Rattle.laws.specs.Lists.{every-head, every-tail, member-cons, no-member, range-has}
 use Rattle.laws.specs.Tests.{tf}
-use Rattle.coop_spec.specs.Cases.{calling, stepping}
+use Rattle.coop_spec.specs.Rows.{calling, stepping}
 use Rattle.coop_spec.specs.Entries.{fresh-machine, not-opened, opening}
 use Rattle.coop_spec.specs.Everything.{everything}
 use Rattle.coop_spec.specs.Linearizable.{Never, Suffices, enough-versions}

@@ -5,7 +5,7 @@ ghost use mathlib.Core.Path.{_≡_};
 ghost use mathlib.Core.List.{List};
 ghost use Prim.Native.Nat.{ℕ, _≤_, _<_};
 ghost use Rattle.spec.specs.Lists.{concat-map};
-ghost use Rattle.held.specs.Held.{Marks};
+ghost use Rattle.held_marks.specs.Marks.{Marks};
 ghost use Rattle.coop_spec.specs.Held.{task-versions, free-version};
 ghost use Rattle.coop_spec.specs.Machine.{machine-of};
 
@@ -14,7 +14,7 @@ fn mark_task(m: &mut [bool], c: Task)
 {
     let running = c.running;
     if running {
-        held::mark(m, c.o);
+        held_marks::mark(m, c.o);
     }
 }
 
@@ -36,7 +36,7 @@ pub fn free_version(s: State) -> u32
     ensures { λ r. ⌜ ((vs : List ℕ) → r ≡ free-version (machine-of s vs)) ⌝ }
 {
     let mut m = [false; crate::MOST_VERSIONS];
-    held::mark(&mut m, s.node + 1);
+    held_marks::mark(&mut m, s.node + 1);
     mark_tasks(s, &mut m);
-    held::first_unmarked(&m, s.versions, s.last)
+    held_marks::first_unmarked(&m, s.versions, s.last)
 }

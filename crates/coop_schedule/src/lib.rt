@@ -69,7 +69,7 @@ pub fn run(t: u32, vs: &mut [u32], events: &[u32], outs: &mut [u32]) -> Outcome
     ensures once { λ r. ⌜ (r .refusal ≡ 0 → AtMostOnce t (now (vs .entry)) (decoded (now (events .entry)) (now (outs .entry)))) ⌝ }
     ensures never_8 { λ r. ⌜ (r .refusal ≡ 0 → Never 8 (schedule t (now (vs .entry)) (decoded (now (events .entry)) (now (outs .entry))) .outs)) ⌝ }
 {
-    let o = coop::open(t, vs);
+    let o = coop_opening::open(t, vs);
     let refusal = o.refusal;
     let s = o.state;
     if refusal != 0 {

@@ -11,7 +11,7 @@ pub mod Atomic
 pub mod History
 pub mod Linearizable
 pub mod Everything
-pub mod Cases
-pub mod Told
+pub mod Rows
 pub mod LineRows
-pub mod SpoiltRows
+pub mod EntryRows
+pub mod ToldRows

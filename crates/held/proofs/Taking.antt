@@ -1,9 +1,8 @@
--- Taking: the first link that is not marked, and what is taken in a sound machine. Assumes nothing.
+-- Taking: what is taken in a sound machine. Assumes nothing.
 use mathlib.Core.Path.{_≡_, refl, sym, ap, _∙_}
-use mathlib.Core.List.{List, [], _∷_, _++_, map}
+use mathlib.Core.List.{List, [], _∷_, _++_}
 use mathlib.Core.Bool.{Bool, true, false, _||_, _&&_}
-use Prim.Native.Nat.{ℕ, suc, _+_, _-_, _%_, _<_, _≤_}
-use native.Mathlib.Numerals.{add-one}
+use Prim.Native.Nat.{ℕ, _-_, _<_, _≤_}
 use native.Mathlib.Omega.{arith}
 use borrow.Author.Tests.{lt-ltb, le-ltb, le-leb, lt-leb, leb-true}
 use lib.Dec.{ltb, leb}
@@ -20,33 +19,8 @@ use Rattle.spec.specs.Machine.{Machine}
 use Rattle.spec.specs.Words.{number, link, places}
 use Rattle.spec.specs.Sound.{node-count, bucket-count, sound}
 use Rattle.spec.specs.Held.{task-buckets, held-nodes, held-buckets, first-free, cyclic-order, free-node, free-bucket}
-use Rattle.held.specs.Held.{Exactly, marked-numbers, placed-low, node-to-take, bucket-to-take}
-
--- ---- the search round
-
-module _ (ls : List ℕ) (n last : ℕ) where
-  abbrev pub turn : ℕ → ℕ
-  turn j = link ((last + j) % n)
-
-  pub free-start : cyclic-order n last ≡ map turn (range 1 (n + 1 - 1))
-  unfolding cyclic-order
-  free-start = let e : n + 1 - 1 ≡ n = omega arith in rw e
-
-  pub free-end : (j : ℕ) → n < j → first-free ls (map turn (range j (n + 1 - j))) ≡ 0
-  unfolding first-free range
-  free-end j h = let e : n + 1 - j ≡ 0 = omega arith in rw e
-
-  module _ (j : ℕ) (h : j ≤ n) where
-    step : n + 1 - j ≡ suc (n + 1 - (j + 1))
-    step = omega arith
-
-    pub free-on : member (turn j) ls ≡ true → first-free ls (map turn (range j (n + 1 - j))) ≡ first-free ls (map turn (range (j + 1) (n + 1 - (j + 1))))
-    unfolding first-free range
-    free-on e = rw (step, e, add-one j)
-
-    pub free-here : member (turn j) ls ≡ false → first-free ls (map turn (range j (n + 1 - j))) ≡ turn j
-    unfolding first-free range
-    free-here e = rw (step, e)
+use Rattle.held_marks.specs.Marks.{Exactly}
+use Rattle.held.specs.Held.{marked-numbers, placed-low, node-to-take, bucket-to-take}
 
 -- ---- numbers and links
 

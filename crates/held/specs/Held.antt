@@ -1,28 +1,15 @@
--- Marks: a Bool for each link from 1 on. What the two functions take, for any state and words.
+-- The numbers of marked nodes. What the two functions take, for any state and words.
 -- Assumes nothing.
-use Prim.Native.Nat.{ℕ, _-_, _<_, _≤_}
-use mathlib.Core.Path.{_≡_}
+use Prim.Native.Nat.{ℕ}
 use mathlib.Core.List.{List, _++_}
-use mathlib.Core.Bool.{Bool, false, _||_, _&&_}
+use mathlib.Core.Bool.{Bool, false, _&&_}
 use lib.Dec.{ltb, leb}
-use lib.ListN.{length, getD}
-use Rattle.spec.specs.Lists.{if_then_else_, member, filter, range, concat-map}
+use lib.ListN.{getD}
+use Rattle.spec.specs.Lists.{if_then_else_, filter, range, concat-map}
 use Rattle.spec.specs.Machine.{Machine}
 use Rattle.spec.specs.Words.{number, places}
 use Rattle.spec.specs.Sound.{node-count, bucket-count}
 use Rattle.spec.specs.Held.{task-buckets, held-nodes, first-free, cyclic-order, free-node}
-
-abbrev pub marked : List Bool → ℕ → Bool
-marked m l = getD m (l - 1) false
-
--- the marks r are the marks m with those of the links ls
-pub record Marks (m r : List Bool) (ls : List ℕ) : Type 0 where
-  pub long : length r ≡ length m
-  pub each : (k : ℕ) → 0 < k → k ≤ length m → marked r k ≡ (marked m k || member k ls)
-
--- the marks are the links ls
-pub record Exactly (m : List Bool) (ls : List ℕ) : Type 0 where
-  pub each : (k : ℕ) → 0 < k → k ≤ length m → marked m k ≡ member k ls
 
 -- the numbers of the marked nodes, of 64
 unfoldable pub marked-numbers : List Bool → List ℕ

@@ -3,60 +3,30 @@
 use spec::State;
 use spec::Task;
 ghost use mathlib.Core.Path.{_≡_};
-ghost use mathlib.Core.List.{List, [], _∷_};
-ghost use Prim.Native.Nat.{ℕ, _≤_, _<_};
-ghost use lib.ListN.{length};
+ghost use mathlib.Core.List.{List};
+ghost use Prim.Native.Nat.{ℕ, _<_};
 ghost use Rattle.spec.specs.Lists.{concat-map};
 ghost use Rattle.spec.specs.Machine.{machine-of};
 ghost use Rattle.spec.specs.Words.{places};
-ghost use Rattle.spec.specs.Held.{chain, task-nodes, task-buckets, held-nodes, first-free, cyclic-order};
-ghost use Rattle.held.specs.Held.{Marks, Exactly, marked-numbers, placed-low, node-to-take, bucket-to-take};
+ghost use Rattle.spec.specs.Held.{chain, task-nodes, task-buckets, held-nodes};
+ghost use Rattle.held_marks.specs.Marks.{Marks};
+ghost use Rattle.held.specs.Held.{marked-numbers, node-to-take, bucket-to-take};
 
 // A mark for each record that there may be.
 const NODES: usize = pool::MOST_NODES as usize;
 
 const BUCKETS: usize = pool::MOST_BUCKETS as usize;
 
-// The mark of a link, if there is one.
-pub fn mark(m: &mut [bool], l: u32)
-    ensures { λ _. ⌜ Marks (now (m .entry)) (now (m .exit)) (l ∷ []) ⌝ }
-{
-    if l == 0 {
-        return;
-    }
-    let k = l as usize - 1;
-    if k < m.len() {
-        m[k] = true;
-    }
-}
-
 // ---- nodes
-
-// A node and its predecessors, h at most.
-fn mark_chain(ns: &[u32], m: &mut [bool], h: u32, from: u32)
-    ensures { λ _. ⌜ Marks (now (m .entry)) (now (m .exit)) (chain (now (ns .entry)) h from) ⌝ }
-{
-    let mut at = from;
-    let mut left = h;
-    while 0 < left {
-        if at == 0 {
-            return;
-        }
-        mark(m, at);
-        let p = pool::pred_of(ns, at);
-        at = p;
-        left -= 1;
-    }
-}
 
 fn mark_task_nodes(ns: &[u32], m: &mut [bool], h: u32, c: Task)
     ensures { λ _. ⌜ Marks (now (m .entry)) (now (m .exit)) (concat-map (chain (now (ns .entry)) h) (task-nodes c)) ⌝ }
 {
     let running = c.running;
     if running {
-        mark_chain(ns, m, h, c.t);
-        mark_chain(ns, m, h, c.s);
-        mark_chain(ns, m, h, c.new_node);
+        held_marks::mark_chain(ns, m, h, c.t);
+        held_marks::mark_chain(ns, m, h, c.s);
+        held_marks::mark_chain(ns, m, h, c.new_node);
     }
 }
 
@@ -66,7 +36,7 @@ fn mark_nodes(s: State, ns: &[u32], m: &mut [bool])
 {
     let h = s.nodes;
     let ts = s.task;
-    mark_chain(ns, m, h, s.head + 1);
+    held_marks::mark_chain(ns, m, h, s.head + 1);
     let mut k: usize = 0;
     while k < 8 {
         let c = ts[k];
@@ -84,7 +54,7 @@ fn mark_places(ns: &[u32], m: &mut [bool], k: u32)
     let mut i: u32 = 0;
     while i < pool::PLACES {
         let l = pool::place_at(ns, k, i);
-        mark(m, l);
+        held_marks::mark(m, l);
         i += 1;
     }
 }
@@ -102,18 +72,6 @@ fn mark_placed(ns: &[u32], nodes: [bool; NODES], m: &mut [bool])
     }
 }
 
-fn mark_task_buckets(m: &mut [bool], c: Task)
-    ensures { λ _. ⌜ Marks (now (m .entry)) (now (m .exit)) (task-buckets c) ⌝ }
-{
-    let running = c.running;
-    if running {
-        mark(m, c.b);
-        mark(m, c.m);
-        mark(m, c.n);
-        mark(m, c.new_bucket);
-    }
-}
-
 fn mark_own(s: State, m: &mut [bool])
     ensures { λ _. ⌜ Marks (now (m .entry)) (now (m .exit)) (concat-map task-buckets (s .task)) ⌝ }
 {
@@ -121,28 +79,12 @@ fn mark_own(s: State, m: &mut [bool])
     let mut k: usize = 0;
     while k < 8 {
         let c = ts[k];
-        mark_task_buckets(m, c);
+        held_marks::mark_task_buckets(m, c);
         k += 1;
     }
 }
 
 // ---- taking
-
-// The link of the first of n records that is not marked after the last, going round; 0 if all are.
-pub fn first_unmarked(m: &[bool], n: u32, last: u32) -> u32
-    requires { ⌜ (n ≤ length (now m)) × (n ≤ 1024) × (last < n) ⌝ }
-    ensures { λ r. ⌜ ((ls : List ℕ) → Exactly (now (m .entry)) ls → r ≡ first-free ls (cyclic-order n last)) ⌝ }
-{
-    let mut j: u32 = 1;
-    while j <= n {
-        let k = (last + j) % n;
-        if !m[k as usize] {
-            return k + 1;
-        }
-        j += 1;
-    }
-    0
-}
 
 // The link of the node to be taken, 0 if all are held or a number of the state is out of bounds.
 pub fn free_node_of(s: State, ns: &[u32]) -> u32
@@ -161,7 +103,7 @@ pub fn free_node_of(s: State, ns: &[u32]) -> u32
     }
     let mut nodes = [false; NODES];
     mark_nodes(s, ns, &mut nodes);
-    first_unmarked(&nodes, h, last)
+    held_marks::first_unmarked(&nodes, h, last)
 }
 
 // The same of a bucket.
@@ -184,5 +126,5 @@ pub fn free_bucket_of(s: State, ns: &[u32]) -> u32
     let mut buckets = [false; BUCKETS];
     mark_placed(ns, nodes, &mut buckets);
     mark_own(s, &mut buckets);
-    first_unmarked(&buckets, b, last)
+    held_marks::first_unmarked(&buckets, b, last)
 }

@@ -2,10 +2,4 @@ pub mod EndedCalls
 pub mod Mattered
 pub mod SessionVerdict
 pub mod Text
-pub mod Compared
-pub mod Earliest
-pub mod RefusedSteps
-pub mod Refusals
-pub mod CallsKept
-pub mod Histories
 pub mod Rows

@@ -133,7 +133,7 @@ pub fn earliest(g: Config, ns: &mut [u32], bs: &mut [u32], events: &[u32], n: us
     if refusal != 0 {
         return Verdict::Refused(refusal);
     }
-    if 256 < n {
+    if mattered_standing::too_many(n) {
         return Verdict::Refused(15);
     }
     let v = first_step(g, n, events, ns, bs);

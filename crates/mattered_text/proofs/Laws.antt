@@ -18,7 +18,7 @@ use Rattle.session_lines.specs.Openings.{part-words, Alike, opening-same}
 use Rattle.mattered.specs.declared.Verdict.{Verdict}
 use Rattle.mattered.specs.declared.Verdict.the-variants.{Refused}
 use Rattle.mattered_run.specs.Judged.{Judged, opened-events-verdict}
-use Rattle.mattered_text.specs.declared.Standing.{Standing}
+use Rattle.mattered_standing.specs.declared.Standing.{Standing}
 use Rattle.mattered_text.specs.Reading.{place, stored}
 use Rattle.mattered_text.specs.Reading.{header-complete, opened-says, said-at-end}
 

@@ -16,7 +16,7 @@ use Rattle.session_state.specs.declared.partial_line.PartialLine.{PartialLine}
 use Rattle.session_state.specs.PartialLines.{partial, line-bytes, pushed}
 use Rattle.mattered.specs.declared.Verdict.{Verdict}
 use Rattle.mattered.specs.Text.{verdict-line, mattered-answer}
-use Rattle.mattered_text.specs.declared.Standing.{Standing}
+use Rattle.mattered_standing.specs.declared.Standing.{Standing}
 use Rattle.mattered_text.specs.declared.stream.Reading.{Reading}
 use Rattle.mattered_text.specs.Reading.{place, on-line, StandsAt, said-at-end}
 use Rattle.mattered_text.specs.Stream.{reading, new-reading, Progress, progress, taken, feed, feeds, stream-end, ReadsAt}

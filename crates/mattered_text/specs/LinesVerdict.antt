@@ -29,7 +29,8 @@ use Rattle.mattered.specs.declared.Verdict.{Verdict}
 use Rattle.mattered.specs.declared.Verdict.the-variants.{Refused}
 use Rattle.mattered.specs.SessionVerdict.{events-verdict, events-lines-verdict, opened-verdict, header-verdict, lines-verdict}
 use Rattle.mattered_run.specs.Judged.{opened-events-verdict}
-use Rattle.mattered_text.specs.Reading.{standing, new-standing, Place, place, event-words, stored, after-event, after-header, after-line, on-line}
+use Rattle.mattered_standing.specs.Standings.{standing, new-standing, after-event, after-header}
+use Rattle.mattered_text.specs.Reading.{Place, place, event-words, stored, after-line, on-line}
 use Rattle.mattered_text.specs.Reading.{header-complete, opened-says, said-at-end}
 use Rattle.mattered_text.specs.KeptEvents.{words-length, Keeps, keeps-none, keeps-more, kept-verdict}
 

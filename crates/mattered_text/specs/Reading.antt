@@ -1,6 +1,6 @@
 -- A session whose lines are read one after the other, with the words of at most 256 events kept, and what is said at the end: the definitions that
 -- the code is held to. That they give the verdict is shown in LinesVerdict. Assumes nothing.
-use Prim.Native.Nat.{ℕ, _+_, _*_, min}
+use Prim.Native.Nat.{ℕ, _+_, _*_}
 use mathlib.Core.Path.{_≡_}
 use mathlib.Core.List.{List, [], _∷_}
 use mathlib.Core.Bool.{Bool, true, false, not, _&&_, _||_}
@@ -14,26 +14,16 @@ use Rattle.spec.specs.Schedule.{Event}
 use Rattle.schedule_words.specs.Events.{events-of}
 use Rattle.session.specs.declared.EventLine.{EventLine}
 use Rattle.session.specs.declared.EventLine.the-variants.{Start, Step, Outside}
-use Rattle.session.specs.declared.Header.{Header}
-use Rattle.session.specs.declared.HeaderLine.the-variants.{Tasks}
-use Rattle.session.specs.declared.HeaderStep.{HeaderStep}
-use Rattle.session.specs.declared.HeaderStep.the-variants.{Next, Complete, Absent, Missing}
 use Rattle.session.specs.Grammar.{InputLine, parse-event-line}
-use Rattle.session.specs.Header.{empty-header, optional, header-step}
+use Rattle.session.specs.Header.{optional, header-step}
 use Rattle.session.specs.Transcript.{is-event, session-opening}
 use Rattle.session_state.specs.declared.Phase.{Phase}
 use Rattle.session_state.specs.declared.Phase.the-variants.{Due, Events, Stopped}
 use Rattle.mattered.specs.declared.Verdict.{Verdict}
 use Rattle.mattered.specs.declared.Verdict.the-variants.{Refused}
 use Rattle.mattered_run.specs.Judged.{opened-events-verdict}
-use Rattle.mattered_text.specs.declared.Standing.{Standing}
-
-abbrev pub standing : Phase → Header → Bool → ℕ → Standing
-standing phase h outside n = record { phase = phase; header = h; outside = outside; count = n }
-
--- no line is read yet
-unfoldable pub new-standing : Standing
-new-standing = standing (Due Tasks) empty-header false 0
+use Rattle.mattered_standing.specs.declared.Standing.{Standing}
+use Rattle.mattered_standing.specs.Standings.{after-event, after-header}
 
 -- where the input stands, and what the lent words of events hold
 pub record Place : Type 0 where
@@ -56,17 +46,6 @@ unfoldable pub stored : List ℕ → ℕ → List ℕ → List ℕ
 stored w n e = if ltb n 256 && leb (4 * n + 4) (length w) then overwrite w (4 * n) e else w
 
 -- ---- a line, by where the input stands, and by whether it is of the form of an event's
-
--- after the header: an event more, of which past 256 the number stays at 257; or a line outside the grammar
-unfoldable pub after-event : Bool → Header → Bool → ℕ → Standing
-after-event event h outside n = if event then standing Events h outside (min 257 (n + 1)) else standing Events h true n
-
--- by what a line says where a header line is due, after the header lines h. A line "not of a header line's form" is an event's
-unfoldable pub after-header : HeaderStep → Header → Bool → Standing
-after-header (Next due h') h event = standing (Due due) h' false 0
-after-header (Complete h') h event = standing Events h' false 0
-after-header (Absent h') h event = after-event event h' false 0
-after-header Missing h event = standing Stopped h false 0
 
 unfoldable pub after-line : Phase → Standing → Bool → InputLine → Standing
 after-line (Due due) t event l = after-header (header-step due (t .header) l) (t .header) event

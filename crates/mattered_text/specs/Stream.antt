@@ -11,9 +11,10 @@ use Rattle.session.specs.Grammar.{closed-line}
 use Rattle.session_state.specs.declared.partial_line.PartialLine.{PartialLine}
 use Rattle.session_state.specs.PartialLines.{partial, empty-line, line-bytes, pushed}
 use Rattle.mattered.specs.declared.Verdict.{Verdict}
-use Rattle.mattered_text.specs.declared.Standing.{Standing}
+use Rattle.mattered_standing.specs.declared.Standing.{Standing}
 use Rattle.mattered_text.specs.declared.stream.Reading.{Reading}
-use Rattle.mattered_text.specs.Reading.{new-standing, Place, place, on-line, said-at-end}
+use Rattle.mattered_standing.specs.Standings.{new-standing}
+use Rattle.mattered_text.specs.Reading.{Place, place, on-line, said-at-end}
 
 abbrev pub reading : Standing → PartialLine → Reading
 reading t h = record { standing = t; line = h }

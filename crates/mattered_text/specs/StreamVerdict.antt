@@ -28,8 +28,9 @@ use Rattle.mattered.specs.declared.Verdict.{Verdict}
 use Rattle.mattered.specs.declared.Verdict.the-variants.{Place as AtPlace, NoStep, Refused}
 use Rattle.mattered.specs.SessionVerdict.{verdict}
 use Rattle.mattered.specs.Text.{verdict-line, mattered-answer}
-use Rattle.mattered_text.specs.declared.Standing.{Standing}
-use Rattle.mattered_text.specs.Reading.{Place, place, event-words, stored, after-event, after-header, after-line, on-line}
+use Rattle.mattered_standing.specs.declared.Standing.{Standing}
+use Rattle.mattered_standing.specs.Standings.{after-event, after-header}
+use Rattle.mattered_text.specs.Reading.{Place, place, event-words, stored, after-line, on-line}
 use Rattle.mattered_text.specs.Reading.{header-complete, opened-says, said-at-end}
 use Rattle.mattered_text.specs.LinesVerdict.{after-lines, answered, lines-give-verdict}
 use Rattle.mattered_text.specs.Stream.{new-reading, Progress, progress, place-of, taken, feed, feeds, stream-end}

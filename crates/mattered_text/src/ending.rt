@@ -1,7 +1,7 @@
 // What is said at the end of the input, one line: the step that mattered, or a refusal. The machine is opened here, over pools that are large enough
 // for any session.
-use crate::Standing;
 use mattered::Verdict;
+use mattered_standing::Standing;
 use session::Header;
 use session_state::Phase;
 ghost use mathlib.Core.Path.{_≡_};

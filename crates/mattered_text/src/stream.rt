@@ -1,6 +1,6 @@
 // A whole input, byte by byte: a line's bytes are kept until byte 10 closes it, as far as session_state keeps them, and the words of the first 256
 // events in a lent slice. Any length of input is read so, in bounded memory.
-use crate::Standing;
+use mattered_standing::Standing;
 use session_state::partial_line::PartialLine;
 ghost use mathlib.Core.Path.{_≡_};
 ghost use lib.ListN.{length};
@@ -24,7 +24,7 @@ fn reads(standing: Standing, line: PartialLine) -> Reading
 pub fn new_reading() -> Reading
     ensures { λ r. ⌜ r ≡ new-reading ⌝ }
 {
-    let standing = crate::new_standing();
+    let standing = mattered_standing::new_standing();
     let line = session_state::partial_line::empty_line();
     reads(standing, line)
 }

@@ -8,4 +8,4 @@ pub mod NoNewStarts
 pub mod EndsByTurns
 pub mod TurnsLeft
 pub mod Theorems
-pub mod Examples
+pub mod Rows

@@ -1,5 +1,5 @@
 -- Paper 02, U12: how many accepted steps a call makes, as types, told from the events of a schedule and their outputs alone. Own steps
--- cannot serve: they stay at 65,535. Proved in Theorems; what is counted in a few schedules is in Examples. Assumes nothing.
+-- cannot serve: they stay at 65,535. Proved in Theorems; what is counted in a few schedules is in the crate `pace_cases`. Assumes nothing.
 use Prim.Native.Nat.{ℕ, suc, _+_, _*_, _≤_, _<_}
 use mathlib.Core.Path.{_≡_}
 use mathlib.Core.List.{List, [], _∷_}

@@ -31,7 +31,7 @@ use Rattle.bucket.proofs.Laws.{found-member}
 use Rattle.bucket.proofs.Pad.{tags-of-bucket}
 use Rattle.plans.specs.Plan.{figures, head-size, update-figures, contains-figures, resize-figures, call-figures}
 use Rattle.plans.specs.Plan.{after-update, after-resize, after-call}
-use Rattle.planner.specs.declared.Head.{Head}
+use Rattle.plan_heads.specs.declared.Head.{Head}
 use Rattle.planner.specs.declared.Standing.{Standing}
 use Rattle.planner.specs.declared.Outcome.{Outcome}
 use Rattle.planner.specs.Standing.{shape, Ready, Fits, answer-of, Updated, Limited, Resized, Plans}

@@ -11,7 +11,7 @@ use lib.Seq.{length-take-le, slice-cons, getD-take}
 use Rattle.spec.specs.declared.Answer.{Answer}
 use Rattle.spec.specs.Lists.{if_then_else_}
 use Rattle.plans.specs.Plan.{Shape, figures, head-size, fill-steps, place-steps, places-steps, empty-places, update-figures}
-use Rattle.planner.specs.declared.Head.{Head}
+use Rattle.plan_heads.specs.declared.Head.{Head}
 use Rattle.planner.specs.Standing.{shape-of, filling}
 
 -- ---- how many are empty

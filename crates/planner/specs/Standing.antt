@@ -2,9 +2,9 @@
 use Prim.Native.Nat.{ℕ, _+_, _*_, _≤_, _<_}
 use mathlib.Core.Path.{_≡_}
 use mathlib.Core.List.{List}
-use mathlib.Core.Bool.{true, false}
+use mathlib.Core.Bool.{true}
 use lib.Dec.{eqb}
-use lib.ListN.{length, getD, set, take, replicate}
+use lib.ListN.{length, getD, set, take}
 use Rattle.spec.specs.declared.Answer.{Answer}
 use Rattle.spec.specs.declared.Answer.the-variants.{Yes, No, Full, Done, Limit}
 use Rattle.spec.specs.declared.Call.{Call}
@@ -19,7 +19,8 @@ use Rattle.bucket.specs.declared.Response.{Response}
 use Rattle.bucket.specs.declared.Response.the-variants.{Yes as Taken, No as Not, Frozen, Full as NoRoom}
 use Rattle.bucket.specs.Bucket.{tags-in}
 use Rattle.plans.specs.Plan.{Shape, figures, places-steps, empty-places, update-figures, call-figures, after-call}
-use Rattle.planner.specs.declared.Head.{Head}
+use Rattle.plan_heads.specs.declared.Head.{Head}
+use Rattle.plan_heads.specs.Heads.{resized}
 use Rattle.planner.specs.declared.Standing.{Standing}
 use Rattle.planner.specs.declared.Outcome.{Outcome}
 
@@ -75,7 +76,7 @@ pub record Limited (s : Standing) (r : Outcome) : Type 0 where
 
 pub record Resized (s : Standing) (size : ℕ) (r : Outcome) : Type 0 where
   pub figures : r .figures ≡ figures Done (4 + places-steps (shape s) (shape s .filled)) (empty-places (shape s .filled))
-  pub next : r .next ≡ standing (record { pred = s .head .size; size = size; filled = replicate 32 false }) (s .set)
+  pub next : r .next ≡ standing (resized (s .head) size) (s .set)
 
 -- ---- a call
 

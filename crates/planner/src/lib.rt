@@ -3,6 +3,7 @@
 use bucket::Bucket;
 use bucket::Changed;
 use bucket::Response;
+use plan_heads::Head;
 use plans::Calls;
 use plans::Figures;
 use plans::Plan;
@@ -20,14 +21,6 @@ ghost use Rattle.spec.specs.Listed.{slot};
 ghost use Rattle.spec.specs.Plain.{found-answer};
 ghost use Rattle.plans.specs.Plan.{fresh, empty-places, update-figures, all-figures, refused, plan, list-of, figures-array, plan-array};
 ghost use Rattle.planner.specs.Standing.{shape-of, shape, filling, filled-at, answer-of, Fits, Ready, Updated, Limited, Resized, Plans};
-
-// The head: the size of its predecessor, 0 for none, its own size, and of each place whether it is filled. Places at or past the size are
-// not read.
-struct Head {
-    pred: u32,
-    size: u32,
-    filled: [bool; 32],
-}
 
 // What the figures depend on between two calls: the head, and the plain set, as a bucket that may change.
 struct Standing {
@@ -208,11 +201,7 @@ fn resize(s: Standing, size: u32) -> Outcome
         own: 4 + 3 * (h.size - empty) + steps,
         buckets: empty,
     };
-    let head = Head {
-        pred: h.size,
-        size,
-        filled: [false; 32],
-    };
+    let head = plan_heads::resized(h, size);
     let set = s.set;
     let next = Standing { head, set };
     Outcome { figures, next }
@@ -321,7 +310,7 @@ pub fn plan(version: u32, calls: Calls) -> Plan
         return refused(11);
     }
     let n = calls.count;
-    if 64 < n {
+    if plan_heads::too_long(n) {
         return refused(9);
     }
     let g = state::with_version(state::config(1), version);

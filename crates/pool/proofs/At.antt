@@ -11,7 +11,7 @@ use lib.ListN.{length, getD, take, drop, set, replicate, length-drop, take-appen
 use lib.Seq.{take-take, drop-drop, getD-take, getD-drop, getD-append-add, length-take-le}
 use Rattle.laws.specs.Tests.{and-left, and-right}
 use Rattle.spec.specs.Lists.{member, ascending, add-tag, remove-tag}
-use Rattle.spec.specs.Words.{changeable, count, tags, overwrite, node-of, bucket-of}
+use Rattle.spec.specs.Words.{changeable, count, tags, overwrite, bucket-of}
 use Rattle.spec.specs.Sound.{count-in-bounds, tags-ascend, sound-bucket, zeros}
 use Rattle.bucket.specs.declared.Bucket.{Bucket}
 use Rattle.bucket.specs.declared.Response.{Response}
@@ -20,8 +20,9 @@ use Rattle.bucket.specs.Bucket.{tags-in, found, added, removed, frozen-of}
 use Rattle.bucket.proofs.Laws.{found-member}
 use Rattle.bucket.proofs.Pad.{drop-take, tags-of-bucket}
 use Rattle.pool.specs.declared.buckets.Answered.{Answered}
-use Rattle.pool.specs.Pool.{store-node, front-of, bucket-at, store-bucket, answer-of, add-answer, add-words, remove-answer, remove-words}
+use Rattle.pool.specs.Pool.{front-of, bucket-at, store-bucket, answer-of, add-answer, add-words, remove-answer, remove-words}
 use Rattle.pool.proofs.Part.{rest, back, back-set}
+pub use Rattle.pool_writes.proofs.Part.{node-here}
 
 abbrev says : Response → ℕ → Answered
 says r n = record { response = r; count = n }
@@ -64,11 +65,6 @@ fine v s =
     let r : (a && b && u) ≡ true = and-left (a && b && u) z s in
     let q : (a && b) ≡ true = and-left (a && b) u r in
     record { flag = and-left a b q; few = and-right a b q; up = and-right (a && b) u r; blank = and-right (a && b && u) z s }
-
--- a node number in the pool
-pub node-here : (w : List ℕ) (k sz l : ℕ) → 34 * k + 34 ≤ length w → store-node w k sz l ≡ overwrite w (34 * k) (node-of sz l)
-unfolding store-node
-node-here w k sz l h = let i : k < length w / 34 = omega arith in rw (lt-ltb _ _ i)
 
 -- the second word of a bucket is how many tags it has
 second : (f : ℕ) (ts rest : List ℕ) → getD (bucket-of f ts ++ rest) 1 0 ≡ length ts

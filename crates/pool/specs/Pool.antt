@@ -5,20 +5,13 @@ use Prim.Native.Nat.{ℕ, _*_, _/_}
 use lib.ListN.{length, take, drop, replicate}
 use lib.Dec.{leb, ltb, eqb}
 use Rattle.spec.specs.Lists.{if_then_else_, member, add-tag, remove-tag}
-use Rattle.spec.specs.Words.{changeable, tags, overwrite, node-of, bucket-of}
+use Rattle.spec.specs.Words.{changeable, tags, overwrite, bucket-of}
 use Rattle.bucket.specs.declared.Bucket.{Bucket}
 use Rattle.bucket.specs.declared.Changed.{Changed}
 use Rattle.bucket.specs.declared.Response.{Response}
 use Rattle.bucket.specs.declared.Response.the-variants.{Yes, No, Frozen, Full}
 use Rattle.pool.specs.declared.buckets.Answered.{Answered}
-
--- the words v over the first words of p, where they fit
-unfoldable pub write-front : List ℕ → List ℕ → List ℕ
-write-front p v = if leb (length v) (length p) then overwrite p 0 v else p
-
--- node number k anew
-unfoldable pub store-node : List ℕ → ℕ → ℕ → ℕ → List ℕ
-store-node p k sz l = if ltb k (length p / 34) then overwrite p (34 * k) (node-of sz l) else p
+unfoldable pub use Rattle.pool_writes.specs.Writes.{write-front, store-node}
 
 -- the bucket whose words are the first of p
 abbrev pub front-of : List ℕ → Bucket

@@ -1,4 +1,4 @@
-// The words of both pools. Here: a node's words read, one word written, a record's words written over, a whole pool's length and zeros.
+// The words of both pools. Here: a node's words read, one word written, a whole pool's length; with the writes of `pool_writes`.
 // `buckets` has a bucket by its number. Every function takes any words and numbers: a read past the end gives 0, and a write past the
 // end changes nothing.
 pub mod buckets;
@@ -6,14 +6,18 @@ pub mod buckets;
 use spec::Config;
 ghost use mathlib.Core.Path.{_≡_};
 ghost use Prim.Native.Nat.{_<_};
-ghost use lib.ListN.{length, getD, set, replicate};
+ghost use lib.ListN.{getD, set};
 ghost use Rattle.spec.specs.Entries.{pool-fits};
 ghost use Rattle.spec.specs.Words.{number, size, pred, place};
 ghost use Rattle.spec.specs.Listed.{slot};
-ghost use Rattle.pool.specs.Pool.{write-front, store-node};
+
+// Zeros, words over the first of a part, a node anew.
+pub use pool_writes::new_node;
+pub use pool_writes::write_over;
+pub use pool_writes::zero;
 
 // A node's words and how many of them are places, a bucket's words and its most tags, the most nodes and buckets.
-pub const NODE_WORDS: usize = 34;
+pub const NODE_WORDS: usize = pool_writes::NODE_WORDS;
 
 pub const PLACES: u32 = 32;
 
@@ -116,19 +120,7 @@ pub fn fits(width: usize, most: usize, words: usize) -> bool
     true
 }
 
-// Every word becomes 0.
-pub fn zero(s: &mut [u32])
-    ensures { λ _. ⌜ now (s .exit) ≡ replicate (length (now (s .entry))) 0 ⌝ }
-{
-    let n = s.len();
-    let mut i = 0;
-    while i < n {
-        s[i] = 0;
-        i += 1;
-    }
-}
-
-// ---- writes
+// ---- a word
 
 // Stores v at `at`; past the end nothing.
 pub fn put(s: &mut [u32], at: usize, v: u32)
@@ -137,33 +129,4 @@ pub fn put(s: &mut [u32], at: usize, v: u32)
     if at < s.len() {
         s[at] = v;
     }
-}
-
-// The words of v over the first words of a part; nothing where they do not fit.
-pub fn write_over(part: &mut [u32], v: &[u32])
-    ensures { λ _. ⌜ now (part .exit) ≡ write-front (now (part .entry)) (now (v .entry)) ⌝ }
-{
-    let n = v.len();
-    if part.len() < n {
-        return;
-    }
-    let mut i = 0;
-    while i < n {
-        part[i] = v[i];
-        i += 1;
-    }
-}
-
-// Node k anew: its size and its predecessor's link, all places empty. Nothing for a number past the pool.
-pub fn new_node(ns: &mut [u32], k: usize, size: u32, pred: u32)
-    ensures { λ _. ⌜ now (ns .exit) ≡ store-node (now (ns .entry)) k size pred ⌝ }
-{
-    if ns.len() / NODE_WORDS <= k {
-        return;
-    }
-    let mut w = [0u32; NODE_WORDS];
-    w[0] = size;
-    w[1] = pred;
-    let at = NODE_WORDS * k;
-    write_over(&mut ns[at..], &w)
 }

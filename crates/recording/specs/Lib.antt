@@ -4,4 +4,4 @@ pub mod Verdict
 pub mod Reader
 pub mod Recorder
 pub mod Everything
-pub mod Cases
+pub mod Rows

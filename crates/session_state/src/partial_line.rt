@@ -3,7 +3,7 @@
 ghost use mathlib.Core.Path.{_≡_};
 ghost use Prim.Native.Nat.{_≤_};
 ghost use lib.Dec.{eqb};
-ghost use lib.ListN.{take};
+ghost use lib.ListN.{length, take};
 ghost use Rattle.session.specs.Keys.{newline};
 ghost use Rattle.session_state.specs.PartialLines.{empty-line, line-bytes, pushed};
 
@@ -55,4 +55,12 @@ pub fn line_length(h: PartialLine) -> usize
         return n;
     }
     41
+}
+
+// A line of 41 bytes, one more than the grammar allows: a last line that is not closed is taken for it. The `ensures` gives the length, which lending
+// the array needs.
+pub fn too_long() -> [u8; 41]
+    ensures { λ r. ⌜ 41 ≡ length r ⌝ }
+{
+    [0; 41]
 }

@@ -93,7 +93,7 @@ pub fn end_stream(
         let t = session_lines::end_input(s, ns, bs, out);
         return t.printed;
     }
-    let long = [0u8; 41];
+    let long = session_state::partial_line::too_long();
     let t = session_lines::handle_line(s, ns, bs, &long, out);
     t.printed
 }

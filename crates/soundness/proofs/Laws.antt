@@ -1,41 +1,17 @@
--- Laws of a list of conditions and of the loop over the tasks.
+-- Laws of the loop over the tasks.
 -- Assumes nothing.
-use mathlib.Core.Path.{_≡_, refl, sym, ap, _∙_}
-use mathlib.Core.List.{List, [], _∷_}
-use mathlib.Core.Bool.{Bool, true, false, not, _&&_}
+use mathlib.Core.Path.{_≡_, sym, ap, _∙_}
+use mathlib.Core.List.{List}
+use mathlib.Core.Bool.{Bool, true, false, _&&_}
 use Prim.Native.Nat.{ℕ, suc, _+_, _<_, _≤_}
 use native.Mathlib.Numerals.{add-one}
 use lib.ListN.{length, getD, drop, drop-of-length-le, List·getD-eq-default}
 use lib.Seq.{drop-cons}
-use borrow.Author.Tests.{le-ltb}
-use Rattle.spec.specs.Lists.{if_then_else_}
 use Rattle.spec.specs.Machine.{Machine, idle, task-of}
-use Rattle.spec.specs.Sound.{zero-task, sound-running, sound-task, sound-tasks}
-use Rattle.sound_records.proofs.Joined.{and-assoc, and-true, and-false}
+use Rattle.spec.specs.Sound.{sound-task, sound-tasks}
+use Rattle.sound_records.proofs.Joined.{and-assoc}
 use Rattle.soundness.specs.Told.{told}
 use Rattle.spec.specs.declared.Task.{Task}
-
--- ---- conditions as they are tested and as they are defined, one by one
-
-infixr 4 _also_
-pub data Alike : List Bool → List Bool → Type 0 where
-  no-more : Alike [] []
-  _also_ : {a b : Bool} {xs ys : List Bool} → a ≡ b → Alike xs ys → Alike (a ∷ xs) (b ∷ ys)
-
-pub same-list : {xs ys : List Bool} → Alike xs ys → xs ≡ ys
-same-list no-more = refl
-same-list (_also_ e l) = rw (e, same-list l)
-
--- ---- the tasks
-
--- a task from T on
-pub from-T : (y : Machine) (k : ℕ) (c : Task) → y .state .config .tasks ≤ k → sound-task y k c ≡ (zero-task c && not (c .running))
-unfolding sound-task sound-running
-from-T y k c h = rw (le-ltb k (y .state .config .tasks) h) (go (c .running) (zero-task c))
-  where
-    go : (b z : Bool) → (if b then false else z) ≡ (z && not b)
-    go true z = sym (and-false z)
-    go false z = sym (and-true z)
 
 module _ (y : Machine) (ts : List Task) (k : ℕ) (d : Task) (h : k < length ts) where
   pub tasks-joined : (a : Bool) → ((a && sound-task y k (getD ts k d)) && sound-tasks y (k + 1) (drop (k + 1) ts)) ≡ (a && sound-tasks y k (drop k ts))

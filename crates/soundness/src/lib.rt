@@ -1,18 +1,15 @@
 // Refusal 8, as far as it does not depend on the entry called: the state and both pools are sound. The state's numbers first, then
 // one pass over each pool, then the tasks.
-use spec::Config;
 use spec::State;
 use spec::Task;
 ghost use mathlib.Core.Path.{_≡_};
-ghost use mathlib.Core.Bool.{false, true, not, _&&_, _||_};
+ghost use mathlib.Core.Bool.{false, true, not, _||_};
 ghost use mathlib.Core.List.{[], _∷_};
-ghost use Prim.Native.Nat.{ℕ, _*_, _≤_};
-ghost use lib.Dec.{eqb, ltb};
-ghost use lib.ListN.{length};
+ghost use Prim.Native.Nat.{_≤_};
+ghost use lib.Dec.{eqb};
 ghost use Rattle.spec.specs.Lists.{member, every};
 ghost use Rattle.spec.specs.Machine.{Machine, machine-of, task-of};
-ghost use Rattle.spec.specs.Words.{size};
-ghost use Rattle.spec.specs.Sound.{config-sound, node-link, resizes, zero-task, sound-running, lines-of, sound-task, sound-tasks, sound-numbers, sound};
+ghost use Rattle.spec.specs.Sound.{node-link, resizes, sound-running, lines-of, sound-task, sound-tasks, sound};
 ghost use Rattle.soundness.specs.Told.{told, checked-of};
 
 // What a check of all memory gives: whether it is sound and, where it is, the record of one task; an idle record elsewhere.
@@ -87,27 +84,6 @@ fn tag_ok(call: u32, tag: u32) -> bool
     true
 }
 
-fn idle_ok(c: Task) -> bool
-    ensures { λ r. ⌜ r ≡ zero-task c ⌝ }
-{
-    let o = c.own as u32;
-    let w: [u32; 12] = [
-        c.call,
-        c.tag,
-        c.line,
-        c.i,
-        o,
-        c.t,
-        c.s,
-        c.b,
-        c.m,
-        c.n,
-        c.new_node,
-        c.new_bucket,
-    ];
-    sound_records::zero_words(&w, 0, 12)
-}
-
 fn links_ok(c: Task, ns: &[u32], h: u32) -> bool
     ensures { λ r. ⌜ ((y : Machine) → y .nodes ≡ now (ns .entry) → y .state .nodes ≡ h → r ≡ every (node-link y) (c .t ∷ c .s ∷ c .«new_node» ∷ [])) ⌝ }
 {
@@ -154,15 +130,7 @@ fn task_ok(c: Task, k: u32, t: u32, ns: &[u32], h: u32, b: u32) -> bool
     if running {
         return running_ok(c, k, t, ns, h, b);
     }
-    idle_ok(c)
-}
-
-// A task from T on: it does not run, and its record is zeros.
-fn unused_ok(c: Task) -> bool
-    ensures { λ r. ⌜ ((y : Machine) (k : ℕ) → y .state .config .tasks ≤ k → r ≡ sound-task y k c) ⌝ }
-{
-    let running = c.running;
-    idle_ok(c) & !running
+    sound_numbers::idle_ok(c)
 }
 
 // The records of the tasks below T one by one, then those from T on, with no exit on the way; and the record of task j. All in one
@@ -187,7 +155,7 @@ fn tasks_ok(s: State, j: u32, ns: &[u32]) -> Checked
     let mut all = true;
     while k < 8 {
         let c = ts[k];
-        all = all & unused_ok(c);
+        all = all & sound_numbers::unused_ok(c);
         k += 1;
     }
     if !all {
@@ -207,46 +175,11 @@ fn tasks_ok(s: State, j: u32, ns: &[u32]) -> Checked
     }
 }
 
-// What the state keeps of its opening: a line for each condition of `config-sound`.
-pub fn config_ok(g: Config) -> bool
-    ensures { λ r. ⌜ r ≡ config-sound g ⌝ }
-{
-    let w: [bool; 2] = [
-        sound_records::within(1, 8, g.tasks),
-        sound_records::within(1, 2, g.version),
-    ];
-    sound_records::all_true(&w)
-}
-
-// The state's numbers and the slices' lengths: a line for each condition of `sound-numbers`.
-fn numbers_ok(s: State, ns: &[u32], bs: &[u32]) -> bool
-    ensures { λ r. ⌜ r ≡ sound-numbers (machine-of s (now (ns .entry)) (now (bs .entry))) ⌝ }
-{
-    let g = s.config;
-    let h = s.nodes;
-    let b = s.buckets;
-    let node_words = pool::NODE_WORDS * (h as usize);
-    let bucket_words = pool::BUCKET_WORDS * (b as usize);
-    let w: [bool; 10] = [
-        config_ok(g),
-        sound_records::within(1, pool::MOST_NODES, h),
-        sound_records::within(1, pool::MOST_BUCKETS, b),
-        ns.len() == node_words,
-        bs.len() == bucket_words,
-        s.head < h,
-        s.last_node < h,
-        s.last_bucket < b,
-        pool::size_at(ns, s.head) != 0,
-        s.chosen < g.tasks,
-    ];
-    sound_records::all_true(&w)
-}
-
 // Refusal 8, as far as it does not depend on the entry called, and the record of task j.
 pub fn check(s: State, j: u32, ns: &[u32], bs: &[u32]) -> Checked
     ensures { λ r. ⌜ r ≡ checked-of (machine-of s (now (ns .entry)) (now (bs .entry))) j ⌝ }
 {
-    if !numbers_ok(s, ns, bs) {
+    if !sound_numbers::numbers_ok(s, ns, bs) {
         return unsound();
     }
     let h = s.nodes;

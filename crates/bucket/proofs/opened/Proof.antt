@@ -11,7 +11,7 @@ use borrow.Author.Needs.{needs}
 use Rattle.bucket.proofs.opened.Statement.{statement}
 use Rattle.bucket.proofs.opened.Tie as tie
 
-len : (c : tie.Start) → length (c .args .b .words) ≡ 66
+len : (c : tie.Start) → length (c .args .t1 .words) ≡ 66
 len c = search needs
 
 count-requires : tie.Need-count-requires
@@ -26,16 +26,13 @@ cast-out c = search needs
 array-write-out-2 : tie.Need-array-write-out-2
 array-write-out-2 c = search needs
 
-slice-aggregate-copied : tie.Need-slice-aggregate-copied
-slice-aggregate-copied c = search needs
-
 copied-requires : tie.Need-copied-requires
 copied-requires c κs = let e = len (c .before .before .before) in omega arith
 
 returns : tie.Need-returns
 returns c =
     let a = c .before .before .before .before .args in
-    let ws = a .b .words in
+    let ws = a .t1 .words in
     fresh-words 1 ws (c .copied .result) (len (c .before .before .before .before))
     (c .copied .ensures ∙ ap (λ (n : ℕ). paste (set (set (replicate 66 0) 0 1) 1 n) 2 (drop 2 ws) n) (c .before .before .before .count .ensures .0))
     ∙ words-bucket 1 (tags-in ws)
@@ -48,6 +45,5 @@ opened-spec =
     array-write-out
     cast-out
     array-write-out-2
-    slice-aggregate-copied
     copied-requires
     returns)

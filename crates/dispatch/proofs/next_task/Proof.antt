@@ -9,7 +9,7 @@ use Rattle.spec.specs.Lists.{range}
 use Rattle.spec.specs.Machine.{machine-of, idle}
 use Rattle.spec.specs.Words.{link}
 use Rattle.spec.specs.Held.{first-free, cyclic-order}
-use Rattle.held.proofs.Taking.{turn as around, free-start, free-end, free-on, free-here}
+use Rattle.held_marks.proofs.Round.{turn as around, free-start, free-end, free-on, free-here}
 use Rattle.dispatch.proofs.TurnLaws.{IdleLinks, tasks-past, chosen-past, next-found}
 use borrow.Author.Needs.{needs}
 use Rattle.dispatch.proofs.next_task.Statement.{statement}

@@ -9,7 +9,7 @@ use Rattle.spec.specs.Machine.{machine-of}
 use Rattle.spec.specs.Lists.{concat-map}
 use Rattle.spec.specs.Words.{places}
 use Rattle.spec.specs.Held.{task-buckets}
-use Rattle.held.proofs.Laws.{none, onto}
+use Rattle.held_marks.proofs.Laws.{none, onto}
 use Rattle.held.proofs.Taking.{exactly-alike, append-alike, same-places, bucket-in, bucket-head-past, buckets-past, bucket-last-past}
 use native.Mathlib.Omega.{arith}
 use borrow.Author.Needs.{needs}

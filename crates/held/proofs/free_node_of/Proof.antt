@@ -5,7 +5,7 @@ use mathlib.Core.List.{[]}
 use denote.Ref.{now}
 use Rattle.spec.specs.Machine.{machine-of}
 use Rattle.spec.specs.Held.{held-nodes, free-node}
-use Rattle.held.proofs.Laws.{none, onto}
+use Rattle.held_marks.proofs.Laws.{none, onto}
 use Rattle.held.proofs.Taking.{node-in, node-head-past, nodes-past, node-last-past}
 use native.Mathlib.Omega.{arith}
 use borrow.Author.Needs.{needs}

@@ -5,12 +5,13 @@ use mathlib.Core.Bool.{Bool}
 use Prim.Native.Nat.{ℕ, _-_, _≤_}
 use denote.Ref.{now}
 use lib.ListN.{length, drop}
-use Rattle.held.specs.Held.{Marks}
+use Rattle.held_marks.specs.Marks.{Marks}
 use Rattle.pool.proofs.Laws.{length-mapped}
 use Rattle.spec.specs.declared.Task.{Task}
 use Rattle.spec.specs.Lists.{concat-map}
 use Rattle.spec.specs.Held.{chain, task-nodes}
-use Rattle.held.proofs.Laws.{tasks-turn, tasks-last, finish, held-all}
+use Rattle.held_marks.proofs.Laws.{tasks-turn, tasks-last, finish}
+use Rattle.held.proofs.Laws.{held-all}
 use native.Mathlib.Omega.{arith}
 use borrow.Author.Needs.{needs}
 use Rattle.held.proofs.mark_nodes.Statement.{statement}

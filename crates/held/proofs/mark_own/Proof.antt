@@ -4,11 +4,11 @@ use mathlib.Core.List.{List}
 use mathlib.Core.Bool.{Bool}
 use Prim.Native.Nat.{_-_, _≤_}
 use lib.ListN.{length, drop}
-use Rattle.held.specs.Held.{Marks}
+use Rattle.held_marks.specs.Marks.{Marks}
 use Rattle.pool.proofs.Laws.{length-mapped}
 use Rattle.spec.specs.Lists.{concat-map}
 use Rattle.spec.specs.Held.{task-buckets}
-use Rattle.held.proofs.Laws.{tasks-turn, tasks-last, finish}
+use Rattle.held_marks.proofs.Laws.{tasks-turn, tasks-last, finish}
 use native.Mathlib.Omega.{arith}
 use borrow.Author.Needs.{needs}
 use Rattle.held.proofs.mark_own.Statement.{statement}

@@ -6,11 +6,13 @@ use mathlib.Core.Bool.{Bool}
 use Prim.Native.Nat.{_-_, _≤_}
 use denote.Ref.{now}
 use lib.ListN.{length}
-use Rattle.held.specs.Held.{Marks, marked-numbers}
+use Rattle.held_marks.specs.Marks.{Marks}
+use Rattle.held.specs.Held.{marked-numbers}
 use mathlib.Core.Logic.{⊎-elim}
 use Rattle.spec.specs.Lists.{concat-map}
 use Rattle.spec.specs.Words.{places}
-use Rattle.held.proofs.Laws.{numbers-from, numbers-all, numbers-none, placed-yes, placed-no, finish}
+use Rattle.held_marks.proofs.Laws.{finish}
+use Rattle.held.proofs.Laws.{numbers-from, numbers-all, numbers-none, placed-yes, placed-no}
 use native.Mathlib.Omega.{arith}
 use borrow.Author.Needs.{needs}
 use Rattle.held.proofs.mark_placed.Statement.{statement}

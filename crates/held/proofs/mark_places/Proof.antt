@@ -5,9 +5,10 @@ use mathlib.Core.Bool.{Bool}
 use Prim.Native.Nat.{_-_, _≤_}
 use denote.Ref.{now}
 use lib.ListN.{length}
-use Rattle.held.specs.Held.{Marks}
+use Rattle.held_marks.specs.Marks.{Marks}
 use Rattle.spec.specs.Words.{places}
-use Rattle.held.proofs.Laws.{places-from, places-all, places-on, places-none, finish}
+use Rattle.held_marks.proofs.Laws.{finish}
+use Rattle.held.proofs.Laws.{places-from, places-all, places-on, places-none}
 use native.Mathlib.Omega.{arith}
 use borrow.Author.Needs.{needs}
 use Rattle.held.proofs.mark_places.Statement.{statement}

@@ -2,7 +2,8 @@
 use mathlib.Core.Path.{_∙_}
 use denote.Ref.{now}
 use Rattle.spec.specs.Lists.{concat-map}
-use Rattle.held.proofs.Laws.{same, nodes-of-idle, task-marks}
+use Rattle.held_marks.proofs.Laws.{same}
+use Rattle.held.proofs.Laws.{nodes-of-idle, task-marks}
 use borrow.Author.Needs.{needs}
 use Rattle.held.proofs.mark_task_nodes.Statement.{statement}
 use Rattle.held.proofs.mark_task_nodes.Tie as tie

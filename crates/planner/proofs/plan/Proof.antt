@@ -1,5 +1,6 @@
 -- `planner::plan` meets its contract. The refusals in the definition's order, and the figures. Assumes nothing.
 use mathlib.Core.Path.{_≡_, sym, ap, _∙_}
+use borrow.Author.Tests.{ltb-true, ltb-false}
 use lib.ListN.{length}
 use Rattle.plans.specs.Plan.{plan-array}
 use Rattle.pool.proofs.Laws.{length-mapped}
@@ -28,16 +29,20 @@ returns-2 c =
     let a = at-if2 .before .before .args in
     c .refused2 .ensures ∙ ap plan-array (sym (refused-high (a .version) (a .calls) (at-if2 .before .if1 .left) (at-if2 .if2 .taken)))
 
+too-long-requires : tie.Need-too-long-requires
+too-long-requires c κs = search needs
+
 refused-requires-3 : tie.Need-refused-requires-3
 refused-requires-3 c κs = search needs
 
 returns-3 : tie.Need-returns-3
 returns-3 c =
     let at-if3 = c .before in
-    let at-if2 = at-if3 .before in
+    let at-long = at-if3 .before in
+    let at-if2 = at-long .before in
     let a = at-if2 .before .before .args in
-    c .refused3 .ensures
-    ∙ ap plan-array (sym (refused-long (a .version) (a .calls) (at-if2 .before .if1 .left) (at-if2 .if2 .left) (at-if3 .if3 .taken)))
+    let long = ltb-true _ _ (sym (at-long .too-long .ensures) ∙ at-if3 .if3 .taken) in
+    c .refused3 .ensures ∙ ap plan-array (sym (refused-long (a .version) (a .calls) (at-if2 .before .if1 .left) (at-if2 .if2 .left) long))
 
 config-requires : tie.Need-config-requires
 config-requires c κs = search needs
@@ -46,17 +51,21 @@ with-version-requires : tie.Need-with-version-requires
 with-version-requires c κs = search needs
 
 all-figures-requires : tie.Need-all-figures-requires
-all-figures-requires c κs = search needs
+all-figures-requires c κs =
+    let at-if3 = c .before .before in
+    ltb-false _ _ (sym (at-if3 .before .too-long .ensures) ∙ at-if3 .if3 .left)
 
 returns-4 : tie.Need-returns-4
 unfolding plan-array
 returns-4 c =
     let at-version = c .before in
     let at-if3 = at-version .before .before in
-    let at-if2 = at-if3 .before in
+    let at-long = at-if3 .before in
+    let at-if2 = at-long .before in
     let entry = at-if2 .before .before in
     let a = entry .args in
-    rw (plan-figures (a .version) (a .calls) (at-if2 .before .if1 .left) (at-if2 .if2 .left) (room entry) (at-if3 .if3 .left))
+    let short = ltb-false _ _ (sym (at-long .too-long .ensures) ∙ at-if3 .if3 .left) in
+    rw (plan-figures (a .version) (a .calls) (at-if2 .before .if1 .left) (at-if2 .if2 .left) (room entry) short)
     (rw (c .all-figures .ensures, at-version .with-version .ensures, at-version .before .config .ensures))
 
 pub plan-spec : {M : Type 1} → statement M
@@ -67,6 +76,7 @@ plan-spec =
     returns
     refused-requires-2
     returns-2
+    too-long-requires
     refused-requires-3
     returns-3
     config-requires

@@ -1,7 +1,9 @@
 -- `planner::resize` meets its contract. Assumes nothing.
-use mathlib.Core.Path.{_≡_, refl}
+use mathlib.Core.Path.{_≡_, ap}
 use lib.ListN.{length}
 use Rattle.bucket.specs.Bucket.{tags-in}
+use Rattle.plan_heads.specs.declared.Head.{Head}
+use Rattle.planner.specs.Standing.{standing}
 use Rattle.planner.proofs.Places.{places-shape}
 use borrow.Author.Needs.{needs}
 use Rattle.planner.proofs.resize.Statement.{statement}
@@ -28,9 +30,13 @@ add-t13 c = search needs
 add-t14 : tie.Need-add-t14
 add-t14 c = search needs
 
+resized-requires : tie.Need-resized-requires
+resized-requires c κs = search needs
+
 returns : tie.Need-returns
 returns c =
-    let at-steps = c .before .before in
+    let at-resized = c .before in
+    let at-steps = at-resized .before .before in
     let at-empty = at-steps .before in
     let entry = at-empty .before .before in
     let s = entry .args .s in
@@ -38,9 +44,9 @@ returns c =
     places-shape (s .head) (tags-in (s .set .words)) (room entry) (entry .pre) _ _ (at-empty .empty-places .ensures .0)
     (at-steps .fill-steps .ensures .0)
     in
-    record { figures = rw (own, at-empty .empty-places .ensures .0); next = refl }
+    record { figures = rw (own, at-empty .empty-places .ensures .0); next = ap (λ (h : Head). standing h (s .set)) (at-resized .resized .ensures) }
 
 pub resize-spec : {M : Type 1} → statement M
 resize-spec =
     tie.close
-    (tie.spec empty-places-requires fill-steps-requires sub-t11 mul-t12 add-t13 add-t14 returns)
+    (tie.spec empty-places-requires fill-steps-requires sub-t11 mul-t12 add-t13 add-t14 resized-requires returns)

@@ -1,5 +1,6 @@
 -- `session_stream::end_stream` meets its contract. The last line is empty, and so closed, or it is not closed. Assumes nothing.
 use mathlib.Core.Path.{_≡_}
+use Prim.Native.Nat.{_<_}
 use native.Mathlib.Omega.{arith}
 use lib.ListN.{length}
 use denote.Ref.{now}
@@ -37,6 +38,9 @@ returns c =
     ends-closed (call .s) (call .h) (now (call .ns)) (now (call .bs)) (n .result) (len entry) (n .ensures .0) (n .ensures .1)
     (at-end-input .end-input .result) _ _ _ _ (at-if1 .if1 .taken) (at-end-input .end-input .ensures)
 
+too-long-requires : tie.Need-too-long-requires
+too-long-requires c κs = search needs
+
 slice-aggregate-handle-line : tie.Need-slice-aggregate-handle-line
 slice-aggregate-handle-line c = search needs
 
@@ -55,13 +59,15 @@ same-length-6 c = search needs
 returns-2 : tie.Need-returns-2
 returns-2 c =
     let at-handle-line = c .before .before .before .before .before .before in
-    let at-if1 = at-handle-line .before .before .before .before .before in
+    let at-too-long = at-handle-line .before .before .before .before .before in
+    let at-if1 = at-too-long .before in
     let at-line-length = at-if1 .before in
     let entry = at-line-length .before .before .before .before in
     let call = entry .args in
     let n = at-line-length .line-length in
+    let long : 40 < length (at-too-long .too-long .result) = omega (arith, at-too-long .too-long .ensures) in
     ends-unclosed (call .s) (call .h) (now (call .ns)) (now (call .bs)) (n .result) (len entry) (n .ensures .0) (n .ensures .1)
-    (at-handle-line .handle-line .result) _ _ _ _ _ (at-handle-line .handle-line .ensures) (omega arith) (at-if1 .if1 .left)
+    (at-handle-line .handle-line .result) _ _ _ _ _ (at-handle-line .handle-line .ensures) long (at-if1 .if1 .left)
 
 pub end-stream-spec : {M : Type 1} → statement M
 end-stream-spec =
@@ -73,6 +79,7 @@ end-stream-spec =
     same-length-2
     same-length-3
     returns
+    too-long-requires
     slice-aggregate-handle-line
     handle-line-requires
     same-length-4

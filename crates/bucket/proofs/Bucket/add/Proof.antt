@@ -3,6 +3,7 @@ use mathlib.Core.Path.{_≡_, ap, _∙_}
 use mathlib.Core.Bool.{true, false}
 use mathlib.Core.List.{List}
 use Prim.Native.Nat.{ℕ}
+use lib.ListN.{length}
 use borrow.Author.Tests.{eq-eqb, ne-eqb, le-leb, lt-leb}
 use Rattle.bucket.specs.Bucket.{tags-in, found, added, changed}
 use Rattle.bucket.specs.declared.Changed.{Changed}
@@ -21,6 +22,9 @@ tagOf c = c .before .before .before .before .args .tag
 
 abbrev tagsOf : tie.After-stands-at → List ℕ
 tagsOf c = tags-in (c .before .before .before .before .args .t1 .words)
+
+len : (c : tie.Start) → length (c .args .t1 .words) ≡ 66
+len c = search needs
 
 -- the tag stands where the search ended if and only if the bucket has it
 has : (c : tie.After-stands-at) → found (tagOf c) (tagsOf c) ≡ c .stands-at .result
@@ -73,9 +77,10 @@ cast-put c = search needs
 
 put-requires : tie.Need-put-requires
 put-requires c κs =
-    let missed = c .before .before in
-    let r = rank-le (tagOf (missed .before)) (tagsOf (missed .before)) in
-    (omega arith, omega arith, omega arith, missed .before .before .position .ensures .0, absent missed)
+    let missed = c .before .before .before .before in
+    let met = missed .before in
+    let r = rank-le (tagOf met) (tagsOf met) in
+    (len (met .before .before .before .before), omega arith, omega arith, omega arith, met .before .position .ensures .0, absent missed)
 
 answered-requires-4 : tie.Need-answered-requires-4
 answered-requires-4 c κs = search needs
@@ -83,9 +88,9 @@ answered-requires-4 c κs = search needs
 returns-4 : tie.Need-returns-4
 unfolding added
 returns-4 c =
-    let counted = c .before .before .before in
+    let counted = c .before .before .before .before .before in
     let changeable = counted .before .before .before .before .if1 .left in
-    rw (ne-eqb _ _ changeable, absent (counted .before), lt-leb 64 _ (rw (counted .count .ensures .0) at (c .before .before .if3 .left)))
+    rw (ne-eqb _ _ changeable, absent (counted .before), lt-leb 64 _ (rw (counted .count .ensures .0) at (c .before .before .before .before .if3 .left)))
     (c .answered4 .ensures ∙ ap yes (c .before .put .ensures))
 
 pub add-spec : {M : Type 1} → statement M

@@ -3,6 +3,7 @@ use mathlib.Core.Path.{_≡_, ap, _∙_}
 use mathlib.Core.Bool.{true, false}
 use mathlib.Core.List.{List}
 use Prim.Native.Nat.{ℕ}
+use lib.ListN.{length}
 use borrow.Author.Tests.{eq-eqb, ne-eqb}
 use Rattle.bucket.specs.Bucket.{tags-in, found, removed, changed}
 use Rattle.bucket.specs.declared.Changed.{Changed}
@@ -21,6 +22,9 @@ tagOf c = c .before .before .before .before .args .tag
 
 abbrev tagsOf : tie.After-stands-at → List ℕ
 tagsOf c = tags-in (c .before .before .before .before .args .t1 .words)
+
+len : (c : tie.Start) → length (c .args .t1 .words) ≡ 66
+len c = search needs
 
 -- the tag stands where the search ended if and only if the bucket has it
 has : (c : tie.After-stands-at) → found (tagOf c) (tagsOf c) ≡ c .stands-at .result
@@ -53,9 +57,10 @@ cast-cut c = search needs
 
 cut-requires : tie.Need-cut-requires
 cut-requires c κs =
-    let met = c .before in
-    let r = rank-below (tagOf (met .before)) (tagsOf (met .before)) (present met) in
-    (omega arith, omega arith, omega arith, met .before .before .position .ensures .0, present met)
+    let there = c .before .before .before in
+    let met = there .before in
+    let r = rank-below (tagOf met) (tagsOf met) (present there) in
+    (len (met .before .before .before .before), omega arith, omega arith, omega arith, met .before .position .ensures .0, present there)
 
 answered-requires-2 : tie.Need-answered-requires-2
 answered-requires-2 c κs = search needs
@@ -63,9 +68,9 @@ answered-requires-2 c κs = search needs
 returns-2 : tie.Need-returns-2
 unfolding removed
 returns-2 c =
-    let met = c .before .before .before in
-    let changeable = met .before .before .before .if1 .left in
-    rw (ne-eqb _ _ changeable, present met) (c .answered2 .ensures ∙ ap yes (c .before .cut .ensures))
+    let there = c .before .before .before .before .before in
+    let changeable = there .before .before .before .if1 .left in
+    rw (ne-eqb _ _ changeable, present there) (c .answered2 .ensures ∙ ap yes (c .before .cut .ensures))
 
 answered-requires-3 : tie.Need-answered-requires-3
 answered-requires-3 c κs = search needs

@@ -1,0 +1,69 @@
+-- `bucket_words::put` meets its contract: the tags before the position, the tag, and the tags after it are the list with the tag
+-- added, padded with zeros. Assumes nothing.
+use denote.Ref.{now}
+use Rattle.bucket_words.proofs.Pad.{put-bucket}
+use native.Mathlib.Omega.{arith}
+use borrow.Author.Needs.{needs}
+use Rattle.bucket_words.proofs.put.Statement.{statement}
+use Rattle.bucket_words.proofs.put.Tie as tie
+
+array-write-out : tie.Need-array-write-out
+array-write-out c = search needs
+
+cast-out : tie.Need-cast-out
+cast-out c = search needs
+
+add-out : tie.Need-add-out
+add-out c = search needs
+
+array-write-out-2 : tie.Need-array-write-out-2
+array-write-out-2 c = search needs
+
+copied-requires : tie.Need-copied-requires
+copied-requires c κs = omega arith
+
+add-out-2 : tie.Need-add-out-2
+add-out-2 c = search needs
+
+mul-out : tie.Need-mul-out
+mul-out c = search needs
+
+array-write-out-3 : tie.Need-array-write-out-3
+array-write-out-3 c = search needs
+
+add-copied : tie.Need-add-copied
+add-copied c = search needs
+
+add-copied-2 : tie.Need-add-copied-2
+add-copied-2 c = search needs
+
+sub-copied : tie.Need-sub-copied
+sub-copied c = search needs
+
+copied-requires-2 : tie.Need-copied-requires-2
+copied-requires-2 c κs = omega arith
+
+returns : tie.Need-returns
+returns c =
+    let s = c .before .before in
+    let a = s .args in
+    put-bucket 1 (a .n) (a .p) (now (a .w)) (s .pre .0) (s .pre .1) (c .before .copied .result) (c .copied2 .result) (a .tag) (s .pre .2)
+    (s .pre .3) (s .pre .4) (s .pre .5) (c .before .copied .ensures) (c .copied2 .ensures)
+
+pub put-spec : {M : Type 1} → statement M
+put-spec =
+    tie.close
+    (tie.spec
+    array-write-out
+    cast-out
+    add-out
+    array-write-out-2
+    copied-requires
+    add-out-2
+    mul-out
+    array-write-out-3
+    add-copied
+    add-copied-2
+    sub-copied
+    copied-requires-2
+    returns)
