@@ -1,15 +1,17 @@
-// The proved set, over words: each entry takes the state out of the words of m, and leaves its answer and the next state in its own words there.
+// The proved set, over words: each entry takes the state out of the words that m had before the call. Whether its answer and the next state are those
+// that the second implementation has left in m.
+use crate::both::alike;
+use crate::both::load;
 use crate::flat;
 use crate::vars::FIRST;
 use reference_words::words::ASKED_K;
 use reference_words::words::ASKED_RULE;
 use reference_words::words::ASKED_TAG;
 use reference_words::words::LENT;
-use reference_words::words::SPAN;
+use reference_words::words::Memory;
+use reference_words::words::NODE_WORDS;
 use reference_words::words::WHAT;
-use reference_words::words::either;
 use reference_words::words::get;
-use reference_words::words::put_words;
 use spec::Call;
 use spec::Config;
 
@@ -23,65 +25,63 @@ fn call_of(n: u32) -> Call {
     }
 }
 
-fn step(m: &mut [u32], ns: &mut [u32], bs: &mut [u32]) {
+fn step(m: &Memory, ns: &mut [u32], bs: &mut [u32]) -> bool {
     let r = hashset::step(flat::state_of(m), get(m, ASKED_K), ns, bs);
-    flat::put_stepped(m, r);
+    flat::is_stepped(m, r)
 }
 
-fn start(m: &mut [u32], ns: &[u32], bs: &[u32]) {
+fn start(m: &Memory, ns: &[u32], bs: &[u32]) -> bool {
+    let s = flat::state_of(m);
     let call = call_of(get(m, WHAT));
-    let r = hashset::start(
-        flat::state_of(m),
-        get(m, ASKED_K),
-        call,
-        get(m, ASKED_TAG),
-        ns,
-        bs,
-    );
-    flat::put_stepped(m, r);
+    let r = hashset::start(s, get(m, ASKED_K), call, get(m, ASKED_TAG), ns, bs);
+    flat::is_stepped(m, r)
 }
 
-fn turn(m: &mut [u32], ns: &mut [u32], bs: &mut [u32]) {
+fn turn(m: &Memory, ns: &mut [u32], bs: &mut [u32]) -> bool {
     let r = dispatch::turn(flat::state_of(m), ns, bs);
-    flat::put_turned(m, r);
+    flat::is_turned(m, r)
 }
 
-fn open(m: &mut [u32], ns: &mut [u32], bs: &mut [u32]) {
-    let g = Config {
+fn config(m: &Memory) -> Config {
+    Config {
         tasks: get(m, ASKED_K),
         version: get(m, ASKED_TAG),
         zero_withdrawn: get(m, ASKED_RULE) != 0,
-    };
-    let o = opening::open(g, ns, bs);
-    let s = o.state;
-    flat::put_state(m, s);
-    flat::reply(m, either(o.refusal == 0, 0, 2), o.refusal);
-}
-
-// A list into so many of the words from `lent` on.
-fn list(m: &mut [u32], ns: &[u32], bs: &[u32], lent: usize) {
-    let from = lent % SPAN;
-    let e = from + get(m, ASKED_K) as usize;
-    if m.len() < e {
-        return;
     }
-    let l = queries::list(flat::state_of(m), ns, bs, &mut m[from..e]);
-    flat::put_listed(m, l);
 }
 
-// What is shown is copied to the lent words.
-fn show(m: &mut [u32], ns: &[u32], bs: &[u32]) {
+fn open(m: &Memory, ns: &mut [u32], bs: &mut [u32]) -> bool {
+    let o = opening::open(config(m), ns, bs);
+    flat::is_opened(m, o)
+}
+
+fn is_lent(m: &Memory, words: &[u32; 73]) -> bool {
+    alike(words, m, LENT)
+}
+
+// A list into so many words, of those that are lent.
+fn list(m: &Memory, ns: &[u32], bs: &[u32], n: usize) -> bool {
+    let mut out = [0; 73];
+    load(&mut out, m, FIRST + LENT);
+    if 73 < n {
+        return false;
+    }
+    let l = queries::list(flat::state_of(m), ns, bs, &mut out[0..n]);
+    flat::is_answered(m, flat::listing(l)) & is_lent(m, &out)
+}
+
+// What is shown stands first of the lent words, and others stay.
+fn show(m: &Memory, ns: &[u32], bs: &[u32]) -> bool {
     let part = queries::show(flat::state_of(m), ns, bs, get(m, ASKED_K));
     let n = part.len() % 1000;
-    put_words(m, FIRST + LENT, part);
-    flat::reply(m, 0, n as u32);
+    let shown = alike(part, m, LENT);
+    shown & flat::is_answered(m, [0, n as u32, 0, 0, 0]) & flat::is_kept(m, LENT + n, NODE_WORDS)
 }
 
-pub fn act(m: &mut [u32], ns: &mut [u32], bs: &mut [u32]) {
-    let what = get(m, WHAT);
-    match what {
+pub fn act(m: &Memory, ns: &mut [u32], bs: &mut [u32]) -> bool {
+    match get(m, WHAT) {
         0 => step(m, ns, bs),
-        6 => list(m, ns, bs, FIRST + LENT),
+        6 => list(m, ns, bs, get(m, ASKED_K) as usize),
         7 => show(m, ns, bs),
         8 => open(m, ns, bs),
         9 => turn(m, ns, bs),

@@ -1,23 +1,28 @@
-// The proved set's state and answers as words, as the second implementation has them.
+// The proved set's state made of the words that m had before the call, and its state and answers compared with the words of m, as the second
+// implementation has them.
+use crate::both::alike;
 use crate::vars::FIRST;
 use dispatch::Turned;
 use lines::Stepped;
+use opening::Opened;
 use reference_words::words::B;
 use reference_words::words::CHOSEN;
 use reference_words::words::H;
 use reference_words::words::HEAD;
 use reference_words::words::LAST_BUCKET;
 use reference_words::words::LAST_NODE;
+use reference_words::words::LENT;
+use reference_words::words::Memory;
+use reference_words::words::NODE_WORDS;
 use reference_words::words::RECORDS;
 use reference_words::words::REPLY;
+use reference_words::words::STATE_END;
 use reference_words::words::T;
 use reference_words::words::VERSION;
 use reference_words::words::ZERO_WITHDRAWN;
 use reference_words::words::either;
 use reference_words::words::get;
 use reference_words::words::plus;
-use reference_words::words::put;
-use reference_words::words::put_words;
 use spec::Answer;
 use spec::Config;
 use spec::Listing;
@@ -27,8 +32,8 @@ use spec::State;
 use spec::Task;
 use turns::Turn;
 
-fn task_at(m: &[u32], k: usize) -> Task {
-    let at = RECORDS + k % 8 * 13;
+fn task_at(m: &Memory, k: usize) -> Task {
+    let at = FIRST + RECORDS + k % 8 * 13;
     Task {
         running: get(m, at) != 0,
         call: get(m, at + 1),
@@ -46,7 +51,7 @@ fn task_at(m: &[u32], k: usize) -> Task {
     }
 }
 
-pub fn state_of(m: &[u32]) -> State {
+pub fn state_of(m: &Memory) -> State {
     let mut ts = [task_at(m, 0); 8];
     let mut k: usize = 1;
     while k < 8 {
@@ -56,24 +61,34 @@ pub fn state_of(m: &[u32]) -> State {
     }
     State {
         config: Config {
-            tasks: get(m, T),
-            version: get(m, VERSION),
-            zero_withdrawn: get(m, ZERO_WITHDRAWN) != 0,
+            tasks: get(m, FIRST + T),
+            version: get(m, FIRST + VERSION),
+            zero_withdrawn: get(m, FIRST + ZERO_WITHDRAWN) != 0,
         },
-        nodes: get(m, H),
-        buckets: get(m, B),
-        head: get(m, HEAD),
-        last_node: get(m, LAST_NODE),
-        last_bucket: get(m, LAST_BUCKET),
-        chosen: get(m, CHOSEN),
+        nodes: get(m, FIRST + H),
+        buckets: get(m, FIRST + B),
+        head: get(m, FIRST + HEAD),
+        last_node: get(m, FIRST + LAST_NODE),
+        last_bucket: get(m, FIRST + LAST_BUCKET),
+        chosen: get(m, FIRST + CHOSEN),
         task: ts,
     }
 }
 
-fn put_task(m: &mut [u32], at: usize, c: Task) {
-    put_words(
-        m,
-        at,
+// Whether these words are as they were before the call.
+pub fn is_kept(m: &Memory, from: usize, end: usize) -> bool {
+    let mut at = from;
+    while at < end {
+        if get(m, at) != get(m, FIRST + at % 1000) {
+            return false;
+        }
+        at += 1;
+    }
+    true
+}
+
+fn is_task(m: &Memory, at: usize, c: Task) -> bool {
+    alike(
         &[
             either(c.running, 1, 0),
             c.call,
@@ -89,40 +104,46 @@ fn put_task(m: &mut [u32], at: usize, c: Task) {
             c.new_node,
             c.new_bucket,
         ],
-    );
+        m,
+        at,
+    )
 }
 
-pub fn put_state(m: &mut [u32], s: State) {
-    let g = s.config;
-    let ts = s.task;
-    put_words(
-        m,
-        FIRST,
-        &[
-            g.tasks,
-            g.version,
-            s.nodes,
-            s.buckets,
-            s.head,
-            s.last_node,
-            s.last_bucket,
-        ],
-    );
-    put_words(
-        m,
-        FIRST + CHOSEN,
-        &[s.chosen, either(g.zero_withdrawn, 1, 0)],
-    );
+fn are_tasks(m: &Memory, ts: [Task; 8]) -> bool {
     let mut k: usize = 0;
     while k < 8 {
-        put_task(m, FIRST + RECORDS + 13 * k, ts[k]);
+        if !is_task(m, RECORDS + 13 * k, ts[k]) {
+            return false;
+        }
         k += 1;
     }
+    true
 }
 
-// A reply as the second implementation has it, of no ended call.
-pub fn reply(m: &mut [u32], kind: u32, value: u32) {
-    put_words(m, FIRST + REPLY, &[kind, value, 0, 0, 0]);
+fn is_header(m: &Memory, s: State) -> bool {
+    let g = s.config;
+    let sizes = [
+        g.tasks,
+        g.version,
+        s.nodes,
+        s.buckets,
+        s.head,
+        s.last_node,
+        s.last_bucket,
+    ];
+    let after = [s.chosen, either(g.zero_withdrawn, 1, 0)];
+    alike(&sizes, m, T) & alike(&after, m, CHOSEN)
+}
+
+// A reply, and a state that was moved on: lent words stay.
+fn is_moved(m: &Memory, s: State, said: [u32; 5]) -> bool {
+    let ts = s.task;
+    is_header(m, s) & are_tasks(m, ts) & alike(&said, m, REPLY) & is_kept(m, LENT, NODE_WORDS)
+}
+
+// A reply by which the state stays.
+pub fn is_answered(m: &Memory, said: [u32; 5]) -> bool {
+    alike(&said, m, REPLY) & is_kept(m, 0, STATE_END)
 }
 
 fn answer(a: Answer) -> u32 {
@@ -144,45 +165,44 @@ fn occupancy(o: Occupancy) -> u32 {
     }
 }
 
-fn put_output(m: &mut [u32], o: Output) {
+// An output as a reply, of a turn with the task that it names plus 1.
+fn output(o: Output, named: u32) -> [u32; 5] {
     match o {
-        Output::At(l) => reply(m, 0, l),
-        Output::End(a, n, f) => {
-            put_words(m, FIRST + REPLY, &[1, answer(a), n as u32, occupancy(f), 0])
-        }
-        Output::Refuse(r) => reply(m, 2, r),
+        Output::At(l) => [0, l, 0, 0, named],
+        Output::End(a, n, f) => [1, answer(a), n as u32, occupancy(f), named],
+        Output::Refuse(r) => [2, r, 0, 0, named],
     }
 }
 
-pub fn put_listed(m: &mut [u32], l: Listing) {
+pub fn listing(l: Listing) -> [u32; 5] {
     match l {
-        Listing::Count(c) => reply(m, 0, c),
-        Listing::Refused(r) => reply(m, 2, r),
+        Listing::Count(c) => [0, c, 0, 0, 0],
+        Listing::Refused(r) => [2, r, 0, 0, 0],
     }
 }
 
-pub fn put_stepped(m: &mut [u32], r: Stepped) {
+fn turn(says: Turn) -> [u32; 5] {
+    match says {
+        Turn::Idle => [3, 0, 0, 0, 0],
+        Turn::Of(k, o) => output(o, plus(k, 1)),
+        Turn::Refused(why) => [2, why, 0, 0, 0],
+    }
+}
+
+pub fn is_stepped(m: &Memory, r: Stepped) -> bool {
     let s = r.state;
     let o = r.out;
-    put_state(m, s);
-    put_output(m, o);
+    is_moved(m, s, output(o, 0))
 }
 
-// Of a turn that names a task also the task plus 1.
-fn put_turn(m: &mut [u32], says: Turn) {
-    match says {
-        Turn::Idle => reply(m, 3, 0),
-        Turn::Of(k, o) => {
-            put_output(m, o);
-            put(m, FIRST + REPLY + 4, plus(k, 1));
-        }
-        Turn::Refused(why) => reply(m, 2, why),
-    }
+pub fn is_opened(m: &Memory, o: Opened) -> bool {
+    let s = o.state;
+    let why = o.refusal;
+    is_moved(m, s, [either(why == 0, 0, 2), why, 0, 0, 0])
 }
 
-pub fn put_turned(m: &mut [u32], r: Turned) {
+pub fn is_turned(m: &Memory, r: Turned) -> bool {
     let s = r.state;
     let says = r.says;
-    put_state(m, s);
-    put_turn(m, says);
+    is_moved(m, s, turn(says))
 }

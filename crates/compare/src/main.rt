@@ -10,8 +10,10 @@ mod script;
 mod vars;
 
 use reference_words::words::END;
+use reference_words::words::Memory;
+use reference_words::words::NOWHERE;
 use reference_words::words::WHAT;
-use reference_words::words::clear;
+use reference_words::words::copy;
 use reference_words::words::get;
 ghost use mathlib.Core.Path.{_≡_};
 ghost use lib.ListN.{length};
@@ -29,13 +31,11 @@ fn bucket_words() -> [u32; 67650]
     [7; 67650]
 }
 
-fn memory() -> [u32; 150060]
-    ensures { λ r. ⌜ 150060 ≡ length r ⌝ }
-{
+fn memory() -> Memory {
     [1; 150060]
 }
 
-fn run(text: &[u8], m: &mut [u32], ns: &mut [u32], bs: &mut [u32]) {
+fn run(text: &[u8], m: &mut Memory, ns: &mut [u32], bs: &mut [u32]) {
     let mut left: u32 = 10000000;
     while 0 < left {
         script::next(text, m);
@@ -69,7 +69,7 @@ fn main() {
     let mut ns = node_words();
     let mut bs = bucket_words();
     let mut m = memory();
-    clear(&mut m, END, vars::KEPT);
+    copy(&mut m, NOWHERE, END, vars::KEPT - END);
     run(script_in(&space, n), &mut m, &mut ns, &mut bs);
     report::print(&m);
 }

@@ -20,7 +20,6 @@
 //              D are removes and those up to L contains; G tags, multiples of 7; of 128 steps of a contains at line 15 Z go to another task
 use crate::draw;
 use crate::vars::BACK;
-use crate::vars::DRAWN;
 use crate::vars::KEPT;
 use crate::vars::LEFT;
 use crate::vars::NAMED;
@@ -33,6 +32,7 @@ use reference_words::words::ASKED_RULE;
 use reference_words::words::BUCKET_WORDS;
 use reference_words::words::BUCKETS;
 use reference_words::words::CHOSEN;
+use reference_words::words::Memory;
 use reference_words::words::NODE_WORDS;
 use reference_words::words::NODES;
 use reference_words::words::NOWHERE;
@@ -47,7 +47,7 @@ use reference_words::words::put;
 use reference_words::words::put_words;
 
 // The number that stood before a letter last.
-pub fn number(m: &[u32], b: u8) -> u32 {
+pub fn number(m: &Memory, b: u8) -> u32 {
     get(m, NUMBERS + b as usize)
 }
 
@@ -76,46 +76,32 @@ fn what(b: u8) -> u32 {
     }
 }
 
-// Where the kept memory, or the other, begins.
-fn start_of(kept: bool) -> usize {
-    if kept { KEPT } else { 0 }
-}
-
-fn words_of(m: &[u32], moves: bool) -> usize {
-    if moves {
-        BUCKETS + get(m, BUCKET_WORDS) as usize
-    } else {
-        0
-    }
-}
-
-// Memory up to its last bucket is kept, or put back as it was kept.
-pub fn move_memory(m: &mut [u32], keeps: bool, restores: bool) {
+// Memory up to its last bucket is kept (1), or put back as it was kept (2).
+pub fn move_memory(m: &mut Memory, way: u32) {
+    let all = plus(BUCKETS as u32, get(m, BUCKET_WORDS));
+    let kept = KEPT as u32;
     copy(
         m,
-        start_of(restores),
-        start_of(keeps),
-        words_of(m, keeps || restores),
+        either(way == 2, kept, 0) as usize,
+        either(way == 1, kept, 0) as usize,
+        either(way == 0, 0, all) as usize,
     );
 }
 
 // A value as a state can have it in a word: `running` and the rule for tag 0 are 0 or 1, and own steps are below 65,536.
 pub fn fitting(at: usize, v: u32) -> u32 {
-    if at == ZERO_WITHDRAWN {
-        return either(v == 0, 0, 1);
-    }
-    if at < RECORDS || CHOSEN <= at {
-        return v;
-    }
-    match (at - RECORDS) % 13 {
-        0 => either(v == 0, 0, 1),
-        5 => v % 65536,
-        _ => v,
-    }
+    let j = (at % 1000 + 13 - RECORDS) % 13;
+    let in_record = (RECORDS <= at) & (at < CHOSEN);
+    let truth = (in_record & (j == 0)) | (at == ZERO_WITHDRAWN);
+    either(
+        truth,
+        either(v == 0, 0, 1),
+        either(in_record & (j == 5), v % 65536, v),
+    )
 }
 
-// The word that a byte sets, and the value that it gets, with the number before it.
-fn target(m: &[u32], b: u8) -> usize {
+// The word that a byte sets with the number before it.
+fn target(m: &Memory, b: u8) -> usize {
     match b {
         b'n' => NODE_WORDS,
         b'b' => BUCKET_WORDS,
@@ -126,7 +112,7 @@ fn target(m: &[u32], b: u8) -> usize {
     }
 }
 
-fn named(m: &[u32], b: u8, n: u32) -> u32 {
+fn named(m: &Memory, b: u8, n: u32) -> u32 {
     match b {
         b'=' => n,
         b'@' => plus(NODES as u32, n),
@@ -137,33 +123,23 @@ fn named(m: &[u32], b: u8, n: u32) -> u32 {
 }
 
 // The byte after this one: the first for `;`, the one kept for `.`.
-fn next_after(m: &[u32], b: u8) -> u32 {
+fn next_after(m: &Memory, b: u8) -> u32 {
     let to = get(m, BACK);
-    match b {
-        b';' => 0,
-        b'.' => either(to == 0, plus(get(m, NEXT), 1), to),
-        _ => plus(get(m, NEXT), 1),
-    }
+    let on = plus(get(m, NEXT), 1);
+    either(b == b';', 0, either((b == b'.') & (to != 0), to, on))
 }
 
-fn back_after(m: &[u32], b: u8) -> u32 {
-    match b {
-        b';' => plus(get(m, NEXT), 1),
-        b'.' => 0,
-        _ => get(m, BACK),
-    }
+fn back_after(m: &Memory, b: u8) -> u32 {
+    let on = plus(get(m, NEXT), 1);
+    either(b == b';', on, either(b == b'.', 0, get(m, BACK)))
 }
 
-fn quiet_after(m: &[u32], byte: u8) -> u32 {
-    match byte {
-        b'#' => 1,
-        10 => 0,
-        _ => get(m, QUIET),
-    }
+fn quiet_after(m: &Memory, byte: u8) -> u32 {
+    either(byte == b'#', 1, either(byte == 10, 0, get(m, QUIET)))
 }
 
 // A byte as it is heard: a blank for all of a comment.
-fn heard(m: &[u32], byte: u8) -> u8 {
+fn heard(m: &Memory, byte: u8) -> u8 {
     if get(m, QUIET) == 0 && byte != b'#' {
         byte
     } else {
@@ -171,50 +147,49 @@ fn heard(m: &[u32], byte: u8) -> u8 {
     }
 }
 
-// The letter whose number goes with a call: an opening has a version, a start a tag.
-fn partner(b: u8) -> u8 {
-    if b == b'o' { b'V' } else { b't' }
-}
-
-fn set_words(m: &mut [u32], b: u8, n: u32) {
+fn set_words(m: &mut Memory, b: u8) {
+    let n = get(m, NUMBER);
     let at = target(m, b);
     put(m, at, fitting(at, n));
     put(m, NUMBERS + b as usize, n);
 }
 
-fn set_script(m: &mut [u32], byte: u8, b: u8, n: u32) {
-    put_words(
-        m,
-        NEXT,
-        &[
-            next_after(m, b),
-            back_after(m, b),
-            longer(n, b),
-            quiet_after(m, byte),
-            either(b == b'x', n, 0),
-            named(m, b, n),
-        ],
-    );
+// What is asked and the words of the script after a byte. An opening has a version, a start a tag.
+fn words_after(m: &Memory, byte: u8, b: u8) -> [u32; 11] {
+    let n = get(m, NUMBER);
+    let partner = either(b == b'o', number(m, b'V'), number(m, b't'));
+    [
+        what(b),
+        n,
+        partner,
+        get(m, ASKED_RULE),
+        next_after(m, b),
+        back_after(m, b),
+        longer(n, b),
+        quiet_after(m, byte),
+        named(m, b, n),
+        either(b == b'x', n, 0),
+        0,
+    ]
 }
 
-fn read(m: &mut [u32], byte: u8) {
+fn read(m: &mut Memory, byte: u8) {
     let b = heard(m, byte);
-    let n = get(m, NUMBER);
-    set_words(m, b, n);
-    move_memory(m, b == b'k', b == b'p');
-    put_words(m, WHAT, &[what(b), n, number(m, partner(b))]);
-    set_script(m, byte, b, n);
+    set_words(m, b);
+    move_memory(m, either(b == b'k', 1, either(b == b'p', 2, 0)));
+    let a = words_after(m, byte, b);
+    put_words(m, WHAT, &a);
 }
 
 // What is printed of a byte of the script: itself, but for the first line gone to.
-fn echo(m: &[u32], b: u8) {
+fn echo(m: &Memory, b: u8) {
     if get(m, BACK) == 0 {
         io::write_all(1, &[b]);
     }
 }
 
 // The next call of the text, or the end (11).
-fn play(text: &[u8], m: &mut [u32]) {
+fn play(text: &[u8], m: &mut Memory) {
     let at = get(m, NEXT) as usize;
     if text.len() <= at {
         return put(m, WHAT, 11);
@@ -225,11 +200,9 @@ fn play(text: &[u8], m: &mut [u32]) {
 }
 
 // The next call: random calls first.
-pub fn next(text: &[u8], m: &mut [u32]) {
-    let left = get(m, LEFT);
-    put(m, DRAWN, left);
-    if left == 0 {
+pub fn next(text: &[u8], m: &mut Memory) {
+    if get(m, LEFT) == 0 {
         return play(text, m);
     }
-    draw::random(m, left)
+    draw::random(m)
 }

@@ -17,11 +17,11 @@ use coop_reference::words::mine;
 use coop_spec::Call;
 use coop_spec::Output;
 use coop_spec::State;
+use reference_words::slices::copy;
+use reference_words::slices::get;
+use reference_words::slices::put;
 use reference_words::words::SPAN;
-use reference_words::words::copy;
 use reference_words::words::either;
-use reference_words::words::get;
-use reference_words::words::put;
 
 fn call_of(what: u32) -> Call {
     match what {

@@ -15,14 +15,14 @@ use coop_reference::words::TASKS;
 use coop_reference::words::VERSION_WORDS;
 use coop_reference::words::VERSIONS;
 use coop_reference::words::WHAT;
+use reference_words::slices::copy;
+use reference_words::slices::get;
+use reference_words::slices::put;
+use reference_words::slices::put_words;
 use reference_words::words::NOWHERE;
-use reference_words::words::copy;
 use reference_words::words::either;
-use reference_words::words::get;
 use reference_words::words::less_1;
 use reference_words::words::plus;
-use reference_words::words::put;
-use reference_words::words::put_words;
 use reference_words::words::rest;
 
 // Pseudo-random numbers: the multiplicative generator of Lehmer with modulus 2^31 - 1.

@@ -12,7 +12,7 @@ use coop_spec::Operation;
 use coop_spec::Output;
 use coop_spec::State;
 use coop_spec::Task;
-use reference_words::words::get;
+use reference_words::slices::get;
 
 fn operation_of(m: &[u32], n: usize) -> Operation {
     let at = OPERATIONS + n % 64 * 5;

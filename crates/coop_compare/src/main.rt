@@ -10,7 +10,7 @@ mod vars;
 
 use coop_reference::words::VERSIONS;
 use coop_reference::words::WHAT;
-use reference_words::words::clear;
+use reference_words::slices::clear;
 ghost use mathlib.Core.Path.{_≡_};
 ghost use lib.ListN.{length};
 

@@ -7,10 +7,10 @@ use crate::vars::EXCURSION;
 use crate::vars::RAN;
 use coop_reference::words::REPLY;
 use coop_reference::words::WHAT;
+use reference_words::slices::get;
+use reference_words::slices::put;
 use reference_words::words::either;
-use reference_words::words::get;
 use reference_words::words::plus;
-use reference_words::words::put;
 
 fn number(name: &[u8], n: u32) {
     io::write_all(1, name);

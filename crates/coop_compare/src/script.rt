@@ -23,13 +23,13 @@ use coop_reference::words::ASKED_K;
 use coop_reference::words::ASKED_N;
 use coop_reference::words::VERSIONS;
 use coop_reference::words::WHAT;
+use reference_words::slices::clear;
+use reference_words::slices::copy;
+use reference_words::slices::get;
+use reference_words::slices::put;
 use reference_words::words::NOWHERE;
-use reference_words::words::clear;
-use reference_words::words::copy;
 use reference_words::words::either;
-use reference_words::words::get;
 use reference_words::words::plus;
-use reference_words::words::put;
 
 // A byte of a row: its numbers stand after WHAT.
 fn hear(m: &mut [u32], b: u8) {

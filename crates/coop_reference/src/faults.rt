@@ -11,7 +11,7 @@ use crate::words::V;
 use crate::words::VERSION_WORDS;
 use crate::words::VERSIONS;
 use crate::words::operation;
-use reference_words::words::get;
+use reference_words::slices::get;
 use reference_words::words::less_1;
 
 // "if T, H, B or a slice length is wrong"

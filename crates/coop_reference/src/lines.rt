@@ -13,7 +13,7 @@ use crate::words::mine;
 use crate::words::node;
 use crate::words::operation;
 use crate::words::version;
-use reference_words::words::get;
+use reference_words::slices::get;
 use reference_words::words::letter;
 
 pub const CALLS: usize = 4;

@@ -14,7 +14,7 @@ use reference_words::words::CALL;
 use reference_words::words::FREE;
 use reference_words::words::I;
 use reference_words::words::LINE;
-use reference_words::words::MADE;
+use reference_words::words::Memory;
 use reference_words::words::NEW_BUCKET;
 use reference_words::words::NEW_NODE;
 use reference_words::words::OWN;
@@ -26,33 +26,34 @@ use reference_words::words::get;
 use reference_words::words::head;
 use reference_words::words::home;
 use reference_words::words::is_size;
+use reference_words::words::mine;
 use reference_words::words::node;
 use reference_words::words::place;
 use reference_words::words::plus;
 use reference_words::words::rest;
 
 // A word of t, and a word of s.
-fn of_t(w: &[u32], j: u32) -> u32 {
-    node(w, get(w, AT_T), j)
+fn of_t(w: &Memory, j: u32) -> u32 {
+    node(w, mine(w, AT_T), j)
 }
 
-fn of_s(w: &[u32], j: u32) -> u32 {
-    node(w, get(w, AT_S), j)
+fn of_s(w: &Memory, j: u32) -> u32 {
+    node(w, mine(w, AT_S), j)
 }
 
 // What a letter of the table stands for: the head; t's predecessor; t's place and s's place for the tag; t's place i; of s the places i mod (its
 // size), i, and i + t's size; the record that is taken; the other places of the task; nothing.
-pub fn see(w: &[u32], x: u8) -> u32 {
-    let i = get(w, I);
+pub fn see(w: &Memory, x: u8) -> u32 {
+    let i = mine(w, I);
     match x {
         b'h' => head(w),
         b'p' => of_t(w, 1),
-        b'k' => at_home(w, get(w, AT_T), get(w, TAG)),
-        b'K' => at_home(w, get(w, AT_S), get(w, TAG)),
-        b'i' => place(w, get(w, AT_T), i),
-        b'r' => place(w, get(w, AT_S), rest(i, of_s(w, 0))),
-        b'j' => place(w, get(w, AT_S), i),
-        b'q' => place(w, get(w, AT_S), plus(i, of_t(w, 0))),
+        b'k' => at_home(w, mine(w, AT_T), mine(w, TAG)),
+        b'K' => at_home(w, mine(w, AT_S), mine(w, TAG)),
+        b'i' => place(w, mine(w, AT_T), i),
+        b'r' => place(w, mine(w, AT_S), rest(i, of_s(w, 0))),
+        b'j' => place(w, mine(w, AT_S), i),
+        b'q' => place(w, mine(w, AT_S), plus(i, of_t(w, 0))),
         b'f' => get(w, FREE),
         b'e' => i_after_33(w),
         b'+' => i_after_51(w),
@@ -61,98 +62,92 @@ pub fn see(w: &[u32], x: u8) -> u32 {
     }
 }
 
-fn own_place(w: &[u32], x: u8) -> u32 {
+fn own_place(w: &Memory, x: u8) -> u32 {
     match x {
-        b't' => get(w, AT_T),
-        b's' => get(w, AT_S),
-        b'b' => get(w, AT_B),
-        b'm' => get(w, AT_M),
-        b'n' => get(w, AT_N),
-        b'N' => get(w, NEW_NODE),
-        b'B' => get(w, NEW_BUCKET),
+        b't' => mine(w, AT_T),
+        b's' => mine(w, AT_S),
+        b'b' => mine(w, AT_B),
+        b'm' => mine(w, AT_M),
+        b'n' => mine(w, AT_N),
+        b'N' => mine(w, NEW_NODE),
+        b'B' => mine(w, NEW_BUCKET),
         _ => 0,
     }
 }
 
-fn is_resize(w: &[u32]) -> bool {
-    4 <= get(w, CALL)
+fn is_resize(w: &Memory) -> bool {
+    4 <= mine(w, CALL)
 }
 
 // "filled to 36; else i is that place's number"
-fn i_after_33(w: &[u32]) -> u32 {
+fn i_after_33(w: &Memory) -> u32 {
     if see_home(w) != 0 {
-        return get(w, I);
+        return mine(w, I);
     }
-    home(w, get(w, AT_T), get(w, TAG))
+    home(w, mine(w, AT_T), mine(w, TAG))
 }
 
-fn see_home(w: &[u32]) -> u32 {
-    at_home(w, get(w, AT_T), get(w, TAG))
+fn see_home(w: &Memory) -> u32 {
+    at_home(w, mine(w, AT_T), mine(w, TAG))
 }
 
 // "insert and remove set b to t's place i .., a resize adds 1 to i"
-fn i_after_51(w: &[u32]) -> u32 {
-    plus(get(w, I), either(is_resize(w), 1, 0))
+fn i_after_51(w: &Memory) -> u32 {
+    plus(mine(w, I), either(is_resize(w), 1, 0))
 }
 
-fn b_after_51(w: &[u32]) -> u32 {
+fn b_after_51(w: &Memory) -> u32 {
     if is_resize(w) {
         return 0;
     }
-    place(w, get(w, AT_T), get(w, I))
+    place(w, mine(w, AT_T), mine(w, I))
 }
 
 // "Own steps count accepted steps of the call, staying at 65,535."
-pub fn own_after(w: &[u32]) -> u32 {
-    let own = get(w, OWN);
+pub fn own_after(w: &Memory) -> u32 {
+    let own = mine(w, OWN);
     if own < 65535 { own + 1 } else { 65535 }
 }
 
 // "twice or half the size"
-pub fn resized(w: &[u32], size: u32) -> u32 {
-    if get(w, CALL) == 4 {
+pub fn resized(w: &Memory, size: u32) -> u32 {
+    if mine(w, CALL) == 4 {
         return plus(size, size);
     }
     size / 2
 }
 
 // "its line goes through an empty place"
-fn is_missing(w: &[u32], x: u8) -> bool {
-    x != b'-' && own_place(w, x) == 0
+fn is_missing(w: &Memory, x: u8) -> bool {
+    (x != b'-') & (own_place(w, x) == 0)
 }
 
 // "uses a place at or past its node's size", or "makes a node of an unlisted size". "Lines 39, 50 and 51 use t's place i, 46 and 47 the named places
 // of s."
-fn is_past(w: &[u32]) -> bool {
-    let line = get(w, LINE);
-    match line {
-        39 | 50 | 51 => of_t(w, 0) <= get(w, I),
-        46 => of_s(w, 0) <= get(w, I),
-        47 => of_s(w, 0) <= plus(get(w, I), of_t(w, 0)),
-        27 => !is_size(resized(w, of_t(w, 0))),
+fn is_past(w: &Memory) -> bool {
+    let i = mine(w, I);
+    let t = of_t(w, 0);
+    let s = of_s(w, 0);
+    match mine(w, LINE) {
+        39 | 50 | 51 => t <= i,
+        46 => s <= i,
+        47 => s <= plus(i, t),
+        27 => !is_size(resized(w, t)),
         _ => false,
     }
 }
 
-// "8 of the step, 7", or 0 for none. "needs a 65th tag in a bucket" is seen by the bucket that is made. (Of a node that is made
-// the second word is a place, at most 64.)
-pub fn line_refusal(w: &[u32]) -> u32 {
-    let line = get(w, LINE);
-    if is_missing(w, entry(line, THROUGH)) || is_missing(w, entry(line, THROUGH_TOO)) {
-        return 8;
-    }
-    if is_past(w) || 64 < get(w, MADE + 1) {
-        return 8;
-    }
-    match line {
-        27 | 49 => either(get(w, FREE) == 0, 7, 0),
-        _ => 0,
-    }
+// "8 of the step, 7", or 0 for none. `made` tags in a bucket that is made: "needs a 65th tag in a bucket".
+pub fn line_refusal(w: &Memory, made: u32) -> u32 {
+    let line = mine(w, LINE);
+    let missing = is_missing(w, entry(line, THROUGH)) | is_missing(w, entry(line, THROUGH_TOO));
+    let none = ((line == 27) | (line == 49)) & (get(w, FREE) == 0);
+    either(missing | is_past(w) | (64 < made), 8, either(none, 7, 0))
 }
 
 // The next line, 0 where the call ends.
-pub fn next_line(w: &[u32]) -> u32 {
-    let line = get(w, LINE);
+pub fn next_line(w: &Memory) -> u32 {
+    let line = mine(w, LINE);
     match line {
         12 => 13,
         13 => either(see_home(w) != 0, 18, 15),
@@ -168,7 +163,7 @@ pub fn next_line(w: &[u32]) -> u32 {
     }
 }
 
-fn next_filling(w: &[u32], line: u32) -> u32 {
+fn next_filling(w: &Memory, line: u32) -> u32 {
     match line {
         39 => 40,
         40 => after_40(w),
@@ -185,17 +180,17 @@ fn next_filling(w: &[u32], line: u32) -> u32 {
 }
 
 // "40 s is t's predecessor; if b is filled or s is none, to 51; if t is twice s, to 43; else 46."
-fn after_40(w: &[u32]) -> u32 {
+fn after_40(w: &Memory) -> u32 {
     let s = of_t(w, 1);
     let half = node(w, s, 0);
-    if get(w, AT_B) != 0 || s == 0 {
+    if mine(w, AT_B) != 0 || s == 0 {
         return 51;
     }
     either(of_t(w, 0) == plus(half, half), 43, 46)
 }
 
 // "insert and remove .. go to 36, a resize adds 1 to i and goes to 39 or, after the last, to 24"
-fn after_51(w: &[u32]) -> u32 {
+fn after_51(w: &Memory) -> u32 {
     if is_resize(w) {
         return either(i_after_51(w) < of_t(w, 0), 39, 24);
     }
@@ -203,28 +198,27 @@ fn after_51(w: &[u32]) -> u32 {
 }
 
 // Whether b may change.
-fn may_change(w: &[u32]) -> bool {
-    bucket(w, get(w, AT_B), 0) != 0
+fn may_change(w: &Memory) -> bool {
+    bucket(w, mine(w, AT_B), 0) != 0
 }
 
 // Whether b has the tag.
-fn has_tag(w: &[u32]) -> bool {
-    let tag = get(w, TAG) as u64;
+fn has_tag(w: &Memory) -> bool {
+    let tag = mine(w, TAG) as u64;
     smallest(w, TAGS_OF_B, tag) == tag
 }
 
 // The answer where the call ends. 1 yes, 2 no, 3 full, 4 done, 5 lost, 6 limit.
-pub fn answer(w: &[u32]) -> u32 {
-    let line = get(w, LINE);
-    match line {
+pub fn answer(w: &Memory) -> u32 {
+    match mine(w, LINE) {
         18 | 36 => set_answer(w),
-        28 => either(head(w) == get(w, AT_T), 4, 5),
+        28 => either(head(w) == mine(w, AT_T), 4, 5),
         _ => 6,
     }
 }
 
 // "At line 36 an insert of a tag that its unfrozen bucket has now ends no, whatever the count; full is left for absent tags."
-fn insert_answer(w: &[u32]) -> u32 {
+fn insert_answer(w: &Memory) -> u32 {
     if has_tag(w) {
         return 2;
     }
@@ -232,14 +226,14 @@ fn insert_answer(w: &[u32]) -> u32 {
 }
 
 // "remove takes it out and ends yes, or ends no"; a contains "ends with yes or no".
-fn set_answer(w: &[u32]) -> u32 {
-    if get(w, CALL) == 1 {
+fn set_answer(w: &Memory) -> u32 {
+    if mine(w, CALL) == 1 {
         return insert_answer(w);
     }
     either(has_tag(w), 1, 2)
 }
 
 // Whether line 36 changes b: it may change, and the answer is yes.
-pub fn is_change(w: &[u32]) -> bool {
+pub fn is_change(w: &Memory) -> bool {
     may_change(w) && set_answer(w) == 1
 }

@@ -7,18 +7,20 @@ use super::words::B;
 use super::words::CALL;
 use super::words::I;
 use super::words::MADE;
+use super::words::Memory;
+use super::words::NOWHERE;
 use super::words::TAG;
 use super::words::at_home;
 use super::words::bucket;
-use super::words::clear;
+use super::words::copy;
 use super::words::either;
 use super::words::get;
 use super::words::head;
 use super::words::home;
+use super::words::mine;
 use super::words::node;
 use super::words::plus;
 use super::words::put;
-use super::words::put_words;
 
 // Stands for no tag.
 pub const NONE: u64 = 4294967296;
@@ -35,7 +37,7 @@ pub const MADE_BY_49: u32 = 49;
 
 // "Tag k is in the set if the head's place k mod size names a bucket with k; where that place is empty, the predecessor's place k mod (its
 // size) decides": the place of the bucket that decides on a tag.
-fn decider(w: &[u32], tag: u32) -> u32 {
+fn decider(w: &Memory, tag: u32) -> u32 {
     let own = at_home(w, head(w), tag);
     if own != 0 {
         return own;
@@ -44,36 +46,33 @@ fn decider(w: &[u32], tag: u32) -> u32 {
 }
 
 // "m's tags with tag mod (t's size) = i, or with n filled the union of m and n"
-fn poured(w: &[u32], place: u32, tag: u32) -> bool {
-    if get(w, AT_N) == 0 {
-        return place == get(w, AT_M) && home(w, get(w, AT_T), tag) == get(w, I);
-    }
-    place == get(w, AT_M) || place == get(w, AT_N)
+fn poured(w: &Memory, place: u32, tag: u32) -> bool {
+    let m = place == mine(w, AT_M);
+    let n = mine(w, AT_N);
+    let fits = (n != 0) | (home(w, mine(w, AT_T), tag) == mine(w, I));
+    (m & fits) | ((n != 0) & (place == n))
 }
 
 // Whether the bucket in a place gives this tag of its own to a set.
-fn gives(w: &[u32], set: u32, place: u32, tag: u32) -> bool {
+fn gives(w: &Memory, set: u32, place: u32, tag: u32) -> bool {
     match set {
         LISTED_TAGS => decider(w, tag) == place,
-        TAGS_OF_B => place == get(w, AT_B),
-        AFTER_36 => place == get(w, AT_B) && tag != get(w, TAG),
+        TAGS_OF_B => place == mine(w, AT_B),
+        AFTER_36 => place == mine(w, AT_B) && tag != mine(w, TAG),
         _ => poured(w, place, tag),
     }
 }
 
 // The smaller of the best tag so far and a bucket's tag.
-fn better(w: &[u32], set: u32, place: u32, tag: u32, from: u64, best: u64) -> u64 {
-    if (tag as u64) < from || best <= (tag as u64) {
-        return best;
+fn better(w: &Memory, set: u32, place: u32, tag: u32, from: u64, best: u64) -> u64 {
+    let x = tag as u64;
+    if (from <= x) & (x < best) & gives(w, set, place, tag) {
+        return x;
     }
-    if gives(w, set, place, tag) {
-        tag as u64
-    } else {
-        best
-    }
+    best
 }
 
-fn best_in(w: &[u32], set: u32, place: u32, from: u64, most: u64) -> u64 {
+fn best_in(w: &Memory, set: u32, place: u32, from: u64, most: u64) -> u64 {
     let count = bucket(w, place, 1);
     let mut best = most;
     let mut j: u32 = 0;
@@ -86,16 +85,16 @@ fn best_in(w: &[u32], set: u32, place: u32, from: u64, most: u64) -> u64 {
 }
 
 // The tag that an insert brings: b has it after line 36.
-fn brought(w: &[u32], set: u32, from: u64) -> u64 {
-    let tag = get(w, TAG) as u64;
-    if set != AFTER_36 || get(w, CALL) != 1 || tag < from {
-        return NONE;
+fn brought(w: &Memory, set: u32, from: u64) -> u64 {
+    let tag = mine(w, TAG) as u64;
+    if (set == AFTER_36) & (mine(w, CALL) == 1) & (from <= tag) {
+        return tag;
     }
-    tag
+    NONE
 }
 
 // The smallest tag of a set from `from` on.
-pub fn smallest(w: &[u32], set: u32, from: u64) -> u64 {
+pub fn smallest(w: &Memory, set: u32, from: u64) -> u64 {
     let all = either(set == NO_TAGS, 0, get(w, B));
     let mut best = brought(w, set, from);
     let mut k: u32 = 0;
@@ -108,7 +107,7 @@ pub fn smallest(w: &[u32], set: u32, from: u64) -> u64 {
 }
 
 // How many tags are listed, from 64 on as 64.
-pub fn listed(w: &[u32]) -> u32 {
+pub fn listed(w: &Memory) -> u32 {
     let mut from: u64 = 0;
     let mut n: u32 = 0;
     while n < 64 {
@@ -122,25 +121,19 @@ pub fn listed(w: &[u32]) -> u32 {
     n
 }
 
-fn add_tag(w: &mut [u32], n: u32, tag: u64) {
-    put(w, MADE + 1, plus(n, 1));
-    put(w, MADE + 2 + n as usize, (tag % NONE) as u32);
-}
-
-// A record is made: a first and a second word, then zeros; but for the tags of a set, if there are any, and their count. A count of 65 says
-// that there are more than 64.
-pub fn gather(w: &mut [u32], first: u32, second: u32, set: u32) {
-    clear(w, MADE, MADE + 67);
-    put_words(w, MADE, &[first, second]);
+// The tags of a set, of a record that is made, and how many there are. A count of 65 says that there are more than 64.
+pub fn gather(w: &mut Memory, set: u32) -> u32 {
+    copy(w, NOWHERE, MADE, 68);
     let mut from: u64 = 0;
     let mut n: u32 = 0;
     while n < 65 {
         let tag = smallest(w, set, from);
         if NONE <= tag {
-            return;
+            return n;
         }
-        add_tag(w, n, tag);
+        put(w, MADE + 2 + n as usize, (tag % NONE) as u32);
         from = tag + 1;
         n += 1;
     }
+    n
 }

@@ -40,83 +40,76 @@ pub const NODES: usize = 200;
 pub const BUCKETS: usize = 2410;
 
 pub const MEMORY_END: usize = 70060;
-// What a call works with: the record of its task before and after; the record that would be taken, 0 for none; whether memory is spoilt; a
-// record that is made; the refusal's number, 0 for none; what is asked; a flag for each node's and each bucket's place.
-pub const BEFORE: usize = 70060;
+// What a call works with: whether memory is spoilt; the task that is meant; where the record of a task that steps is, NOWHERE for none; the record that would
+// be taken, 0 for none; the refusal's number, 0 for none; a record that is made; words that are stored at the end. Then what is asked.
+pub const SPOILT: usize = 70060;
 
-pub const CALL: usize = 70061;
+pub const TASK: usize = 70061;
 
-pub const TAG: usize = 70062;
+pub const RECORD: usize = 70062;
 
-pub const LINE: usize = 70063;
+pub const FREE: usize = 70063;
 
-pub const I: usize = 70064;
+pub const WHY: usize = 70064;
 
-pub const OWN: usize = 70065;
+pub const MADE: usize = 70065;
 
-pub const AT_T: usize = 70066;
+pub const PLAN: usize = 70140;
 
-pub const AT_S: usize = 70067;
+pub const WHAT: usize = 71260;
 
-pub const AT_B: usize = 70068;
+pub const ASKED_K: usize = 71261;
 
-pub const AT_M: usize = 70069;
+pub const ASKED_TAG: usize = 71262;
 
-pub const AT_N: usize = 70070;
+pub const ASKED_RULE: usize = 71263;
 
-pub const NEW_NODE: usize = 70071;
+pub const END: usize = 71264;
+// The words of a task's record.
+pub const CALL: usize = 1;
 
-pub const NEW_BUCKET: usize = 70072;
+pub const TAG: usize = 2;
 
-pub const AFTER: usize = 70073;
+pub const LINE: usize = 3;
 
-pub const FREE: usize = 70086;
+pub const I: usize = 4;
 
-pub const SPOILT: usize = 70087;
+pub const OWN: usize = 5;
 
-pub const MADE: usize = 70088;
+pub const AT_T: usize = 6;
 
-pub const WHY: usize = 70156;
+pub const AT_S: usize = 7;
 
-pub const WHAT: usize = 70157;
+pub const AT_B: usize = 8;
 
-pub const ASKED_K: usize = 70158;
+pub const AT_M: usize = 9;
 
-pub const ASKED_TAG: usize = 70159;
+pub const AT_N: usize = 10;
 
-pub const ASKED_RULE: usize = 70160;
+pub const NEW_NODE: usize = 11;
 
-pub const NODE_FLAGS: usize = 70161;
-
-pub const BUCKET_FLAGS: usize = 70230;
-
-pub const END: usize = 71260;
+pub const NEW_BUCKET: usize = 12;
 // The address of no word, past the end of any memory that is lent, and a bound on addresses.
 pub const NOWHERE: usize = 1000000;
 
 pub const SPAN: usize = 1048576;
 
-pub fn get(w: &[u32], at: usize) -> u32 {
-    if at < w.len() { w[at] } else { 0 }
+pub const SIZE: usize = 150060;
+
+pub type Memory = [u32; 150060];
+
+pub fn get(w: &Memory, at: usize) -> u32 {
+    if at < SIZE { w[at] } else { 0 }
 }
 
-pub fn put(w: &mut [u32], at: usize, v: u32) {
-    if at < w.len() {
+pub fn put(w: &mut Memory, at: usize, v: u32) {
+    if at < SIZE {
         w[at] = v;
     }
 }
 
-// The words from `from` to before `end` become 0.
-pub fn clear(w: &mut [u32], from: usize, end: usize) {
-    let mut at = from;
-    while at < end {
-        put(w, at, 0);
-        at += 1;
-    }
-}
-
 // These words in the place of those from `to` on.
-pub fn put_words(w: &mut [u32], to: usize, words: &[u32]) {
+pub fn put_words(w: &mut Memory, to: usize, words: &[u32]) {
     let a = to % SPAN;
     let mut i: usize = 0;
     while i < words.len() {
@@ -125,8 +118,8 @@ pub fn put_words(w: &mut [u32], to: usize, words: &[u32]) {
     }
 }
 
-// So many words are copied.
-pub fn copy(w: &mut [u32], from: usize, to: usize, count: usize) {
+// So many words are copied. From NOWHERE they are zeros, and to NOWHERE they change nothing.
+pub fn copy(w: &mut Memory, from: usize, to: usize, count: usize) {
     let a = from % SPAN;
     let b = to % SPAN;
     let n = count % SPAN;
@@ -141,6 +134,11 @@ pub fn copy(w: &mut [u32], from: usize, to: usize, count: usize) {
 // Where word j of task k's record is.
 pub fn field_at(k: u32, j: u32) -> usize {
     RECORDS + (k as usize) * 13 + j as usize
+}
+
+// Word j of the record of the task that steps, 0 where none does.
+pub fn mine(w: &Memory, j: usize) -> u32 {
+    get(w, get(w, RECORD) as usize + j % 13)
 }
 
 // Where word j is of the node, or of the bucket, in a place: "record number plus 1, 0 for empty".
@@ -158,30 +156,30 @@ pub fn bucket_at(place: u32, j: u32) -> usize {
     BUCKETS + (place as usize - 1) * 66 + j as usize
 }
 
-pub fn node(w: &[u32], place: u32, j: u32) -> u32 {
+pub fn node(w: &Memory, place: u32, j: u32) -> u32 {
     get(w, node_at(place, j))
 }
 
-pub fn bucket(w: &[u32], place: u32, j: u32) -> u32 {
+pub fn bucket(w: &Memory, place: u32, j: u32) -> u32 {
     get(w, bucket_at(place, j))
 }
 
 // Place i of a node.
-pub fn place(w: &[u32], of: u32, i: u32) -> u32 {
+pub fn place(w: &Memory, of: u32, i: u32) -> u32 {
     node(w, of, plus(i, 2))
 }
 
 // The number of a node's place for a tag, and that place. "Version 2 uses tag div 10 wherever version 1 uses the tag before a mod".
-pub fn home(w: &[u32], of: u32, tag: u32) -> u32 {
+pub fn home(w: &Memory, of: u32, tag: u32) -> u32 {
     rest(either(get(w, VERSION) == 2, tag / 10, tag), node(w, of, 0))
 }
 
-pub fn at_home(w: &[u32], of: u32, tag: u32) -> u32 {
+pub fn at_home(w: &Memory, of: u32, tag: u32) -> u32 {
     place(w, of, home(w, of, tag))
 }
 
 // The head's place.
-pub fn head(w: &[u32]) -> u32 {
+pub fn head(w: &Memory) -> u32 {
     plus(get(w, HEAD), 1)
 }
 

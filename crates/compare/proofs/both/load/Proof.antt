@@ -1,4 +1,4 @@
--- `compare::both::load` is safe and ends: counters stay within their bounds, and lent slices keep their lengths. Assumes nothing.
+-- `compare::both::load` is safe and ends: counters stay within their bounds. Assumes nothing.
 use Prim.Native.Nat.{_≤_, _-_}
 use Rattle.compare.proofs.both.load.Statement.{statement}
 use Rattle.compare.proofs.both.load.Tie as tie

@@ -1,4 +1,4 @@
--- `compare::flat::state_of` is safe and ends: counters stay within their bounds, and lent slices keep their lengths. Assumes nothing.
+-- `compare::flat::state_of` is safe and ends: counters stay within their bounds. Assumes nothing.
 use Prim.Native.Nat.{_≤_, _-_}
 use Rattle.compare.proofs.flat.state_of.Statement.{statement}
 use Rattle.compare.proofs.flat.state_of.Tie as tie
@@ -36,29 +36,56 @@ loop-less c = search needs
 loop-again : tie.Need-loop-again Inv-loop μ-loop
 loop-again c = search needs
 
+add-get : tie.Need-add-get Inv-loop μ-loop
+add-get c = search needs
+
 get-requires : tie.Need-get-requires Inv-loop μ-loop
 get-requires c κs = search needs
+
+add-get-2 : tie.Need-add-get-2 Inv-loop μ-loop
+add-get-2 c = search needs
 
 get-requires-2 : tie.Need-get-requires-2 Inv-loop μ-loop
 get-requires-2 c κs = search needs
 
+add-get-3 : tie.Need-add-get-3 Inv-loop μ-loop
+add-get-3 c = search needs
+
 get-requires-3 : tie.Need-get-requires-3 Inv-loop μ-loop
 get-requires-3 c κs = search needs
+
+add-get-4 : tie.Need-add-get-4 Inv-loop μ-loop
+add-get-4 c = search needs
 
 get-requires-4 : tie.Need-get-requires-4 Inv-loop μ-loop
 get-requires-4 c κs = search needs
 
+add-get-5 : tie.Need-add-get-5 Inv-loop μ-loop
+add-get-5 c = search needs
+
 get-requires-5 : tie.Need-get-requires-5 Inv-loop μ-loop
 get-requires-5 c κs = search needs
+
+add-get-6 : tie.Need-add-get-6 Inv-loop μ-loop
+add-get-6 c = search needs
 
 get-requires-6 : tie.Need-get-requires-6 Inv-loop μ-loop
 get-requires-6 c κs = search needs
 
+add-get-7 : tie.Need-add-get-7 Inv-loop μ-loop
+add-get-7 c = search needs
+
 get-requires-7 : tie.Need-get-requires-7 Inv-loop μ-loop
 get-requires-7 c κs = search needs
 
+add-get-8 : tie.Need-add-get-8 Inv-loop μ-loop
+add-get-8 c = search needs
+
 get-requires-8 : tie.Need-get-requires-8 Inv-loop μ-loop
 get-requires-8 c κs = search needs
+
+add-get-9 : tie.Need-add-get-9 Inv-loop μ-loop
+add-get-9 c = search needs
 
 get-requires-9 : tie.Need-get-requires-9 Inv-loop μ-loop
 get-requires-9 c κs = search needs
@@ -80,13 +107,22 @@ state-of-spec =
     add-k
     loop-less
     loop-again
+    add-get
     get-requires
+    add-get-2
     get-requires-2
+    add-get-3
     get-requires-3
+    add-get-4
     get-requires-4
+    add-get-5
     get-requires-5
+    add-get-6
     get-requires-6
+    add-get-7
     get-requires-7
+    add-get-8
     get-requires-8
+    add-get-9
     get-requires-9
     returns)

@@ -1,20 +1,20 @@
--- `compare::report::row` is safe and ends: counters stay within their bounds, and lent slices keep their lengths. Assumes nothing.
+-- `compare::report::row` is safe and ends: counters stay within their bounds. Assumes nothing.
 use Prim.Native.Nat.{_≤_, _-_}
 use Rattle.compare.proofs.report.row.Statement.{statement}
 use Rattle.compare.proofs.report.row.Tie as tie
 use borrow.Author.Needs.{needs}
 
 abbrev Inv-loop : tie.InvT-loop
-Inv-loop name m a first i₀ i = (i ≤ 64)
+Inv-loop m a first i₀ i = (i ≤ 64)
 
 abbrev μ-loop : tie.MeasureT-loop
-μ-loop name m a first i₀ i = 64 - i
+μ-loop m a first i₀ i = 64 - i
+
+cast-first : tie.Need-cast-first Inv-loop μ-loop
+cast-first c = search needs
 
 add-first : tie.Need-add-first Inv-loop μ-loop
 add-first c = search needs
-
-text-requires : tie.Need-text-requires Inv-loop μ-loop
-text-requires c κs = search needs
 
 loop-holds : tie.Need-loop-holds Inv-loop μ-loop
 loop-holds c = search needs
@@ -49,8 +49,8 @@ row-spec =
     (tie.spec
     Inv-loop
     μ-loop
+    cast-first
     add-first
-    text-requires
     loop-holds
     cast-get
     add-get

@@ -1,4 +1,4 @@
--- `reference_words::faults::bad_among` is safe and ends: counters stay within their bounds, and lent slices keep their lengths. Assumes nothing.
+-- `reference_words::faults::bad_among` is safe and ends: counters stay within their bounds. Assumes nothing.
 use Prim.Native.Nat.{_≤_, _-_}
 use Rattle.reference_words.proofs.faults.bad_among.Statement.{statement}
 use Rattle.reference_words.proofs.faults.bad_among.Tie as tie

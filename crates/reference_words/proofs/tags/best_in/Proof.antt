@@ -1,4 +1,4 @@
--- `reference_words::tags::best_in` is safe and ends: counters stay within their bounds, and lent slices keep their lengths. Assumes nothing.
+-- `reference_words::tags::best_in` is safe and ends: counters stay within their bounds. Assumes nothing.
 use Prim.Native.Nat.{_≤_, _-_}
 use Rattle.reference_words.proofs.tags.best_in.Statement.{statement}
 use Rattle.reference_words.proofs.tags.best_in.Tie as tie

@@ -1,13 +1,12 @@
--- `reference_words::words::put_words` is safe and ends: counters stay within their bounds, and lent slices keep their lengths. Assumes nothing.
+-- `reference_words::words::put_words` is safe and ends: counters stay within their bounds. Assumes nothing.
 use Prim.Native.Nat.{_≤_, _-_}
 use Rattle.reference_words.proofs.words.put_words.Statement.{statement}
 use Rattle.reference_words.proofs.words.put_words.Tie as tie
 use borrow.Author.Needs.{needs}
 use lib.ListN.{length}
-use mathlib.Core.Path.{_≡_}
 
 abbrev Inv-loop : tie.InvT-loop
-Inv-loop w₀ to words a i₀ w i = (i ≤ length words) × (length w ≡ length w₀)
+Inv-loop w₀ to words a i₀ w i = (i ≤ length words)
 
 abbrev μ-loop : tie.MeasureT-loop
 μ-loop w₀ to words a i₀ w i = length words - i
@@ -36,9 +35,6 @@ loop-less c = search needs
 loop-again : tie.Need-loop-again Inv-loop μ-loop
 loop-again c = search needs
 
-same-length : tie.Need-same-length Inv-loop μ-loop
-same-length c = search needs
-
 returns : tie.Need-returns Inv-loop μ-loop
 returns c = search needs
 
@@ -56,5 +52,4 @@ put-words-spec =
     add-i
     loop-less
     loop-again
-    same-length
     returns)

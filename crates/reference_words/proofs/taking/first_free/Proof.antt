@@ -1,14 +1,14 @@
--- `reference_words::flags::first_free` is safe and ends: counters stay within their bounds, and lent slices keep their lengths. Assumes nothing.
+-- `reference_words::taking::first_free` is safe and ends: counters stay within their bounds. Assumes nothing.
 use Prim.Native.Nat.{_≤_, _-_}
-use Rattle.reference_words.proofs.flags.first_free.Statement.{statement}
-use Rattle.reference_words.proofs.flags.first_free.Tie as tie
+use Rattle.reference_words.proofs.taking.first_free.Statement.{statement}
+use Rattle.reference_words.proofs.taking.first_free.Tie as tie
 use borrow.Author.Needs.{needs}
 
 abbrev Inv-loop : tie.InvT-loop
-Inv-loop w flags count last from k₀ tried₀ k tried = (tried ≤ count)
+Inv-loop w line count last k₀ tried₀ k tried = (tried ≤ count)
 
 abbrev μ-loop : tie.MeasureT-loop
-μ-loop w flags count last from k₀ tried₀ k tried = count - tried
+μ-loop w line count last k₀ tried₀ k tried = count - tried
 
 loop-holds : tie.Need-loop-holds Inv-loop μ-loop
 loop-holds c = search needs
@@ -19,20 +19,14 @@ plus-requires c κs = search needs
 rest-requires : tie.Need-rest-requires Inv-loop μ-loop
 rest-requires c κs = search needs
 
-add-get : tie.Need-add-get Inv-loop μ-loop
-add-get c = search needs
-
-cast-get : tie.Need-cast-get Inv-loop μ-loop
-cast-get c = search needs
-
-add-get-2 : tie.Need-add-get-2 Inv-loop μ-loop
-add-get-2 c = search needs
-
-get-requires : tie.Need-get-requires Inv-loop μ-loop
-get-requires c κs = search needs
-
 plus-requires-2 : tie.Need-plus-requires-2 Inv-loop μ-loop
 plus-requires-2 c κs = search needs
+
+is-held-requires : tie.Need-is-held-requires Inv-loop μ-loop
+is-held-requires c κs = search needs
+
+plus-requires-3 : tie.Need-plus-requires-3 Inv-loop μ-loop
+plus-requires-3 c κs = search needs
 
 returns : tie.Need-returns Inv-loop μ-loop
 returns c = search needs
@@ -58,11 +52,9 @@ first-free-spec =
     loop-holds
     plus-requires
     rest-requires
-    add-get
-    cast-get
-    add-get-2
-    get-requires
     plus-requires-2
+    is-held-requires
+    plus-requires-3
     returns
     add-tried
     loop-less

@@ -1,0 +1,47 @@
+-- `compare::report::print_text` is safe and ends: counters stay within their bounds. Assumes nothing.
+use Prim.Native.Nat.{_≤_, _-_}
+use Rattle.compare.proofs.report.print_text.Statement.{statement}
+use Rattle.compare.proofs.report.print_text.Tie as tie
+use borrow.Author.Needs.{needs}
+use lib.ListN.{length}
+
+abbrev Inv-loop : tie.InvT-loop
+Inv-loop words m from i₀ i = (i ≤ length words)
+
+abbrev μ-loop : tie.MeasureT-loop
+μ-loop words m from i₀ i = length words - i
+
+loop-holds : tie.Need-loop-holds Inv-loop μ-loop
+loop-holds c = search needs
+
+shared-slice-read-mark : tie.Need-shared-slice-read-mark Inv-loop μ-loop
+shared-slice-read-mark c = search needs
+
+mark-requires : tie.Need-mark-requires Inv-loop μ-loop
+mark-requires c κs = search needs
+
+add-i : tie.Need-add-i Inv-loop μ-loop
+add-i c = search needs
+
+loop-less : tie.Need-loop-less Inv-loop μ-loop
+loop-less c = search needs
+
+loop-again : tie.Need-loop-again Inv-loop μ-loop
+loop-again c = search needs
+
+returns : tie.Need-returns Inv-loop μ-loop
+returns c = search needs
+
+pub print-text-spec : {M : Type 1} → statement M
+print-text-spec =
+    tie.close
+    (tie.spec
+    Inv-loop
+    μ-loop
+    loop-holds
+    shared-slice-read-mark
+    mark-requires
+    add-i
+    loop-less
+    loop-again
+    returns)
