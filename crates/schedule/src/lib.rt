@@ -1,22 +1,25 @@
 // A whole schedule in one call: the opening, then starts and steps given as words, then the list.
 use lines::Moved;
 use schedule_words::Asked;
+use soundness::Checked;
 use spec::Config;
 use spec::Listing;
 use spec::State;
+use spec::Task;
 ghost use mathlib.Core.Path.{_≡_};
 ghost use mathlib.Core.Bool.{true};
-ghost use Prim.Native.Nat.{_*_, _≤_};
+ghost use Prim.Native.Nat.{_*_, _%_, _≤_};
 ghost use lib.ListN.{length};
 ghost use Rattle.spec.specs.Lists.{concat-map};
 ghost use Rattle.spec.specs.Numbers.{output-words};
-ghost use Rattle.spec.specs.Machine.{machine-of};
+ghost use Rattle.spec.specs.Machine.{Machine, machine-of, task-of};
 ghost use Rattle.spec.specs.Words.{overwrite};
 ghost use Rattle.spec.specs.Sound.{sound};
 ghost use Rattle.spec.specs.Schedule.{event, run, schedule};
 ghost use Rattle.spec.specs.Linearizable.{Linearizable};
 ghost use Rattle.spec.specs.ContainsSteps.{ContainsExact};
 ghost use Rattle.pace.specs.StepCounts.{none-begun, StepsWithin};
+ghost use Rattle.soundness.specs.Told.{told, checked-of};
 ghost use Rattle.lines.specs.Reply.{moved-reply};
 ghost use Rattle.schedule_words.specs.Events.{event-of, events-of};
 ghost use Rattle.schedule.specs.Encoding.{decoded, run-words, result-of};
@@ -30,13 +33,37 @@ pub struct Outcome {
     pub listing: Listing,
 }
 
-// Runs one event, given by its words; gives what it changes of the state. Memory is sound, and is not scanned again.
-fn run_event(s: State, kind: u32, task: u32, tag: u32, ns: &mut [u32], bs: &mut [u32]) -> Moved
-    requires { ⌜ sound (machine-of s (now ns) (now bs)) ≡ true ⌝ }
+// What a check of sound memory gives for task k, where c is record k mod 8: that record, or an idle one where there is no task k.
+fn known_sound(c: Task, k: u32) -> Checked
+    ensures { λ r. ⌜ ((y : Machine) → length (y .state .task) ≡ 8 → c ≡ task-of y (k % 8) → r ≡ told true (task-of y k)) ⌝ }
+{
+    if 8 <= k {
+        let none = state::idle();
+        return Checked {
+            sound: true,
+            task: none,
+        };
+    }
+    Checked {
+        sound: true,
+        task: c,
+    }
+}
+
+// Runs one event, given by its words, with what a check of memory gives; gives what it changes of the state.
+fn run_event(
+    s: State,
+    d: Checked,
+    kind: u32,
+    task: u32,
+    tag: u32,
+    ns: &mut [u32],
+    bs: &mut [u32],
+) -> Moved
+    requires { ⌜ d ≡ checked-of (machine-of s (now ns) (now bs)) task ⌝ }
     ensures { λ r. ⌜ moved-reply s task r (now (ns .exit)) (now (bs .exit)) ≡ event (machine-of s (now (ns .entry)) (now (bs .entry)))
         (event-of kind task tag) ⌝ }
 {
-    let d = soundness::known_sound(s, task);
     match schedule_words::asked_by(kind) {
         Asked::Start(call) => checked_start::start(s, d, task, call, tag),
         Asked::Step => checked_step::step(s, d, task, ns, bs),
@@ -44,7 +71,8 @@ fn run_event(s: State, kind: u32, task: u32, tag: u32, ns: &mut [u32], bs: &mut 
 }
 
 // Runs the first n events and writes their outputs. The state is changed in place, as `settle` of lines has it. Memory is sound before
-// the first event, and every event keeps it so.
+// the first event, and every event keeps it so: it is not scanned in between. A record is read from the state in place, which spares a copy
+// of all of them.
 fn run_events(
     s: State,
     n: usize,
@@ -65,7 +93,9 @@ fn run_events(
         let next = i + 1;
         let at = 4 * i;
         let k = events[at + 1];
-        let m = run_event(t, events[at], k, events[at + 2], ns, bs);
+        let c = t.task[(k % 8) as usize];
+        let d = known_sound(c, k);
+        let m = run_event(t, d, events[at], k, events[at + 2], ns, bs);
         let out = m.out;
         schedule_words::write_output(outs, i, out);
         if lines::changes(out, k) {

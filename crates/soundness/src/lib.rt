@@ -3,7 +3,7 @@
 use spec::State;
 use spec::Task;
 ghost use mathlib.Core.Path.{_≡_};
-ghost use mathlib.Core.Bool.{false, true, not, _||_};
+ghost use mathlib.Core.Bool.{false, not, _||_};
 ghost use mathlib.Core.List.{[], _∷_};
 ghost use Prim.Native.Nat.{_≤_};
 ghost use lib.Dec.{eqb};
@@ -25,26 +25,6 @@ fn unsound() -> Checked
     let c = state::idle();
     Checked {
         sound: false,
-        task: c,
-    }
-}
-
-// What a check gives of memory that is known to be sound: the record of task j, an idle one where there is no such task. The end of
-// `tasks_ok` is the same, written out, since the state would be copied to be passed here.
-pub fn known_sound(s: State, j: u32) -> Checked
-    ensures { λ r. ⌜ ((y : Machine) → y .state ≡ s → r ≡ told true (task-of y j)) ⌝ }
-{
-    if 8 <= j {
-        let c = state::idle();
-        return Checked {
-            sound: true,
-            task: c,
-        };
-    }
-    let ts = s.task;
-    let c = ts[j as usize];
-    Checked {
-        sound: true,
         task: c,
     }
 }

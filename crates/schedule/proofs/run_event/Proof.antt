@@ -1,26 +1,10 @@
--- `run_event` gives what `event` gives of the decoded event: a start or a step, as its first word asks. What a check would give is
--- known, since memory is sound.
+-- `run_event` gives what `event` gives of the decoded event: a start or a step, as its first word asks.
 -- Assumes nothing.
-use mathlib.Core.Path.{_≡_, refl}
-use denote.Ref.{now}
-use Rattle.spec.specs.Machine.{Machine, machine-of}
 use Rattle.spec.specs.Schedule.{event}
 use Rattle.schedule_words.specs.Events.{event-asked}
-use Rattle.soundness.specs.Told.{checked-of}
 use borrow.Author.Needs.{needs}
 use Rattle.schedule.proofs.run_event.Statement.{statement}
 use Rattle.schedule.proofs.run_event.Tie as tie
-
--- what a check would give
-known : (p : tie.After-known-sound) → let a = p .before .before .before .args in
-    p .known-sound .result ≡ checked-of (machine-of (a .s) (now (a .ns)) (now (a .bs))) (a .task)
-known p =
-    let start = p .before .before .before in
-    let y = machine-of (start .args .s) (now (start .args .ns)) (now (start .args .bs)) in
-    rw (start .pre) (p .known-sound .ensures y refl)
-
-known-sound-requires : tie.Need-known-sound-requires
-known-sound-requires c κs = search needs
 
 asked-by-requires : tie.Need-asked-by-requires
 asked-by-requires c κs = search needs
@@ -35,17 +19,15 @@ enum-told : tie.Need-enum-told
 enum-told c = search needs
 
 step-requires : tie.Need-step-requires
-step-requires c κs =
-    let at-asked = c .before .before .before .before in
-    known (at-asked .before)
+step-requires c κs = search needs
 
 returns : tie.Need-returns
 unfolding event event-asked
 returns c =
     let at-call = c .before .before in
     let at-asked = at-call .before .before in
-    let a = at-asked .before .before .before .before .args in
-    rw (at-asked .asked-by .ensures (a .task) (a .tag), at-call .call .given .1) (c .start .ensures _ _ (known (at-asked .before)) .reply)
+    let a = at-asked .before .before .before .args in
+    rw (at-asked .asked-by .ensures (a .task) (a .tag), at-call .call .given .1) (c .start .ensures _ _ (at-asked .before .before .before .pre) .reply)
 
 same-length : tie.Need-same-length
 same-length c = search needs
@@ -59,14 +41,13 @@ returns-2 c =
     let at-step = c .before .before .before .before in
     let at-told = at-step .before .before .before in
     let at-asked = at-told .before .before in
-    let a = at-asked .before .before .before .before .args in
+    let a = at-asked .before .before .before .args in
     rw (at-asked .asked-by .ensures (a .task) (a .tag), at-told .enum-told .given .1) (at-step .step .ensures .reply)
 
 pub run-event-spec : {M : Type 1} → statement M
 run-event-spec =
     tie.close
     (tie.spec
-    known-sound-requires
     asked-by-requires
     enum-known-call
     start-requires

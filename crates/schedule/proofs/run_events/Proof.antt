@@ -7,30 +7,36 @@ use mathlib.Core.Path.{_≡_, refl, sym, _∙_}
 use lib.ListN.{length, drop, getD}
 use mathlib.Core.Bool.{true}
 use Rattle.spec.specs.Sound.{sound}
-use Rattle.spec.specs.Machine.{machine-of, state-head, state-last-node, state-last-bucket, state-task}
+use Rattle.spec.specs.declared.Task.{Task}
+use Rattle.pool.proofs.Laws.{length-mapped}
+use Rattle.spec.specs.Machine.{machine-of, task-of, idle, state-head, state-last-node, state-last-bucket, state-task}
 use Rattle.lines.proofs.Settling.{changes-below, moved-on, moved-off}
 use Rattle.schedule_words.specs.Events.{events-of}
 use Rattle.schedule_words.specs.EventLaws.{event-at}
 use Rattle.schedule.proofs.Laws.{Rest, rest-start, stays-sound, turn, finished}
 use native.Mathlib.Omega.{arith}
-use borrow.Author.Needs.{needs}
+use borrow.Author.Needs.{needs, set-long}
 use Rattle.schedule.proofs.run_events.Statement.{statement}
 use Rattle.schedule.proofs.run_events.Tie as tie
 
 abbrev Inv-loop : tie.InvT-loop
 Inv-loop n events ns₀ bs₀ outs₀ t₀ i₀ ns bs outs t i =
     (i ≤ n) × (length ns ≡ length ns₀) × (length bs ≡ length bs₀) × (length outs ≡ length outs₀)
-    × (sound (machine-of t ns bs) ≡ true)
+    × (sound (machine-of t ns bs) ≡ true) × (length (t .task) ≡ 8)
     × Rest (machine-of t₀ ns₀ bs₀) outs₀ (events-of n events) (machine-of t ns bs) outs (4 * i) (events-of (n - i) (drop (4 * i) events))
 
 abbrev μ-loop : tie.MeasureT-loop
 μ-loop n events ns₀ bs₀ outs₀ t₀ i₀ ns bs outs t i = n - i
 
+-- the state that is given has eight records
+len : (c : tie.Start Inv-loop μ-loop) → length (c .args .s .task) ≡ 8
+len c = search (needs, length-mapped)
+
 loop-holds : tie.Need-loop-holds Inv-loop μ-loop
 loop-holds c =
     let start = c .before .before .before .before in
     let a = start .args in
-    (omega arith, refl, refl, refl, start .pre .2, rest-start (now (a .events)) (a .n) 0 _ _)
+    (omega arith, refl, refl, refl, start .pre .2, len start, rest-start (now (a .events)) (a .n) 0 _ _)
 
 add-next : tie.Need-add-next Inv-loop μ-loop
 add-next c = search needs
@@ -46,6 +52,18 @@ mul-k c = search needs
 
 shared-slice-read-k : tie.Need-shared-slice-read-k Inv-loop μ-loop
 shared-slice-read-k c = search needs
+
+cast-c : tie.Need-cast-c Inv-loop μ-loop
+cast-c c = search needs
+
+mul-c : tie.Need-mul-c Inv-loop μ-loop
+mul-c c = omega arith
+
+element-copy-out-c : tie.Need-element-copy-out-c Inv-loop μ-loop
+element-copy-out-c c = omega arith
+
+known-sound-requires : tie.Need-known-sound-requires Inv-loop μ-loop
+known-sound-requires c κs = search needs
 
 mul-run-event : tie.Need-mul-run-event Inv-loop μ-loop
 mul-run-event c = search needs
@@ -63,9 +81,13 @@ shared-slice-read-run-event-2 : tie.Need-shared-slice-read-run-event-2 Inv-loop 
 shared-slice-read-run-event-2 c = search needs
 
 run-event-requires : tie.Need-run-event-requires Inv-loop μ-loop
+unfolding task-of idle
 run-event-requires c κs =
-    let at-loop = c .before .before .before .before .before .before in
-    at-loop .loop .inv .4
+    let at-known = c .before .before .before .before in
+    let at-loop = at-known .before .before .before .before in
+    let l = at-loop .loop in
+    let y = machine-of (l .t) (l .ns) (l .bs) in
+    rw (l .inv .4) (at-known .known-sound .ensures y (l .inv .5) refl)
 
 write-output-requires : tie.Need-write-output-requires Inv-loop μ-loop
 write-output-requires c κs = search needs
@@ -90,7 +112,7 @@ unfolding state-head state-last-node state-last-bucket state-task
 loop-again c =
     let at-write = c .before .before .before .before .before in
     let at-event = at-write .before .before .before .before .before .before in
-    let at-test = at-event .before .before .before .before .before .before in
+    let at-test = at-event .before .before .before .before .before .before .before .before in
     let at-loop = at-test .before in
     let start = at-loop .before .before .before .before .before in
     let room = start .pre .1 in
@@ -102,11 +124,12 @@ loop-again c =
     let q = sym (c .before .before .changes .ensures) ∙ c .before .if1 .taken in
     let reply = moved-on (l .t) k (m .result) _ _ (m .ensures) q in (
       omega arith,
-      m .kept .1 .1 .1 .1 .0 ∙ l .inv .1,
-      m .kept .1 .1 .1 .1 .1 .0 ∙ l .inv .2,
+      m .kept .1 .1 .1 .1 .1 .0 ∙ l .inv .1,
+      m .kept .1 .1 .1 .1 .1 .1 .0 ∙ l .inv .2,
       o .kept .0 ∙ l .inv .3,
       stays-sound _ (event-at (now (start .args .events)) (l .i)) (l .inv .4) _ reply,
-      turn (now (start .args .events)) (start .args .n) (l .i) h (omega arith) (l .inv .5) _ reply _ (o .ensures),
+      set-long Task (l .t .task) k 8 (m .result .task) (l .inv .5),
+      turn (now (start .args .events)) (start .args .n) (l .i) h (omega arith) (l .inv .6) _ reply _ (o .ensures),
     )
 
 loop-less-2 : tie.Need-loop-less-2 Inv-loop μ-loop
@@ -116,7 +139,7 @@ loop-again-2 : tie.Need-loop-again-2 Inv-loop μ-loop
 loop-again-2 c =
     let at-write = c .before .before .before .before in
     let at-event = at-write .before .before .before .before .before .before in
-    let at-test = at-event .before .before .before .before .before .before in
+    let at-test = at-event .before .before .before .before .before .before .before .before in
     let at-loop = at-test .before in
     let start = at-loop .before .before .before .before .before in
     let room = start .pre .1 in
@@ -128,11 +151,12 @@ loop-again-2 c =
     let q = sym (c .before .changes .ensures) ∙ c .if1 .left in
     let reply = moved-off (l .t) k (m .result) _ _ (m .ensures) q in (
       omega arith,
-      m .kept .1 .1 .1 .1 .0 ∙ l .inv .1,
-      m .kept .1 .1 .1 .1 .1 .0 ∙ l .inv .2,
+      m .kept .1 .1 .1 .1 .1 .0 ∙ l .inv .1,
+      m .kept .1 .1 .1 .1 .1 .1 .0 ∙ l .inv .2,
       o .kept .0 ∙ l .inv .3,
       stays-sound _ (event-at (now (start .args .events)) (l .i)) (l .inv .4) _ reply,
-      turn (now (start .args .events)) (start .args .n) (l .i) h (omega arith) (l .inv .5) _ reply _ (o .ensures),
+      l .inv .5,
+      turn (now (start .args .events)) (start .args .n) (l .i) h (omega arith) (l .inv .6) _ reply _ (o .ensures),
     )
 
 same-length : tie.Need-same-length Inv-loop μ-loop
@@ -148,7 +172,7 @@ returns : tie.Need-returns Inv-loop μ-loop
 returns c =
     let l = c .before .loop in
     let a = c .before .before .before .before .before .before .args in
-    finished (now (a .events)) (a .n) (l .i) (omega arith) (l .inv .5)
+    finished (now (a .events)) (a .n) (l .i) (omega arith) (l .inv .6)
 
 pub run-events-spec : {M : Type 1} → statement M
 run-events-spec =
@@ -162,6 +186,10 @@ run-events-spec =
     add-k
     mul-k
     shared-slice-read-k
+    cast-c
+    mul-c
+    element-copy-out-c
+    known-sound-requires
     mul-run-event
     shared-slice-read-run-event
     add-run-event
