@@ -94,7 +94,7 @@ fn check_schedule(
     let count = events.len() / EVENT_WORDS;
     let before = Memory::random(&mut random, shape.node_words(), shape.bucket_words(), count);
     let mut after = before.clone();
-    after.run(schedule::run, shape.opening, &events);
+    after.run(schedule::run::<true>, shape.opening, &events);
     let kept = before.tags.clone();
     let checked = match after.outcome as usize {
         listed @ 0..=MAX_TAGS if after.tags[listed..] == kept[listed..] => {
@@ -143,7 +143,7 @@ fn check_openings() -> Result<(), String> {
         };
         let before = Memory::random(&mut random, node_words, bucket_words, 0);
         let mut after = before.clone();
-        after.run(schedule::run, opening, &[]);
+        after.run(schedule::run::<true>, opening, &[]);
         let untouched = Memory {
             outcome,
             ..before.clone()
@@ -167,7 +167,7 @@ fn check_short_list() -> Result<(), String> {
         version: 1,
         zero_withdrawn: 0,
     };
-    after.run(schedule::run, opening, &[]);
+    after.run(schedule::run::<true>, opening, &[]);
     if after.outcome != REFUSED + 9 || after.tags != before.tags {
         return Err("list slice of 63 words".into());
     }

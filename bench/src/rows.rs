@@ -8,13 +8,13 @@ use crate::schedule::{self, encode_event, Event, Opening, Run, EVENT_WORDS};
 /// The implementations by name, the plain one first, then the plain one without its scans.
 #[cfg(not(feature = "proved"))]
 pub const IMPLEMENTATIONS: [(&str, Run); 2] = [
-    ("plain", schedule::run),
-    ("unscanned", schedule::run_unscanned),
+    ("plain", schedule::run::<true>),
+    ("unscanned", schedule::run::<false>),
 ];
 #[cfg(feature = "proved")]
 pub const IMPLEMENTATIONS: [(&str, Run); 4] = [
-    ("plain", schedule::run),
-    ("unscanned", schedule::run_unscanned),
+    ("plain", schedule::run::<true>),
+    ("unscanned", schedule::run::<false>),
     ("schedule", crate::proved::run),
     ("calls", crate::proved::run_by_calls),
 ];

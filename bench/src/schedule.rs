@@ -142,44 +142,10 @@ fn apply_unscanned(
     }
 }
 
-type Apply = fn(&mut State, &mut [u32], &mut [u32], Event) -> Result<Output, Refusal>;
-
 /// Opens with the two pools, runs every event, writing an output for each, and lists the
 /// tags at the end. A refused opening writes nothing. `outputs` has room for every event.
-pub fn run(
-    opening: Opening,
-    nodes: &mut [u32],
-    buckets: &mut [u32],
-    events: &[u32],
-    outputs: &mut [u32],
-    tags: &mut [u32],
-) -> u32 {
-    run_with(apply, opening, nodes, buckets, events, outputs, tags)
-}
-
-/// The same without a scan before each event: memory stays sound.
-pub fn run_unscanned(
-    opening: Opening,
-    nodes: &mut [u32],
-    buckets: &mut [u32],
-    events: &[u32],
-    outputs: &mut [u32],
-    tags: &mut [u32],
-) -> u32 {
-    run_with(
-        apply_unscanned,
-        opening,
-        nodes,
-        buckets,
-        events,
-        outputs,
-        tags,
-    )
-}
-
-#[inline(always)]
-fn run_with(
-    apply: Apply,
+/// Without `SCANS` memory is not scanned before an event: it stays sound.
+pub fn run<const SCANS: bool>(
     opening: Opening,
     nodes: &mut [u32],
     buckets: &mut [u32],
@@ -198,7 +164,12 @@ fn run_with(
         "too few words for the outputs"
     );
     for (event, output) in events.iter().zip(outputs) {
-        let given = apply(&mut state, nodes, buckets, decode_event(event));
+        let event = decode_event(event);
+        let given = if SCANS {
+            apply(&mut state, nodes, buckets, event)
+        } else {
+            apply_unscanned(&mut state, nodes, buckets, event)
+        };
         *output = encode_output(given);
     }
     match machine::list(&state, nodes, buckets, tags) {
@@ -241,7 +212,7 @@ mod tests {
             .collect();
         let (mut nodes, mut buckets) = ([9; 34], [9; 66]);
         let (mut outputs, mut tags) = ([9; 20], [9; 64]);
-        let outcome = run(
+        let outcome = run::<true>(
             OPENING,
             &mut nodes,
             &mut buckets,
@@ -285,7 +256,7 @@ mod tests {
                 ..OPENING
             };
             let mut outputs = [9; 20];
-            let outcome = run(
+            let outcome = run::<true>(
                 opening,
                 &mut [9; 34],
                 &mut [9; 66],
@@ -313,7 +284,7 @@ mod tests {
                 version,
                 zero_withdrawn: version,
             };
-            let outcome = run(opening, &mut nodes, &mut buckets, &[], &mut [], &mut tags);
+            let outcome = run::<true>(opening, &mut nodes, &mut buckets, &[], &mut [], &mut tags);
             assert_eq!(outcome, REFUSED + refusal);
             assert_eq!((nodes, buckets, tags), ([9; 34], [9; 66], [9; 64]));
         }

@@ -14,6 +14,14 @@ use borrow.Author.Needs.{needs}
 use Rattle.schedule.proofs.run.Statement.{statement}
 use Rattle.schedule.proofs.run.Tie as tie
 
+-- ---- the places before: where the opening has answered, from where the number of events is known; the start
+
+abbrev opened : tie.After-number-of-events → tie.After-open
+opened p = p .before .before .before .before .before .before .before
+
+abbrev start : tie.After-open → tie.Start
+start p = p .before .before .before .before .before .before .before .before
+
 open-requires : tie.Need-open-requires
 open-requires c κs = search needs
 
@@ -26,7 +34,7 @@ same-length-2 c = search needs
 returns : tie.Need-returns
 returns c =
     let at-open = c .before .before .before .before .before .before in
-    let a = at-open .before .before .before .before .before .before .before .before .args in
+    let a = start at-open .args in
     let o = at-open .«open» .ensures in
     let d = c .if1 .taken in (
       not-run (a .g) (now (a .ns)) (now (a .bs)) (now (a .events)) (now (a .outs)) (now (a .tags)) _ (o .0) _ (o .1) d,
@@ -39,8 +47,8 @@ number-of-events-requires c κs = search needs
 run-events-requires : tie.Need-run-events-requires
 run-events-requires c κs =
     let at-number = c .before .before .before in
-    let at-open = at-number .before .before .before .before .before .before .before in
-    let a = at-open .before .before .before .before .before .before .before .before .args in
+    let at-open = opened at-number in
+    let a = start at-open .args in
     let o = at-open .«open» .ensures in
     let accepted = sym (o .0) ∙ at-number .before .if1 .left in
     (omega arith, omega arith, rw (o .1) (opening-sound (a .g) (now (a .ns)) (now (a .bs)) accepted))
@@ -66,8 +74,8 @@ returns-2 c =
     let at-list = c .before .before in
     let at-events = at-list .before .before .before .before .before .before .before .before .before .before in
     let at-number = at-events .before .before .before .before in
-    let at-open = at-number .before .before .before .before .before .before .before in
-    let a = at-open .before .before .before .before .before .before .before .before .args in
+    let at-open = opened at-number in
+    let a = start at-open .args in
     let o = at-open .«open» .ensures in
     let z = at-number .before .if1 .left in
     let n = at-number .number-of-events .ensures in

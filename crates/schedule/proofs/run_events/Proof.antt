@@ -28,6 +28,10 @@ Inv-loop n events ns₀ bs₀ outs₀ t₀ i₀ ns bs outs t i =
 abbrev μ-loop : tie.MeasureT-loop
 μ-loop n events ns₀ bs₀ outs₀ t₀ i₀ ns bs outs t i = n - i
 
+-- where the loop's test has been passed, from where the event has been run
+abbrev in-loop : tie.After-run-event Inv-loop μ-loop → tie.In-loop Inv-loop μ-loop
+in-loop p = p .before .before .before .before .before .before .before .before
+
 -- the state that is given has eight records
 len : (c : tie.Start Inv-loop μ-loop) → length (c .args .s .task) ≡ 8
 len c = search (needs, length-mapped)
@@ -112,7 +116,7 @@ unfolding state-head state-last-node state-last-bucket state-task
 loop-again c =
     let at-write = c .before .before .before .before .before in
     let at-event = at-write .before .before .before .before .before .before in
-    let at-test = at-event .before .before .before .before .before .before .before .before in
+    let at-test = in-loop at-event in
     let at-loop = at-test .before in
     let start = at-loop .before .before .before .before .before in
     let room = start .pre .1 in
@@ -139,7 +143,7 @@ loop-again-2 : tie.Need-loop-again-2 Inv-loop μ-loop
 loop-again-2 c =
     let at-write = c .before .before .before .before in
     let at-event = at-write .before .before .before .before .before .before in
-    let at-test = at-event .before .before .before .before .before .before .before .before in
+    let at-test = in-loop at-event in
     let at-loop = at-test .before in
     let start = at-loop .before .before .before .before .before in
     let room = start .pre .1 in
