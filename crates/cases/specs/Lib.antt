@@ -1,6 +1,15 @@
 pub mod Table
 pub mod OurCases
 pub mod Bounds
+pub mod LineRows
+pub mod FillRows
+pub mod FullRows
+pub mod HeldRows
+pub mod EntryRows
+pub mod RefusalOrderRows
+pub mod VersionRows
+pub mod WithdrawnRows
+pub mod ContainsExamples
 pub mod ListedRows
 pub mod StepRefusalRows
 pub mod SpoiltRows

@@ -1,5 +1,5 @@
 -- Rows of the refusals of a step: 8 where its line goes through an empty place, uses a place at or past its node's size or makes a
--- node of an unlisted size (a 65th tag: FullRows of spec; 7, and 8 before 7: RefusalOrderRows of spec). Nothing changes. Assumes nothing.
+-- node of an unlisted size (a 65th tag: FullRows; 7, and 8 before 7: RefusalOrderRows). Nothing changes. Assumes nothing.
 use mathlib.Core.Path.{_≡_, refl}
 use mathlib.Core.List.{List, [], _∷_, map}
 use Rattle.spec.specs.declared.Answer.the-variants.{No, Lost}

@@ -15,13 +15,7 @@ pub mod Linearizable
 pub mod Everything
 pub mod Rows
 pub mod ContainsSteps
-pub mod ContainsExamples
+pub mod ThreeAndFive
 pub mod WholeRows
-pub mod LineRows
-pub mod FillRows
-pub mod FullRows
-pub mod HeldRows
-pub mod RefusalOrderRows
-pub mod EntryRows
-pub mod VersionRows
-pub mod WithdrawnRows
+pub mod EditRows
+pub mod EditEntryRows

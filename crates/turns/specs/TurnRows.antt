@@ -12,7 +12,7 @@ use Rattle.spec.specs.Machine.{Machine, config-of, idle, with-chosen}
 use Rattle.spec.specs.Schedule.{starts, steps}
 use Rattle.spec.specs.Everything.{everything}
 use Rattle.spec.specs.WholeRows.{call_tag_line_i_own_t_s_b_m_n_new-node_new-bucket_, whole-rows}
-use Rattle.spec.specs.EntryRows.{small, wants-node, worn}
+use Rattle.spec.specs.EditEntryRows.{small, wants-node, worn}
 use Rattle.turns.specs.declared.Turn.the-variants as Turn
 use Rattle.turns.specs.Turn.{gives, idle-tasks, next-task, after-step, turn-to, turn}
 use Rattle.turns.specs.Moves.{Move, enters, turns, Said, entered, turned, move, moves, run-of, stands-for, outputs}

@@ -2,28 +2,14 @@
 use Prim.Native.Nat.{ℕ}
 use mathlib.Core.Path.{_≡_, refl}
 use mathlib.Core.List.{[], _∷_, map}
 use Rattle.spec.specs.declared.Task.{Task}
 use Rattle.spec.specs.Machine.{Machine, idle, task-of}
 use Rattle.spec.specs.Entries.{step}
 use Rattle.spec.specs.Everything.{everything}
 use Rattle.spec.specs.WholeRows.{call_tag_line_i_own_t_s_b_m_n_new-node_new-bucket_, node, bucket, yard, whole-rows}
-
--- task 1, with these places: t, s, b, m, n, new node, new bucket
-unfoldable pub task-1 : ℕ → ℕ → ℕ → ℕ → ℕ → ℕ → ℕ → Task
-task-1 t' s' b' m' n' h' d' = call 1 tag 5 line 39 i 0 own 3 t t' s s' b b' m m' n n' new-node h' new-bucket d'
+use Rattle.spec.specs.EditEntryRows.{task-1, growing, node-taken, three-nodes}
 
 -- ---- nodes, as numbers plus 1: 0 if the step is refused
-
-unfoldable pub growing : Task
-growing = call 4 tag 0 line 27 i 1 own 4 t 1 s 0 b 0 m 0 n 0 new-node 0 new-bucket 0
-
-unfoldable pub node-taken : Machine → ℕ
-node-taken y = task-of (step y 0 .machine) 0 .«new_node»
-
--- the head, the last taken, the predecessors of nodes 0, 1 and 2, and task 1
-unfoldable pub three-nodes : ℕ → ℕ → ℕ → ℕ → ℕ → Task → Machine
-three-nodes k ln p q r c =
-    yard k ln 0 (node 1 p (1 ∷ []) ∷ node 2 q [] ∷ node 2 r [] ∷ []) (bucket 1 [] ∷ bucket 1 [] ∷ []) (growing ∷ c ∷ [])
 
 -- by what task 1 has: nothing; node 1 as its t, s or new node; number 2 as its b, m, n or new bucket, which are no nodes
 pub nodes-of-task-1 :

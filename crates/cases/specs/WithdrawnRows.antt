@@ -2,43 +2,21 @@
 -- contains of it go on, a set that holds it lists it until it leaves, and the state keeps the rule. Assumes nothing.
 use Prim.Native.Nat.{ℕ}
 use mathlib.Core.Path.{_≡_, refl}
-use mathlib.Core.List.{List, [], _∷_, map}
-use mathlib.Core.Bool.{Bool, true, false}
+use mathlib.Core.List.{[], _∷_, map}
+use mathlib.Core.Bool.{true, false}
 use Rattle.spec.specs.declared.Answer.the-variants.{Yes}
 use Rattle.spec.specs.declared.Call.the-variants.{Insert, Remove, Contains, Grow, Shrink}
-use Rattle.spec.specs.declared.Config.{Config}
 use Rattle.spec.specs.declared.Occupancy.the-variants.{Tags}
 use Rattle.spec.specs.declared.Output.the-variants.{At, End, Refuse}
 use Rattle.spec.specs.declared.Task.{Task}
-use Rattle.spec.specs.Machine.{Machine, machine-of, config-of, with-version, with-zero-withdrawn}
 use Rattle.spec.specs.Entries.{start, step}
-use Rattle.spec.specs.Listed.{listed}
 use Rattle.spec.specs.Everything.{everything}
-use Rattle.spec.specs.WholeRows.{call_tag_line_i_own_t_s_b_m_n_new-node_new-bucket_, config_H_B_head_last-node_last-bucket_tasks_}
-use Rattle.spec.specs.WholeRows.{node, bucket, whole-rows}
-use Rattle.spec.specs.EntryRows.{opened, not-opened-by, insert-at-33, worn, replies}
-
--- two tasks, of version 2, under this rule
-unfoldable pub ruled : Bool → Config
-ruled w = with-zero-withdrawn w (with-version 2 (config-of 2))
-
--- one bucket with these tags, and these tasks
-unfoldable pub yard-under : Bool → List ℕ → List Task → Machine
-yard-under w ks cs =
-    machine-of (config (ruled w) H 1 B 1 head 0 last-node 0 last-bucket 0 tasks cs) (node 1 0 (1 ∷ [])) (bucket 1 ks)
-
--- "a set that holds it lists it until it leaves"
-unfoldable pub with-zero : List Task → Machine
-with-zero cs = yard-under true (0 ∷ 7 ∷ []) cs
-
-pub zero-listed : listed (with-zero []) ∷ listed (yard-under true (7 ∷ []) []) ∷ [] ≡ (0 ∷ 7 ∷ []) ∷ (7 ∷ []) ∷ []
-unfolding everything whole-rows ruled yard-under with-zero
-zero-listed = refl
+use Rattle.spec.specs.WholeRows.{call_tag_line_i_own_t_s_b_m_n_new-node_new-bucket_}
+use Rattle.spec.specs.WholeRows.{whole-rows}
+use Rattle.spec.specs.EditEntryRows.{opened, insert-at-33, worn, replies, ruled, yard-under, with-zero, fresh}
+use Rattle.cases.specs.EntryRows.{not-opened-by}
 
 -- ---- starts of task 0 with tag 0: each call, and then an insert of tag 1
-
-unfoldable pub fresh : ℕ → ℕ → ℕ → Task
-fresh f k l = call f tag k line l i 0 own 0 t 0 s 0 b 0 m 0 n 0 new-node 0 new-bucket 0
 
 pub starts-withdrawn :
     start (with-zero []) 0 Insert 0 ∷ start (with-zero []) 0 Remove 0 ∷ start (with-zero []) 0 Contains 0

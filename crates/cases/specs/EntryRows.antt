@@ -2,33 +2,18 @@
 -- Assumes nothing.
 use Prim.Native.Nat.{ℕ}
 use mathlib.Core.Path.{_≡_, refl}
-use mathlib.Core.List.{List, [], _∷_, map}
+use mathlib.Core.List.{[], _∷_, map}
 use lib.ListN.{replicate}
 use Rattle.spec.specs.declared.Call.the-variants.{Insert, Remove, Contains, Grow, Shrink}
-use Rattle.spec.specs.declared.Config.{Config}
-use Rattle.spec.specs.declared.Output.{Output}
-use Rattle.spec.specs.declared.Output.the-variants.{At, Refuse}
-use Rattle.spec.specs.declared.Task.{Task}
-use Rattle.spec.specs.Machine.{Machine, machine-of, config-of, zero-config, idle}
-use Rattle.spec.specs.Entries.{Opened, opening, Reply, start, step, show}
+use Rattle.spec.specs.declared.Output.the-variants.{At}
+use Rattle.spec.specs.Machine.{machine-of, config-of, zero-config, idle}
+use Rattle.spec.specs.Entries.{Opened, start, step, show}
 use Rattle.spec.specs.Everything.{everything}
-use Rattle.spec.specs.WholeRows.{call_tag_line_i_own_t_s_b_m_n_new-node_new-bucket_, config_H_B_head_last-node_last-bucket_tasks_, node, bucket, yard}
-use Rattle.spec.specs.WholeRows.{stopped, whole-rows}
+use Rattle.spec.specs.WholeRows.{call_tag_line_i_own_t_s_b_m_n_new-node_new-bucket_, config_H_B_head_last-node_last-bucket_tasks_}
+use Rattle.spec.specs.WholeRows.{whole-rows}
+use Rattle.spec.specs.EditEntryRows.{opened, small, insert-at-33, worn, wants-node, replies, refuses}
 
 -- ---- openings, over pools of sevens
-
-unfoldable pub opened : Config → ℕ → ℕ → Opened
-opened g w x = opening g (replicate w 7) (replicate x 7)
-
--- three nodes and two buckets
-pub opened-whole :
-    opened (config-of 2) 102 132
-    ≡ record {
-      refusal = 0;
-      machine = machine-of (config (config-of 2) H 3 B 2 head 0 last-node 0 last-bucket 0 tasks []) (1 ∷ 0 ∷ 1 ∷ replicate 99 0) (1 ∷ replicate 131 0);
-    }
-unfolding everything opened
-opened-whole = refl
 
 -- a state of zeros, and the words as they were
 unfoldable pub not-opened-by : ℕ → ℕ → ℕ → Opened
@@ -50,16 +35,7 @@ pub opened-chosen : map (λ k. opened (config-of k) 34 66 .machine .state .chose
 unfolding everything opened
 opened-chosen = refl
 
--- ---- starts: a small yard with these tasks
-
-unfoldable pub small : List Task → Machine
-small cs = yard 0 0 0 (node 1 0 (1 ∷ []) ∷ []) (bucket 1 (5 ∷ 6 ∷ []) ∷ bucket 1 [] ∷ []) cs
-
-unfoldable pub insert-at-33 : Task
-insert-at-33 = call 1 tag 5 line 33 i 0 own 1 t 1 s 0 b 0 m 0 n 0 new-node 0 new-bucket 0
-
-unfoldable pub replies : Output → Machine → Reply
-replies o y = record { out = o; machine = y }
+-- ---- starts, in the small yard of EditEntryRows of `spec`
 
 -- task 1's start of each call with tag 9, task 0 running
 pub starts-whole :
@@ -86,9 +62,6 @@ own-stay = refl
 
 -- ---- refusals 4, 5 and 6; a task that is not there is not running either, and a step of it gives 4
 
-unfoldable pub refuses : ℕ → List Task → Reply
-refuses r cs = replies (Refuse r) (small cs)
-
 pub refusals-456 :
     start (small (insert-at-33 ∷ [])) 2 Insert 9 ∷ start (small (insert-at-33 ∷ [])) 0 Insert 9
     ∷ step (small (insert-at-33 ∷ [])) 2 ∷ step (small (insert-at-33 ∷ [])) 8 ∷ step (small (insert-at-33 ∷ [])) 1 ∷ []
@@ -98,12 +71,6 @@ refusals-456 = refl
 
 -- ---- 8 before 5, 6 and 7: i is over 32 in task 0's record, which runs; task 1 is idle; or it finds no node at 27
 
-unfoldable pub worn : Task
-worn = call 1 tag 5 line 33 i 33 own 1 t 1 s 0 b 0 m 0 n 0 new-node 0 new-bucket 0
-
-unfoldable pub wants-node : Task
-wants-node = call 4 tag 0 line 27 i 0 own 1 t 1 s 0 b 0 m 0 n 0 new-node 0 new-bucket 0
-
 pub eight-first :
     start (small (worn ∷ [])) 0 Insert 9 ∷ step (small (worn ∷ [])) 1 ∷ step (small (worn ∷ wants-node ∷ [])) 1
     ∷ step (small (insert-at-33 ∷ wants-node ∷ [])) 1 ∷ []
@@ -111,22 +78,9 @@ pub eight-first :
 unfolding everything whole-rows small insert-at-33 replies refuses worn wants-node
 eight-first = refl
 
--- 8 also where an idle task's record is not zeros: it has made a step
-
-unfoldable pub left-over : Task
-left-over = stopped (call 0 tag 0 line 0 i 0 own 1 t 0 s 0 b 0 m 0 n 0 new-node 0 new-bucket 0)
-
-pub eight-for-an-idle-task : step (small (insert-at-33 ∷ left-over ∷ [])) 0 ≡ refuses 8 (insert-at-33 ∷ left-over ∷ [])
-unfolding everything whole-rows small insert-at-33 replies refuses left-over
-eight-for-an-idle-task = refl
-
--- ---- show: each bucket's tags, none past the pool, none in spoilt memory
+-- ---- show: each bucket's tags, none past the pool
 
 pub shows :
     map (show (small (insert-at-33 ∷ []))) (0 ∷ 1 ∷ 2 ∷ []) ≡ (5 ∷ 6 ∷ []) ∷ [] ∷ [] ∷ []
 unfolding everything whole-rows small insert-at-33
 shows = refl
-
-pub shows-none : show (small (worn ∷ [])) 0 ≡ []
-unfolding everything whole-rows small worn
-shows-none = refl

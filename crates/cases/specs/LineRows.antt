@@ -1,61 +1,18 @@
 -- A row for each line of contains, grow, shrink, insert and remove, and for each way in which it may go on: the whole machine before and
--- after. Every place of the task is filled and t is not always the head, so that what a line leaves alone shows. Assumes nothing.
+-- after. Every place of the task is filled and t is not always the head, so that what a line leaves alone shows. The yard, and the rows that
+-- have a name, are in EditRows of `spec`. Assumes nothing.
 use Prim.Native.Nat.{ℕ}
 use mathlib.Core.Path.{_≡_, refl}
 use mathlib.Core.List.{List, [], _∷_, map}
 use Rattle.spec.specs.declared.Answer.the-variants.{Yes, No, Done, Lost, Limit}
 use Rattle.spec.specs.declared.Task.{Task}
 use Rattle.spec.specs.Machine.{Machine}
 use Rattle.spec.specs.Everything.{everything}
 use Rattle.spec.specs.Rows.{ended, counted}
 use Rattle.spec.specs.WholeRows.{call_tag_line_i_own_t_s_b_m_n_new-node_new-bucket_, node, bucket, yard, Row, told, stepped, goes, keeps, ends}
-use Rattle.spec.specs.WholeRows.{ends-writing, whole-rows}
-
--- ---- one yard for most rows: node 1 is head with place 0 empty, node 0 its predecessor, node 2 and bucket 3 hold old words
-
-unfoldable pub other : Task
-other = call 3 tag 8 line 15 i 0 own 2 t 1 s 0 b 0 m 0 n 0 new-node 0 new-bucket 0
-
-unfoldable pub node-0 : List ℕ
-node-0 = node 1 0 (1 ∷ [])
-
-unfoldable pub node-1 : List ℕ
-node-1 = node 2 1 (0 ∷ 2 ∷ [])
-
-unfoldable pub node-2 : List ℕ
-node-2 = node 8 1 (4 ∷ 3 ∷ [])
-
-unfoldable pub bucket-0 : List ℕ
-bucket-0 = bucket 0 (4 ∷ 5 ∷ 6 ∷ [])
-
-unfoldable pub bucket-1 : List ℕ
-bucket-1 = bucket 1 (5 ∷ 9 ∷ [])
-
-unfoldable pub bucket-2 : List ℕ
-bucket-2 = bucket 1 (6 ∷ [])
-
-unfoldable pub bucket-3 : List ℕ
-bucket-3 = bucket 0 (1 ∷ 2 ∷ 3 ∷ [])
-
-unfoldable pub old-nodes : List (List ℕ)
-old-nodes = node-0 ∷ node-1 ∷ node-2 ∷ []
-
-unfoldable pub old-buckets : List (List ℕ)
-old-buckets = bucket-0 ∷ bucket-1 ∷ bucket-2 ∷ bucket-3 ∷ []
-
--- with other nodes, with other buckets, with neither
-unfoldable pub with-these-nodes : List (List ℕ) → Task → Machine
-with-these-nodes ns c = yard 1 0 2 ns old-buckets (c ∷ other ∷ [])
-
-unfoldable pub with-these-buckets : List (List ℕ) → Task → Machine
-with-these-buckets bs c = yard 1 0 2 old-nodes bs (c ∷ other ∷ [])
-
-unfoldable pub grown : Task → Machine
-grown c = yard 1 0 2 old-nodes old-buckets (c ∷ other ∷ [])
-
-unfoldable pub one-yard : ℕ
-unfolding whole-rows other node-0 node-1 node-2 bucket-0 bucket-1 bucket-2 bucket-3 old-nodes old-buckets with-these-nodes with-these-buckets grown
-one-yard = 0
+use Rattle.spec.specs.WholeRows.{ends-writing}
+use Rattle.spec.specs.EditRows.{other, node-0, node-1, bucket-0, bucket-2, bucket-3, old-nodes, old-buckets, with-these-nodes, with-these-buckets, grown}
+use Rattle.spec.specs.EditRows.{line-15-predecessor, line-15-none, line-17-old-node, line-18-yes, line-36-gains, edit-yards}
 
 -- ---- contains
 
@@ -72,13 +29,8 @@ contains-rows =
     ∷ keeps grown
     (call 3 tag 4 line 13 i 1 own 4 t 2 s 3 b 3 m 1 n 2 new-node 3 new-bucket 4)
     (call 3 tag 4 line 15 i 1 own 5 t 2 s 3 b 0 m 1 n 2 new-node 3 new-bucket 4)
-    ∷ keeps grown
-    (call 3 tag 4 line 15 i 1 own 4 t 2 s 3 b 3 m 1 n 2 new-node 3 new-bucket 4)
-    (call 3 tag 4 line 16 i 1 own 5 t 2 s 1 b 3 m 1 n 2 new-node 3 new-bucket 4)
-    -- t has no predecessor
-    ∷ keeps grown
-    (call 3 tag 4 line 15 i 1 own 4 t 1 s 3 b 3 m 1 n 2 new-node 3 new-bucket 4)
-    (call 3 tag 4 line 17 i 1 own 5 t 1 s 0 b 3 m 1 n 2 new-node 3 new-bucket 4)
+    ∷ line-15-predecessor
+    ∷ line-15-none
     ∷ keeps grown
     (call 3 tag 9 line 16 i 1 own 4 t 2 s 3 b 2 m 1 n 2 new-node 3 new-bucket 4)
     (call 3 tag 9 line 18 i 1 own 5 t 2 s 3 b 3 m 1 n 2 new-node 3 new-bucket 4)
@@ -86,19 +38,14 @@ contains-rows =
     ∷ keeps grown
     (call 3 tag 2 line 16 i 1 own 4 t 2 s 3 b 3 m 1 n 2 new-node 3 new-bucket 4)
     (call 3 tag 2 line 18 i 1 own 5 t 2 s 3 b 0 m 1 n 2 new-node 3 new-bucket 4)
-    -- t is not the head
-    ∷ keeps grown
-    (call 3 tag 5 line 17 i 1 own 4 t 1 s 3 b 3 m 1 n 2 new-node 3 new-bucket 4)
-    (call 3 tag 5 line 18 i 1 own 5 t 1 s 3 b 1 m 1 n 2 new-node 3 new-bucket 4)
-    -- b alone is looked into
-    ∷ ends grown (ended Yes 5)
-    (call 3 tag 6 line 18 i 1 own 4 t 2 s 3 b 3 m 1 n 2 new-node 3 new-bucket 4)
+    ∷ line-17-old-node
+    ∷ line-18-yes
     ∷ ends grown (ended No 5)
     (call 3 tag 5 line 18 i 1 own 4 t 2 s 3 b 3 m 1 n 2 new-node 3 new-bucket 4)
     ∷ []
 
 pub contains-rows-hold : map stepped contains-rows ≡ map told contains-rows
-unfolding everything one-yard contains-rows
+unfolding everything edit-yards contains-rows
 contains-rows-hold = refl
 
 -- ---- grow, shrink
@@ -141,7 +88,7 @@ resize-rows =
     ∷ []
 
 pub resize-rows-hold : map stepped resize-rows ≡ map told resize-rows
-unfolding everything one-yard lone resize-rows
+unfolding everything edit-yards lone resize-rows
 resize-rows-hold = refl
 
 -- ---- insert, remove
@@ -169,9 +116,7 @@ apply-rows =
     ∷ keeps grown
     (call 2 tag 5 line 36 i 1 own 4 t 2 s 3 b 1 m 1 n 2 new-node 3 new-bucket 4)
     (call 2 tag 5 line 32 i 0 own 5 t 0 s 0 b 0 m 0 n 0 new-node 0 new-bucket 0)
-    -- b alone decides: tag 6 is in the set and not in b
-    ∷ ends-writing grown (with-these-buckets (bucket-0 ∷ bucket 1 (5 ∷ 6 ∷ 9 ∷ []) ∷ bucket-2 ∷ bucket-3 ∷ [])) (counted Yes 5 3)
-    (call 1 tag 6 line 36 i 1 own 4 t 2 s 3 b 2 m 1 n 2 new-node 3 new-bucket 4)
+    ∷ line-36-gains
     ∷ ends grown (counted No 5 2)
     (call 1 tag 9 line 36 i 1 own 4 t 2 s 3 b 2 m 1 n 2 new-node 3 new-bucket 4)
     ∷ ends-writing grown (with-these-buckets (bucket-0 ∷ bucket 1 (9 ∷ []) ∷ bucket-2 ∷ bucket-3 ∷ [])) (counted Yes 5 1)
@@ -181,5 +126,5 @@ apply-rows =
     ∷ []
 
 pub apply-rows-hold : map stepped apply-rows ≡ map told apply-rows
-unfolding everything one-yard apply-rows
+unfolding everything edit-yards apply-rows
 apply-rows-hold = refl
