@@ -79,7 +79,7 @@ pub fn run(t: u32, vs: &mut [u32], events: &[u32], outs: &mut [u32]) -> Outcome
             state: s,
         };
     }
-    let n = schedule_words::number_of_events(events.len(), outs.len());
+    let n = schedule_events::number_of_events(events.len(), outs.len());
     let z = run_events(s, n, events, vs, outs);
     Outcome {
         refusal: 0,

@@ -21,12 +21,12 @@ use Rattle.session.specs.Buffer.{Buffer, buffer, append-byte, append}
 use Rattle.session.specs.BufferLaws.{append-both}
 use Rattle.session.specs.Grammar.{InputLine, closed-line, open-line, admissible, parse-header-line}
 use Rattle.session.specs.Print.{refusal-line}
+use Rattle.session_pools.specs.PoolParts.{node-extent, bucket-extent, node-part, bucket-part}
 use Rattle.session_state.specs.declared.Phase.{Phase}
 use Rattle.session_state.specs.declared.Phase.the-variants.{Due, Events}
 use Rattle.session_state.specs.declared.Session.{Session}
 use Rattle.session_state.specs.declared.Handled.{Handled}
-use Rattle.session_state.specs.Handling.{session, reads-events, LineEffect, LineHandled, node-extent, bucket-extent, node-part, bucket-part}
-use Rattle.session_state.specs.Handling.{session-machine, with-machine}
+use Rattle.session_state.specs.Handling.{session, reads-events, LineEffect, LineHandled, session-machine, with-machine}
 use Rattle.session_state.proofs.Laws.{nothing-appended, puts-back}
 use Rattle.game.specs.declared.Verdict.{Verdict}
 use Rattle.game.specs.Game.{verdict}

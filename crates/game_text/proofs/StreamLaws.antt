@@ -12,8 +12,8 @@ use Rattle.session.specs.Keys.{newline}
 use Rattle.session.specs.Buffer.{Written}
 use Rattle.session.specs.BufferLaws.{append-written}
 use Rattle.session.specs.Grammar.{closed-line}
-use Rattle.session_state.specs.declared.partial_line.PartialLine.{PartialLine}
-use Rattle.session_state.specs.PartialLines.{partial, line-bytes, pushed}
+use Rattle.partial_line.specs.declared.PartialLine.{PartialLine}
+use Rattle.partial_line.specs.PartialLines.{partial, line-bytes, pushed}
 use Rattle.game.specs.Text.{game-answer}
 use Rattle.game_text.specs.declared.Standing.{Standing}
 use Rattle.game_text.specs.declared.stream.Reading.{Reading}

@@ -27,10 +27,11 @@ use Rattle.session.specs.Header.{empty-header, optional, header-step, complete,
 use Rattle.session.specs.LineLaws.{outside-step}
 use Rattle.session.specs.Print.{refusal-line, output-line}
 use Rattle.session.specs.Transcript.{pool-words, session-opening}
+use Rattle.session_pools.specs.PoolParts.{node-extent, bucket-extent, node-part, bucket-part}
 use Rattle.session_state.specs.declared.Phase.the-variants.{Due, Events, Stopped}
 use Rattle.session_state.specs.declared.Session.{Session}
-use Rattle.session_state.specs.Handling.{session, new-session, reads-events, pools-kept, stopped, node-extent, bucket-extent, node-part, bucket-part}
-use Rattle.session_state.specs.Handling.{session-machine, with-machine, reply-effect, event-effect, phase-effect, line-effect}
+use Rattle.session_state.specs.Handling.{session, new-session, reads-events, pools-kept, stopped, session-machine, with-machine, reply-effect, event-effect}
+use Rattle.session_state.specs.Handling.{phase-effect, line-effect}
 use Rattle.session_lines.specs.PoolLengths.{event-lengths}
 use Rattle.session_lines.specs.Openings.{part-length, part-words, machine-back, Alike, opening-same, opening-lengths}
 use Rattle.game.specs.Game.{verdict}

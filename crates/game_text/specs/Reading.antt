@@ -16,10 +16,11 @@ use Rattle.session.specs.Buffer.{buffer, append}
 use Rattle.session.specs.Grammar.{InputLine, open-line}
 use Rattle.session.specs.Header.{header-step}
 use Rattle.session.specs.Print.{refusal-line}
+use Rattle.session_pools.specs.PoolParts.{node-part, bucket-part}
 use Rattle.session_state.specs.declared.Phase.{Phase}
 use Rattle.session_state.specs.declared.Phase.the-variants.{Due, Events, Stopped}
 use Rattle.session_state.specs.declared.Session.{Session}
-use Rattle.session_state.specs.Handling.{session, new-session, reads-events, LineEffect, node-part, bucket-part, session-machine, with-machine, line-effect}
+use Rattle.session_state.specs.Handling.{session, new-session, reads-events, LineEffect, session-machine, with-machine, line-effect}
 use Rattle.game.specs.Game.{verdict}
 use Rattle.game.specs.Text.{verdict-line, parse-game-line}
 use Rattle.game_text.specs.declared.Asked.{Asked}

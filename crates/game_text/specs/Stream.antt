@@ -9,8 +9,8 @@ use Rattle.spec.specs.Lists.{if_then_else_}
 use Rattle.session.specs.Keys.{newline}
 use Rattle.session.specs.Grammar.{closed-line}
 use Rattle.session.specs.Buffer.{Written}
-use Rattle.session_state.specs.declared.partial_line.PartialLine.{PartialLine}
-use Rattle.session_state.specs.PartialLines.{partial, empty-line, line-bytes, pushed}
+use Rattle.partial_line.specs.declared.PartialLine.{PartialLine}
+use Rattle.partial_line.specs.PartialLines.{partial, empty-line, line-bytes, pushed}
 use Rattle.game_text.specs.declared.Standing.{Standing}
 use Rattle.game_text.specs.declared.stream.Reading.{Reading}
 use Rattle.game_text.specs.Reading.{new-standing, Place, place, on-line, asked-at-end, Ending, ends-as}

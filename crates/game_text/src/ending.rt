@@ -42,8 +42,8 @@ fn play(s: Session, n: u32, ns: &mut [u32], bs: &mut [u32], out: &mut [u8]) -> u
         × (now (ns .exit) ≡ now (ns .entry)) × (now (bs .exit) ≡ now (bs .entry)) ⌝ }
 {
     let header = s.header;
-    let a = session_state::pools::node_extent(header.nodes, ns.len());
-    let b = session_state::pools::bucket_extent(header.buckets, bs.len());
+    let a = session_pools::node_extent(header.nodes, ns.len());
+    let b = session_pools::bucket_extent(header.buckets, bs.len());
     let m = s.state;
     let v = play::game(m, n, &mut ns[..a], &mut bs[..b]);
     print(out, v)

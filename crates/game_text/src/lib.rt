@@ -59,8 +59,8 @@ fn outside(t: Standing) -> Standing
 fn open_machine(h: Header, ns: &mut [u32], bs: &mut [u32]) -> Standing
     ensures { λ r. ⌜ StandsAt (opened h (now (ns .entry)) (now (bs .entry))) r (now (ns .exit)) (now (bs .exit)) ⌝ }
 {
-    let a = session_state::pools::node_extent(h.nodes, ns.len());
-    let b = session_state::pools::bucket_extent(h.buckets, bs.len());
+    let a = session_pools::node_extent(h.nodes, ns.len());
+    let b = session_pools::bucket_extent(h.buckets, bs.len());
     let config = h.config;
     let o = opening::open(config, &mut ns[..a], &mut bs[..b]);
     let m = o.state;
@@ -95,7 +95,7 @@ fn turn_line(t: Standing, ns: &mut [u32], bs: &mut [u32], line: &[u8]) -> Standi
 {
     let asked = t.asked;
     match asked {
-        Asked::NotYet => match session_parse::header_number(b"game=", line) {
+        Asked::NotYet => match session_header_numbers::header_number(b"game=", line) {
             Decimal::Value(n) => {
                 let session = t.session;
                 stands(session, 0, Asked::Turns(n))

@@ -1,6 +1,6 @@
-// A whole input, byte by byte: a line's bytes are kept until byte 10 closes it, as far as session_state keeps them.
+// A whole input, byte by byte: a line's bytes are kept until byte 10 closes it, as far as partial_line keeps them.
 use crate::Standing;
-use session_state::partial_line::PartialLine;
+use partial_line::PartialLine;
 ghost use mathlib.Core.Path.{_≡_};
 ghost use Prim.Native.Nat.{_≤_};
 ghost use lib.ListN.{length};
@@ -26,7 +26,7 @@ pub fn new_reading() -> Reading
     ensures { λ r. ⌜ r ≡ new-reading ⌝ }
 {
     let standing = crate::new_standing();
-    let line = session_state::partial_line::empty_line();
+    let line = partial_line::empty_line();
     reads(standing, line)
 }
 
@@ -36,14 +36,14 @@ fn feed_byte(r: Reading, x: u8, ns: &mut [u32], bs: &mut [u32]) -> Reading
 {
     let t = r.standing;
     let h = r.line;
-    if session_state::partial_line::closes(x) {
-        let n = session_state::partial_line::line_length(h);
+    if partial_line::closes(x) {
+        let n = partial_line::line_length(h);
         let b = h.bytes;
         let next = crate::take_line(t, ns, bs, &b[..n]);
         let line = PartialLine { bytes: b, len: 0 };
         return reads(next, line);
     }
-    let line = session_state::partial_line::push(h, x);
+    let line = partial_line::push(h, x);
     reads(t, line)
 }
 
@@ -68,7 +68,7 @@ pub fn end_input(r: Reading, ns: &mut [u32], bs: &mut [u32], out: &mut [u8]) -> 
 {
     let t = r.standing;
     let h = r.line;
-    let n = session_state::partial_line::line_length(h);
+    let n = partial_line::line_length(h);
     crate::ending::finish(t, n == 0, ns, bs, out)
 }
 

@@ -9,8 +9,8 @@ use lib.Dec.{ltb}
 use lib.ListN.{length, drop}
 use Rattle.spec.specs.Lists.{if_then_else_}
 use Rattle.spec.specs.Schedule.{Event}
-use Rattle.schedule_words.specs.Events.{events-of}
-use Rattle.schedule_words.specs.EventLaws.{events-length, event-at, events-on, events-end}
+use Rattle.schedule_events.specs.Events.{events-of}
+use Rattle.schedule_events.specs.EventLaws.{events-length, event-at, events-on, events-end}
 use Rattle.mattered.specs.Mattered.{without}
 
 module _ (ws : List ℕ) (k n : ℕ) where

@@ -20,8 +20,8 @@ use Rattle.spec.specs.Schedule.{Event, starts, steps, event, run}
 use Rattle.laws.specs.Tests.{choose}
 use Rattle.session.specs.Transcript.{task-in}
 use Rattle.schedule_words.proofs.Laws.{over-none}
-use Rattle.schedule_words.specs.Events.{event-of, events-of}
-use Rattle.schedule_words.specs.EventLaws.{events-length, event-at}
+use Rattle.schedule_events.specs.Events.{event-of, events-of}
+use Rattle.schedule_events.specs.EventLaws.{events-length, event-at}
 use Rattle.mattered.specs.EndedCalls.{ended-by, ended-calls}
 use Rattle.mattered.specs.Mattered.{without}
 use Rattle.mattered_replay.specs.Replay.{all-words, NotedAfter, RunNoted, Noted, noted, ended-at, on-event, replay}

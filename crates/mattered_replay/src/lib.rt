@@ -1,7 +1,7 @@
 // Events given as words are run after an opening, all of them or all but one, and the calls that end are noted (`ended-calls` of mattered):
 // four words each, task, call, tag and answer.
 use lines::Stepped;
-use schedule_words::Asked;
+use schedule_events::Asked;
 use spec::Config;
 use spec::Output;
 use spec::State;
@@ -13,8 +13,8 @@ ghost use Rattle.spec.specs.Machine.{idle, machine-of};
 ghost use Rattle.spec.specs.Entries.{opening};
 ghost use Rattle.spec.specs.Schedule.{event};
 ghost use Rattle.lines.specs.Reply.{reply-of};
-ghost use Rattle.schedule_words.specs.Events.{event-of, events-of};
-ghost use Rattle.schedule_words.specs.EventLaws.{event-at};
+ghost use Rattle.schedule_events.specs.Events.{event-of, events-of};
+ghost use Rattle.schedule_events.specs.EventLaws.{event-at};
 ghost use Rattle.mattered.specs.EndedCalls.{ended-by};
 ghost use Rattle.mattered.specs.Mattered.{without};
 ghost use Rattle.mattered_replay.specs.Replay.{NotedAfter, RunNoted, noted, on-event};
@@ -39,7 +39,7 @@ fn task_of(s: State, k: u32) -> Task
 fn run_event(s: State, kind: u32, task: u32, tag: u32, ns: &mut [u32], bs: &mut [u32]) -> Stepped
     ensures { λ r. ⌜ reply-of r (now (ns .exit)) (now (bs .exit)) ≡ event (machine-of s (now (ns .entry)) (now (bs .entry))) (event-of kind task tag) ⌝ }
 {
-    match schedule_words::asked_by(kind) {
+    match schedule_events::asked_by(kind) {
         Asked::Start(call) => hashset::start(s, task, call, tag, ns, bs),
         Asked::Step => hashset::step(s, task, ns, bs),
     }

@@ -15,10 +15,10 @@ use Rattle.spec.specs.Entries.{Opened, opening}
 use Rattle.spec.specs.Schedule.{Event}
 use Rattle.session.specs.Grammar.{equals}
 use Rattle.session_lines.specs.Openings.{opening-same}
-use Rattle.schedule_words.specs.declared.Asked.{Asked}
-use Rattle.schedule_words.specs.declared.Asked.the-variants.{Start, Step}
-use Rattle.schedule_words.specs.Events.{event-of, events-of, event-asked}
-use Rattle.schedule_words.specs.EventLaws.{events-length, event-at}
+use Rattle.schedule_events.specs.declared.Asked.{Asked}
+use Rattle.schedule_events.specs.declared.Asked.the-variants.{Start, Step}
+use Rattle.schedule_events.specs.Events.{event-of, events-of, event-asked}
+use Rattle.schedule_events.specs.EventLaws.{events-length, event-at}
 use Rattle.mattered.specs.declared.Verdict.{Verdict}
 use Rattle.mattered.specs.declared.Verdict.the-variants.{Place, NoStep, Refused}
 use Rattle.mattered.specs.EndedCalls.{EndedCall, ended-calls}

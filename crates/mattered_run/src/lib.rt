@@ -1,7 +1,7 @@
 // The step that mattered (specs of mattered), over events given as words and two lent pools: the events are run once and the calls that end
 // are noted; then they are run from the opening on without each step in turn, until the calls that end are not those noted.
 use mattered::Verdict;
-use schedule_words::Asked;
+use schedule_events::Asked;
 use spec::Config;
 ghost use mathlib.Core.Path.{_≡_};
 ghost use mathlib.Core.Bool.{_&&_, not};
@@ -9,7 +9,7 @@ ghost use Prim.Native.Nat.{_≤_, _<_};
 ghost use lib.ListN.{length};
 ghost use Rattle.spec.specs.Entries.{opening};
 ghost use Rattle.session.specs.Grammar.{equals};
-ghost use Rattle.schedule_words.specs.Events.{events-of};
+ghost use Rattle.schedule_events.specs.Events.{events-of};
 ghost use Rattle.mattered.specs.EndedCalls.{ended-calls};
 ghost use Rattle.mattered.specs.Mattered.{step-at, without, mattered};
 ghost use Rattle.mattered_replay.specs.Replay.{all-words};
@@ -74,7 +74,7 @@ fn matters(
         && not (equals (now (noted .entry))
         (all-words (ended-calls (opening g (now (ns .entry)) (now (bs .entry)) .machine) (without k (events-of n (now (events .entry)))))))) ⌝ }
 {
-    match schedule_words::asked_by(pool::word(events, 4 * k)) {
+    match schedule_events::asked_by(pool::word(events, 4 * k)) {
         Asked::Start(_) => false,
         Asked::Step => !same_without(g, k, n, events, ns, bs, noted),
     }

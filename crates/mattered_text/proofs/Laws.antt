@@ -10,10 +10,10 @@ use lib.ListN.{length, take}
 use Rattle.spec.specs.Words.{overwrite}
 use Rattle.spec.specs.Entries.{Opened, opening}
 use Rattle.spec.specs.Schedule.{Event}
-use Rattle.schedule_words.specs.Events.{events-of}
+use Rattle.schedule_events.specs.Events.{events-of}
 use Rattle.session.specs.declared.Header.{Header}
 use Rattle.session.specs.Transcript.{session-opening}
-use Rattle.session_state.specs.Handling.{node-extent, bucket-extent}
+use Rattle.session_pools.specs.PoolParts.{node-extent, bucket-extent}
 use Rattle.session_lines.specs.Openings.{part-words, Alike, opening-same}
 use Rattle.mattered.specs.declared.Verdict.{Verdict}
 use Rattle.mattered.specs.declared.Verdict.the-variants.{Refused}

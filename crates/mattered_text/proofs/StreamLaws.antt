@@ -12,8 +12,8 @@ use Rattle.session.specs.Keys.{newline}
 use Rattle.session.specs.Buffer.{buffer, append, Written}
 use Rattle.session.specs.BufferLaws.{append-written}
 use Rattle.session.specs.Grammar.{closed-line}
-use Rattle.session_state.specs.declared.partial_line.PartialLine.{PartialLine}
-use Rattle.session_state.specs.PartialLines.{partial, line-bytes, pushed}
+use Rattle.partial_line.specs.declared.PartialLine.{PartialLine}
+use Rattle.partial_line.specs.PartialLines.{partial, line-bytes, pushed}
 use Rattle.mattered.specs.declared.Verdict.{Verdict}
 use Rattle.mattered.specs.Text.{verdict-line, mattered-answer}
 use Rattle.mattered_standing.specs.declared.Standing.{Standing}

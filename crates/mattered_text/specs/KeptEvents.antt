@@ -15,8 +15,8 @@ use Rattle.spec.specs.Machine.{Machine}
 use Rattle.spec.specs.Words.{overwrite}
 use Rattle.spec.specs.Schedule.{Event}
 use Rattle.laws.specs.Overwrite.{over-length, over-before, over-in}
-use Rattle.schedule_words.specs.Events.{event-of, events-of}
-use Rattle.schedule_words.specs.EventLaws.{event-at, events-length}
+use Rattle.schedule_events.specs.Events.{event-of, events-of}
+use Rattle.schedule_events.specs.EventLaws.{event-at, events-length}
 use Rattle.session.specs.declared.EventLine.{EventLine}
 use Rattle.session.specs.declared.EventLine.the-variants.{Start, Step, Outside}
 use Rattle.mattered.specs.SessionVerdict.{events-verdict}

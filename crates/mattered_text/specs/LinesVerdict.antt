@@ -13,7 +13,7 @@ use Rattle.spec.specs.Lists.{if_then_else_}
 use Rattle.spec.specs.Numbers.{call-number}
 use Rattle.spec.specs.Entries.{Opened}
 use Rattle.spec.specs.Schedule.{Event, starts, steps}
-use Rattle.schedule_words.specs.Events.{event-of, events-of}
+use Rattle.schedule_events.specs.Events.{event-of, events-of}
 use Rattle.session.specs.declared.EventLine.{EventLine}
 use Rattle.session.specs.declared.EventLine.the-variants.{Start, Step, Outside}
 use Rattle.session.specs.declared.Header.{Header}

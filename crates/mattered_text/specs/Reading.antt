@@ -11,7 +11,7 @@ use Rattle.spec.specs.Numbers.{call-number}
 use Rattle.spec.specs.Words.{overwrite}
 use Rattle.spec.specs.Entries.{Opened}
 use Rattle.spec.specs.Schedule.{Event}
-use Rattle.schedule_words.specs.Events.{events-of}
+use Rattle.schedule_events.specs.Events.{events-of}
 use Rattle.session.specs.declared.EventLine.{EventLine}
 use Rattle.session.specs.declared.EventLine.the-variants.{Start, Step, Outside}
 use Rattle.session.specs.Grammar.{InputLine, parse-event-line}
@@ -35,7 +35,7 @@ place t w = record { standing = t; words = w }
 
 -- ---- the words of an event
 
--- a kind, a task, a tag, and one that is not read (Events of schedule_words)
+-- a kind, a task, a tag, and one that is not read (Events of schedule_events)
 unfoldable pub event-words : EventLine → List ℕ
 event-words (Start k call tag) = call-number call ∷ k ∷ tag ∷ 0 ∷ []
 event-words (Step k) = 0 ∷ k ∷ 0 ∷ 0 ∷ []

@@ -8,8 +8,8 @@ use lib.ListN.{length}
 use Rattle.spec.specs.Lists.{if_then_else_}
 use Rattle.session.specs.Keys.{newline}
 use Rattle.session.specs.Grammar.{closed-line}
-use Rattle.session_state.specs.declared.partial_line.PartialLine.{PartialLine}
-use Rattle.session_state.specs.PartialLines.{partial, empty-line, line-bytes, pushed}
+use Rattle.partial_line.specs.declared.PartialLine.{PartialLine}
+use Rattle.partial_line.specs.PartialLines.{partial, empty-line, line-bytes, pushed}
 use Rattle.mattered.specs.declared.Verdict.{Verdict}
 use Rattle.mattered_standing.specs.declared.Standing.{Standing}
 use Rattle.mattered_text.specs.declared.stream.Reading.{Reading}

@@ -9,7 +9,7 @@ use borrow.Author.Tests.{eq-eqb, ne-eqb, eqb-true, eqb-false}
 use lib.Dec.{eqb}
 use lib.ListN.{length, take, replicate, length-append}
 use Rattle.spec.specs.Lists.{if_then_else_}
-use Rattle.schedule_words.specs.Events.{events-of}
+use Rattle.schedule_events.specs.Events.{events-of}
 use Rattle.session.specs.declared.EventLine.{EventLine}
 use Rattle.session.specs.declared.HeaderStep.{HeaderStep}
 use Rattle.session.specs.declared.HeaderStep.the-variants.{Absent, Missing}
@@ -22,7 +22,7 @@ use Rattle.session.specs.Print.{decimal, key-line, refusal-line}
 use Rattle.session.specs.Transcript.{is-event, session-opening}
 use Rattle.session_state.specs.declared.Phase.{Phase}
 use Rattle.session_state.specs.declared.Phase.the-variants.{Due, Events, Stopped}
-use Rattle.session_state.specs.PartialLines.{empty-line, line-bytes}
+use Rattle.partial_line.specs.PartialLines.{empty-line, line-bytes}
 use Rattle.notes_text.specs.KeptLine.{LineSoFar, so-far-none, so-far-more, kept-length}
 use Rattle.mattered.specs.declared.Verdict.{Verdict}
 use Rattle.mattered.specs.declared.Verdict.the-variants.{Place as AtPlace, NoStep, Refused}

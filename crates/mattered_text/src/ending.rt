@@ -9,7 +9,7 @@ ghost use Prim.Native.Nat.{_≤_};
 ghost use lib.ListN.{length};
 ghost use Rattle.session.specs.Buffer.{buffer, append};
 ghost use Rattle.session.specs.Transcript.{session-opening};
-ghost use Rattle.schedule_words.specs.Events.{events-of};
+ghost use Rattle.schedule_events.specs.Events.{events-of};
 ghost use Rattle.mattered.specs.Text.{verdict-line};
 ghost use Rattle.mattered_text.specs.Reading.{place, header-complete, opened-says, said-at-end};
 
@@ -50,8 +50,8 @@ fn judge(
     requires { ⌜ (2176 ≤ length (now ns)) × (13200 ≤ length (now bs)) ⌝ }
     ensures { λ r. ⌜ r ≡ opened-says (session-opening h) outside (events-of n (now (events .entry))) ⌝ }
 {
-    let a = session_state::pools::node_extent(h.nodes, ns.len());
-    let b = session_state::pools::bucket_extent(h.buckets, bs.len());
+    let a = session_pools::node_extent(h.nodes, ns.len());
+    let b = session_pools::bucket_extent(h.buckets, bs.len());
     let config = h.config;
     if outside {
         let o = opening::open(config, &mut ns[..a], &mut bs[..b]);

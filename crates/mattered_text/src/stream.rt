@@ -1,7 +1,7 @@
-// A whole input, byte by byte: a line's bytes are kept until byte 10 closes it, as far as session_state keeps them, and the words of the first 256
+// A whole input, byte by byte: a line's bytes are kept until byte 10 closes it, as far as partial_line keeps them, and the words of the first 256
 // events in a lent slice. Any length of input is read so, in bounded memory.
 use mattered_standing::Standing;
-use session_state::partial_line::PartialLine;
+use partial_line::PartialLine;
 ghost use mathlib.Core.Path.{_≡_};
 ghost use lib.ListN.{length};
 ghost use Rattle.session.specs.Buffer.{buffer, append, Written};
@@ -25,7 +25,7 @@ pub fn new_reading() -> Reading
     ensures { λ r. ⌜ r ≡ new-reading ⌝ }
 {
     let standing = mattered_standing::new_standing();
-    let line = session_state::partial_line::empty_line();
+    let line = partial_line::empty_line();
     reads(standing, line)
 }
 
@@ -35,14 +35,14 @@ fn feed_byte(r: Reading, x: u8, events: &mut [u32]) -> Reading
 {
     let t = r.standing;
     let h = r.line;
-    if session_state::partial_line::closes(x) {
-        let n = session_state::partial_line::line_length(h);
+    if partial_line::closes(x) {
+        let n = partial_line::line_length(h);
         let b = h.bytes;
         let next = crate::take_line(t, events, &b[..n]);
         let line = PartialLine { bytes: b, len: 0 };
         return reads(next, line);
     }
-    let line = session_state::partial_line::push(h, x);
+    let line = partial_line::push(h, x);
     reads(t, line)
 }
 
@@ -66,7 +66,7 @@ pub fn end_input(r: Reading, events: &[u32], out: &mut [u8]) -> usize
 {
     let t = r.standing;
     let h = r.line;
-    let n = session_state::partial_line::line_length(h);
+    let n = partial_line::line_length(h);
     let v = crate::ending::verdict(t, n == 0, events);
     crate::ending::print(out, v)
 }

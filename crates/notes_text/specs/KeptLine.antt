@@ -11,8 +11,8 @@ use lib.ListN.{length, take, set, length-append, length-take, length-set}
 use lib.Seq.{take-all, take-append-le, take-suc-set}
 use Rattle.spec.specs.Lists.{if_then_else_}
 use Rattle.session.specs.Grammar.{closed-line, admissible}
-use Rattle.session_state.specs.declared.partial_line.PartialLine.{PartialLine}
-use Rattle.session_state.specs.PartialLines.{partial, line-bytes, pushed}
+use Rattle.partial_line.specs.declared.PartialLine.{PartialLine}
+use Rattle.partial_line.specs.PartialLines.{partial, line-bytes, pushed}
 use Rattle.notes.specs.Text.{parse-note-line}
 
 pub record LineSoFar (h : PartialLine) (line : List ℕ) : Type 0 where

@@ -16,7 +16,7 @@ use Rattle.spec.specs.Lists.{if_then_else_, every}
 use Rattle.spec.specs.History.{set-call}
 use Rattle.session.specs.Print.{decimal, key-line, answer-word, refusal-line}
 use Rattle.session.specs.OutputLengths.{refusal-length}
-use Rattle.session_state.specs.PartialLines.{line-bytes}
+use Rattle.partial_line.specs.PartialLines.{line-bytes}
 use Rattle.laws.specs.Tests.{bool?, or-none}
 use Rattle.notes.specs.declared.Note.{Note}
 use Rattle.notes.specs.Orders.{Lane, first, second}

@@ -11,8 +11,8 @@ use Rattle.spec.specs.Lists.{if_then_else_}
 use Rattle.session.specs.Keys.{newline}
 use Rattle.session.specs.Grammar.{closed-line}
 use Rattle.session.specs.Print.{refusal-line}
-use Rattle.session_state.specs.declared.partial_line.PartialLine.{PartialLine}
-use Rattle.session_state.specs.PartialLines.{partial, empty-line, line-bytes, pushed}
+use Rattle.partial_line.specs.declared.PartialLine.{PartialLine}
+use Rattle.partial_line.specs.PartialLines.{partial, empty-line, line-bytes, pushed}
 use Rattle.notes.specs.declared.Note.{Note}
 use Rattle.notes.specs.declared.Notes.{Notes}
 use Rattle.notes.specs.declared.NoteLine.{NoteLine}

@@ -14,22 +14,22 @@ use spec::Answer;
 fn answer(s: &[u8]) -> AnswerWord
     ensures { λ r. ⌜ r ≡ parse-answer (now (s .entry)) ⌝ }
 {
-    if session_parse::equals(s, b"yes") {
+    if session_keys::equals(s, b"yes") {
         return AnswerWord::Word(Answer::Yes);
     }
-    if session_parse::equals(s, b"no") {
+    if session_keys::equals(s, b"no") {
         return AnswerWord::Word(Answer::No);
     }
-    if session_parse::equals(s, b"full") {
+    if session_keys::equals(s, b"full") {
         return AnswerWord::Word(Answer::Full);
     }
-    if session_parse::equals(s, b"done") {
+    if session_keys::equals(s, b"done") {
         return AnswerWord::Word(Answer::Done);
     }
-    if session_parse::equals(s, b"lost") {
+    if session_keys::equals(s, b"lost") {
         return AnswerWord::Word(Answer::Lost);
     }
-    if session_parse::equals(s, b"limit") {
+    if session_keys::equals(s, b"limit") {
         return AnswerWord::Word(Answer::Limit);
     }
     AnswerWord::NoWord
@@ -94,7 +94,7 @@ pub fn line(s: &[u8]) -> NoteLine
     if 40 < s.len() {
         return NoteLine::Outside;
     }
-    if session_parse::starts_with(s, b"note=") {
+    if session_keys::starts_with(s, b"note=") {
         return after_key(&s[5..]);
     }
     NoteLine::Outside

@@ -6,7 +6,7 @@ ghost use Rattle.notes_text.specs.Reading.{add-note, new-reading, close-
 use notes::Note;
 use notes::NoteLine;
 use notes::Notes;
-use session_state::partial_line::PartialLine;
+use partial_line::PartialLine;
 use spec::Answer;
 use spec::Call;
 
@@ -50,7 +50,7 @@ pub fn new_reading() -> Reading
         count: 0,
         note: [x; 6],
     };
-    let line = session_state::partial_line::empty_line();
+    let line = partial_line::empty_line();
     Reading {
         outside: false,
         one: none,
@@ -96,13 +96,13 @@ fn feed_byte(r: Reading, x: u8) -> Reading
     ensures { λ q. ⌜ q ≡ feed r x ⌝ }
 {
     let h = r.line;
-    if session_state::partial_line::closes(x) {
-        let n = session_state::partial_line::line_length(h);
+    if partial_line::closes(x) {
+        let n = partial_line::line_length(h);
         let b = h.bytes;
         let said = crate::parse::line(&b[..n]);
         return close_line(r, said);
     }
-    let line = session_state::partial_line::push(h, x);
+    let line = partial_line::push(h, x);
     let one = r.one;
     let two = r.two;
     Reading {
@@ -135,7 +135,7 @@ pub fn finish(r: Reading, out: &mut [u8]) -> usize
         return session_bytes::refusal(out, 0, 10);
     }
     let h = r.line;
-    let n = session_state::partial_line::line_length(h);
+    let n = partial_line::line_length(h);
     if n == 0 {
         let one = r.one;
         let two = r.two;

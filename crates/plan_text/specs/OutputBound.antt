@@ -13,7 +13,7 @@ use Rattle.spec.specs.Lists.{if_then_else_}
 use Rattle.spec.specs.Sound.{within, version-known}
 use Rattle.session.specs.Print.{decimal, key-line, answer-word, refusal-line}
 use Rattle.session.specs.OutputLengths.{refusal-length}
-use Rattle.session_state.specs.PartialLines.{line-bytes}
+use Rattle.partial_line.specs.PartialLines.{line-bytes}
 use Rattle.bounds.specs.EnoughRecords.{enough-nodes, enough-buckets}
 use Rattle.plans.specs.declared.Planned.{Planned}
 use Rattle.plans.specs.declared.Figures.{Figures}

@@ -15,8 +15,8 @@ use Rattle.spec.specs.Lists.{if_then_else_}
 use Rattle.session.specs.Keys.{newline}
 use Rattle.session.specs.Grammar.{InputLine, closed-line, open-line, split-lines, input-lines, admissible, parse-header-line}
 use Rattle.session.specs.Print.{refusal-line}
-use Rattle.session_state.specs.declared.partial_line.PartialLine.{PartialLine}
-use Rattle.session_state.specs.PartialLines.{partial, empty-line, line-bytes, pushed}
+use Rattle.partial_line.specs.declared.PartialLine.{PartialLine}
+use Rattle.partial_line.specs.PartialLines.{partial, empty-line, line-bytes, pushed}
 use Rattle.laws.specs.Tests.{bool?}
 use Rattle.notes_text.specs.KeptLine.{LineSoFar, so-far-none, so-far-more, kept-length}
 use Rattle.plans.specs.declared.Planned.{Planned}

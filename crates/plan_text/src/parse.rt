@@ -44,8 +44,8 @@ fn call_line(s: &[u8]) -> PlanLine
     if 40 < s.len() {
         return PlanLine::Outside;
     }
-    if session_parse::starts_with(s, b"call=") {
-        return call_said(session_parse::call(0, &s[5..]));
+    if session_keys::starts_with(s, b"call=") {
+        return call_said(session_keys::call(0, &s[5..]));
     }
     PlanLine::Outside
 }
@@ -55,10 +55,10 @@ pub fn line(due: Due, s: &[u8]) -> PlanLine
     ensures { λ r. ⌜ r ≡ line-says due (closed-line (now (s .entry))) ⌝ }
 {
     match due {
-        Due::Tasks => tasks_said(session_parse::header_number(b"tasks=", s)),
+        Due::Tasks => tasks_said(session_header_numbers::header_number(b"tasks=", s)),
         Due::Version => {
             let call = call_line(s);
-            version_said(session_parse::header_number(b"version=", s), call)
+            version_said(session_header_numbers::header_number(b"version=", s), call)
         }
         Due::Call => call_line(s),
         Due::Nothing => PlanLine::Outside,

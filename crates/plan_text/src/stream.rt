@@ -5,9 +5,9 @@ ghost use Rattle.plan_text.specs.Text.{plan-transcript, in-grammar};
 ghost use Rattle.plan_text.specs.Reading.{add-call, new-reading, close-line, feed, feeds, end-lines};
 use crate::Due;
 use crate::PlanLine;
+use partial_line::PartialLine;
 use plans::Calls;
 use plans::Planned;
-use session_state::partial_line::PartialLine;
 use spec::Call;
 
 // An input as far as it is read: which line is due, T, the version, the calls, and the line that is not closed yet.
@@ -50,7 +50,7 @@ pub fn new_reading() -> Reading
         count: 0,
         call: [c; 64],
     };
-    let line = session_state::partial_line::empty_line();
+    let line = partial_line::empty_line();
     Reading {
         due: Due::Tasks,
         tasks: 0,
@@ -106,13 +106,13 @@ fn feed_byte(r: Reading, x: u8) -> Reading
 {
     let h = r.line;
     let due = r.due;
-    if session_state::partial_line::closes(x) {
-        let n = session_state::partial_line::line_length(h);
+    if partial_line::closes(x) {
+        let n = partial_line::line_length(h);
         let b = h.bytes;
         let said = crate::parse::line(due, &b[..n]);
         return close_line(r, said);
     }
-    let line = session_state::partial_line::push(h, x);
+    let line = partial_line::push(h, x);
     let calls = r.calls;
     Reading {
         due,
@@ -158,7 +158,7 @@ pub fn finish(r: Reading, out: &mut [u8]) -> usize
         return session_bytes::refusal(out, 0, 10);
     }
     let h = r.line;
-    let n = session_state::partial_line::line_length(h);
+    let n = partial_line::line_length(h);
     if n == 0 {
         let calls = r.calls;
         return crate::print::planned(out, 0, r.tasks, r.version, calls);

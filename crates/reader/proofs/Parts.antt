@@ -17,7 +17,7 @@ use Rattle.lines.specs.Reply.{reply-of}
 use Rattle.session.specs.declared.Header.{Header}
 use Rattle.session.specs.Grammar.{closed-line, equals}
 use Rattle.session.specs.Transcript.{task-in}
-use Rattle.session_state.specs.Handling.{node-extent, bucket-extent, node-part, bucket-part}
+use Rattle.session_pools.specs.PoolParts.{node-extent, bucket-extent, node-part, bucket-part}
 use Rattle.recording.specs.declared.ReaderPhase.{ReaderPhase}
 use Rattle.recording.specs.declared.ReaderPhase.the-variants.{Event as EventDue, Printed, Decided}
 use Rattle.recording.specs.declared.Verdict.{Verdict}

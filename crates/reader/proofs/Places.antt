@@ -22,7 +22,7 @@ use Rattle.session.specs.Grammar.{closed-line, equals}
 use Rattle.session.specs.Print.{decimal, key-line, refusal-line}
 use Rattle.session.specs.OutputLengths.{longest-line}
 use Rattle.session.specs.Buffer.{Buffer, append}
-use Rattle.session_state.specs.Handling.{node-extent, bucket-extent, node-part}
+use Rattle.session_pools.specs.PoolParts.{node-extent, bucket-extent, node-part}
 use Rattle.recording.specs.declared.ReaderPhase.the-variants.{Listed}
 use Rattle.recording.specs.declared.Verdict.{Verdict}
 use Rattle.recording.specs.declared.Verdict.the-variants.{Same, Differs, Refusal}

@@ -21,8 +21,9 @@ use Rattle.session.specs.Grammar.{InputLine}
 use Rattle.session.specs.Header.{optional, header-step}
 use Rattle.session.specs.Print.{output-line}
 use Rattle.session.specs.Transcript.{session-opening}
+use Rattle.session_pools.specs.PoolParts.{node-extent, bucket-extent, node-part, bucket-part}
 use Rattle.session_state.specs.declared.Phase.the-variants.{Events}
-use Rattle.session_state.specs.Handling.{node-extent, bucket-extent, node-part, bucket-part, with-machine}
+use Rattle.session_state.specs.Handling.{with-machine}
 use Rattle.session_lines.specs.PoolLengths.{event-lengths}
 use Rattle.session_lines.specs.Openings.{part-length, part-words, machine-back, Alike, opening-same, opening-lengths}
 use Rattle.recording.specs.declared.ReaderPhase.{ReaderPhase}

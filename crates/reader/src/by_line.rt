@@ -24,8 +24,8 @@ use spec::Listing;
 fn open_machine(h: Header, n: u64, next: u64, ns: &mut [u32], bs: &mut [u32]) -> Reader
     ensures { λ r. ⌜ ReadAs (opened h n next (now (ns .entry)) (now (bs .entry))) r (now (ns .exit)) (now (bs .exit)) ⌝ }
 {
-    let a = session_state::pools::node_extent(h.nodes, ns.len());
-    let b = session_state::pools::bucket_extent(h.buckets, bs.len());
+    let a = session_pools::node_extent(h.nodes, ns.len());
+    let b = session_pools::bucket_extent(h.buckets, bs.len());
     let config = h.config;
     let o = opening::open(config, &mut ns[..a], &mut bs[..b]);
     let refusal = o.refusal;
@@ -53,8 +53,8 @@ fn start_task(r: Reader, k: u32, call: Call, tag: u32, ns: &[u32], bs: &[u32]) -
         s (now (ns .entry)) (now (bs .entry)) ⌝ }
 {
     let header = r.header;
-    let a = session_state::pools::node_extent(header.nodes, ns.len());
-    let b = session_state::pools::bucket_extent(header.buckets, bs.len());
+    let a = session_pools::node_extent(header.nodes, ns.len());
+    let b = session_pools::bucket_extent(header.buckets, bs.len());
     let before = r.state;
     let d = lent::start_local(before, k, call, tag, &ns[..a], &bs[..b]);
     let answered = d.out;
@@ -74,8 +74,8 @@ fn step_task(r: Reader, k: u32, ns: &mut [u32], bs: &mut [u32]) -> Reader
         (now (ns .exit)) (now (bs .exit)) ⌝ }
 {
     let header = r.header;
-    let a = session_state::pools::node_extent(header.nodes, ns.len());
-    let b = session_state::pools::bucket_extent(header.buckets, bs.len());
+    let a = session_pools::node_extent(header.nodes, ns.len());
+    let b = session_pools::bucket_extent(header.buckets, bs.len());
     let before = r.state;
     let d = lent::step_local(before, k, &mut ns[..a], &mut bs[..b]);
     let answered = d.out;
@@ -95,11 +95,11 @@ fn print_listed(r: Reader, k: u32, ns: &[u32], bs: &[u32], buf: &mut [u8]) -> us
         (buffer (now (buf .entry)) 0) ⌝ }
 {
     let header = r.header;
-    let a = session_state::pools::node_extent(header.nodes, ns.len());
-    let b = session_state::pools::bucket_extent(header.buckets, bs.len());
+    let a = session_pools::node_extent(header.nodes, ns.len());
+    let b = session_pools::bucket_extent(header.buckets, bs.len());
     let m = r.state;
     let head = m.head;
-    let size = session_state::pools::node_size(&ns[..a], head);
+    let size = session_pools::node_size(&ns[..a], head);
     let mut w = [0u32; 64];
     let listed = queries::list(m, &ns[..a], &bs[..b], &mut w);
     match listed {
@@ -142,7 +142,7 @@ fn listed_end(r: Reader, k: u32, ns: &[u32], bs: &[u32]) -> Verdict
 fn turn_line(r: Reader, ns: &mut [u32], bs: &mut [u32], line: &[u8]) -> Reader
     ensures { λ s. ⌜ ReadAs (turn-line r (now (ns .entry)) (now (bs .entry)) (closed-line (now (line .entry)))) s (now (ns .exit)) (now (bs .exit)) ⌝ }
 {
-    if session_parse::starts_with(line, b"size=") {
+    if session_keys::starts_with(line, b"size=") {
         return listed_line(r, 0, ns, bs, line);
     }
     match session_parse::event_line(line) {

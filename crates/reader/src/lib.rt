@@ -34,7 +34,7 @@ pub fn read_byte(p: ByteReader, x: u8, ns: &mut [u32], bs: &mut [u32]) -> ByteRe
 {
     let r = p.reader;
     let h = p.line;
-    if session_state::partial_line::closes(x) {
+    if partial_line::closes(x) {
         let n = reader_state::kept_line::line_length(h);
         let b = h.bytes;
         let next = by_line::read_line(r, ns, bs, &b[..n]);

@@ -17,7 +17,7 @@ use Rattle.session.specs.declared.HeaderStep.{HeaderStep}
 use Rattle.session.specs.declared.HeaderStep.the-variants.{Next, Complete, Absent, Missing}
 use Rattle.session.specs.Grammar.{InputLine}
 use Rattle.session.specs.Header.{empty-header, optional, header-step}
-use Rattle.session_state.specs.Handling.{node-extent, bucket-extent, node-part, bucket-part}
+use Rattle.session_pools.specs.PoolParts.{node-extent, bucket-extent, node-part, bucket-part}
 use Rattle.recording.specs.declared.ReaderPhase.{ReaderPhase}
 use Rattle.recording.specs.declared.ReaderPhase.the-variants.{Due, Event as EventDue, Printed, Listed, Decided}
 use Rattle.recording.specs.declared.Verdict.{Verdict}

@@ -22,7 +22,7 @@ pub fn same_line(printed: &[u8], line: &[u8]) -> bool
     if printed[n] != 10 {
         return false;
     }
-    session_parse::equals(line, &printed[..n])
+    session_keys::equals(line, &printed[..n])
 }
 
 // The line after an event of task k, which answered o.

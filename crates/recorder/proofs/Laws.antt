@@ -25,9 +25,9 @@ use Rattle.session_state.specs.declared.Phase.{Phase}
 use Rattle.session_state.specs.declared.Phase.the-variants.{Due, Events, Stopped}
 use Rattle.session_state.specs.declared.Session.{Session}
 use Rattle.session_state.specs.declared.Handled.{Handled}
-use Rattle.session_state.specs.declared.partial_line.PartialLine.{PartialLine}
+use Rattle.partial_line.specs.declared.PartialLine.{PartialLine}
 use Rattle.session_state.specs.Handling.{handled, LineEffect, LineHandled, pools-kept, stopped, silent, open-then, line-effect, end-effect}
-use Rattle.session_state.specs.PartialLines.{partial, line-bytes, pushed}
+use Rattle.partial_line.specs.PartialLines.{partial, line-bytes, pushed}
 use Rattle.session_state.proofs.Laws.{nothing-appended}
 use Rattle.session_stream.specs.Stream.{EndedBy}
 use Rattle.session_stream.proofs.Laws.{appends-on}

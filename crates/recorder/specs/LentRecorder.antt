@@ -17,9 +17,9 @@ use Rattle.session.specs.Transcript.{is-event}
 use Rattle.session_state.specs.declared.Phase.{Phase}
 use Rattle.session_state.specs.declared.Phase.the-variants.{Due, Events, Stopped}
 use Rattle.session_state.specs.declared.Session.{Session}
-use Rattle.session_state.specs.declared.partial_line.PartialLine.{PartialLine}
+use Rattle.partial_line.specs.declared.PartialLine.{PartialLine}
 use Rattle.session_state.specs.Handling.{session, new-session, LineEffect, pools-kept, stopped, silent, open-then, line-effect, end-effect}
-use Rattle.session_state.specs.PartialLines.{partial, empty-line, line-bytes, pushed}
+use Rattle.partial_line.specs.PartialLines.{partial, empty-line, line-bytes, pushed}
 use Rattle.recording.specs.Recording.{close}
 use Rattle.recorder_lines.specs.declared.KeptLines.{KeptLines}
 use Rattle.recorder.specs.declared.Recorder.{Recorder}

@@ -25,12 +25,13 @@ use Rattle.session.specs.LineLaws.{outside-event}
 use Rattle.session.specs.Print.{refusal-line}
 use Rattle.session.specs.OutputLengths.{longest-line, longest-end, refusal-length}
 use Rattle.session.specs.Transcript.{is-event}
+use Rattle.session_pools.specs.PoolParts.{node-part, bucket-part}
 use Rattle.session_state.specs.declared.Phase.{Phase}
 use Rattle.session_state.specs.declared.Phase.the-variants.{Due, Events, Stopped}
 use Rattle.session_state.specs.declared.Session.{Session}
-use Rattle.session_state.specs.Handling.{session, new-session, LineEffect, pools-kept, stopped, silent, node-part, bucket-part, with-machine, opened-then}
-use Rattle.session_state.specs.Handling.{open-then, reply-effect, event-effect, listing-effect, phase-effect, line-effect, phase-end, end-effect}
-use Rattle.session_state.specs.PartialLines.{empty-line, line-bytes, pushed}
+use Rattle.session_state.specs.Handling.{session, new-session, LineEffect, pools-kept, stopped, silent, with-machine, opened-then, open-then, reply-effect}
+use Rattle.session_state.specs.Handling.{event-effect, listing-effect, phase-effect, line-effect, phase-end, end-effect}
+use Rattle.partial_line.specs.PartialLines.{empty-line, line-bytes, pushed}
 use Rattle.session_stream.specs.Stream as stream
 use Rattle.session_stream.specs.OutputBounds as session-bounds
 use Rattle.recording.specs.Recording.{close}

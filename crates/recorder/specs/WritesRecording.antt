@@ -25,13 +25,13 @@ use Rattle.session.specs.Header.{optional, header-step}
 use Rattle.session.specs.Keys.{newline}
 use Rattle.session.specs.Print.{refusal-line, output-line}
 use Rattle.session.specs.Transcript.{is-event, task-in, pool-words, session-opening}
+use Rattle.session_pools.specs.PoolParts.{node-extent, bucket-extent, node-part, bucket-part}
 use Rattle.session_state.specs.declared.Phase.{Phase}
 use Rattle.session_state.specs.declared.Phase.the-variants.{Due, Events, Stopped}
 use Rattle.session_state.specs.declared.Session.{Session}
-use Rattle.session_state.specs.Handling.{session, new-session, LineEffect, pools-kept, stopped, silent, node-extent, bucket-extent, node-part, bucket-part}
-use Rattle.session_state.specs.Handling.{session-machine, with-machine, opened-then, open-then, reply-effect, event-effect, listing-effect, phase-effect}
-use Rattle.session_state.specs.Handling.{line-effect, phase-end, end-effect}
-use Rattle.session_state.specs.PartialLines.{empty-line, line-bytes, pushed}
+use Rattle.session_state.specs.Handling.{session, new-session, LineEffect, pools-kept, stopped, silent, session-machine, with-machine, opened-then, open-then}
+use Rattle.session_state.specs.Handling.{reply-effect, event-effect, listing-effect, phase-effect, line-effect, phase-end, end-effect}
+use Rattle.partial_line.specs.PartialLines.{empty-line, line-bytes, pushed}
 use Rattle.session_lines.specs.PoolLengths.{event-lengths}
 use Rattle.session_lines.specs.Openings.{part-length, part-words, machine-back, Alike, opening-same, opening-lengths}
 use Rattle.recording.specs.declared.RecorderPhase.the-variants.{Header as HeaderDue, Events as EventsDue, Ended}

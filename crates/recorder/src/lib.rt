@@ -13,11 +13,11 @@ ghost use Rattle.session_stream.specs.Stream.{EndedBy};
 ghost use Rattle.recording.specs.Recorder.{recorder-output};
 ghost use Rattle.recorder.specs.LentRecorder.{recorded-line, recorder, new-recorder, recorded, record-end, record-byte, begin, record-bytes};
 ghost use Rattle.recorder.specs.LentRecorder.{RecordedAs, EndedAs};
+use partial_line::PartialLine;
 use recorder_lines::KeptLines;
 use session_state::Handled;
 use session_state::Phase;
 use session_state::Session;
-use session_state::partial_line::PartialLine;
 
 // A recorder between two bytes: its session, the header's lines kept for the opening, and the line that is not closed yet.
 pub struct Recorder {
@@ -38,7 +38,7 @@ pub fn new_recorder() -> Recorder
 {
     let session = session_state::new_session();
     let kept = recorder_lines::no_lines();
-    let line = session_state::partial_line::empty_line();
+    let line = partial_line::empty_line();
     Recorder {
         session,
         kept,
@@ -102,8 +102,8 @@ pub fn record_byte(r: Recorder, x: u8, ns: &mut [u32], bs: &mut [u32], out: &mut
     let s = r.session;
     let k = r.kept;
     let h = r.line;
-    if session_state::partial_line::closes(x) {
-        let n = session_state::partial_line::line_length(h);
+    if partial_line::closes(x) {
+        let n = partial_line::line_length(h);
         let b = h.bytes;
         let phase = s.phase;
         let kept = recorder_lines::kept_after(phase, k, &b[..n]);
@@ -112,7 +112,7 @@ pub fn record_byte(r: Recorder, x: u8, ns: &mut [u32], bs: &mut [u32], out: &mut
         let line = PartialLine { bytes: b, len: 0 };
         return made(session, kept, line, t.printed);
     }
-    let line = session_state::partial_line::push(h, x);
+    let line = partial_line::push(h, x);
     made(s, k, line, 0)
 }
 

@@ -13,8 +13,8 @@ use lib.Seq.{length-take-le, take-all, take-at, take-append-le, take-append-add,
 use Rattle.spec.specs.Lists.{if_then_else_}
 use Rattle.session.specs.Buffer.{Buffer, buffer, append-byte, append}
 use Rattle.session.specs.BufferLaws.{append-first, append-rest}
-use Rattle.session_state.specs.declared.partial_line.PartialLine.{PartialLine}
-use Rattle.session_state.specs.PartialLines.{partial, empty-line, line-bytes, pushed}
+use Rattle.partial_line.specs.declared.PartialLine.{PartialLine}
+use Rattle.partial_line.specs.PartialLines.{partial, empty-line, line-bytes, pushed}
 use Rattle.recording.specs.Recorder.{longest-header, longest-read}
 use Rattle.recording.specs.Reader.{keep}
 use Rattle.recording.specs.Recording.{close}

@@ -21,8 +21,8 @@ use Rattle.spec.specs.Entries.{opening, Reply, Written, list}
 use Rattle.laws.specs.Tests.{choose, or-none}
 use Rattle.laws.specs.EntriesKeep.{event-keeps}
 use Rattle.spec.specs.Schedule.{Event, event, run, run-opened, schedule}
-use Rattle.schedule_words.specs.Events.{events-of, listing-number}
-use Rattle.schedule_words.specs.EventLaws.{events-length, event-at, events-on, events-end}
+use Rattle.schedule_events.specs.Events.{events-of, listing-number}
+use Rattle.schedule_events.specs.EventLaws.{events-length, event-at, events-on, events-end}
 use Rattle.schedule_words.proofs.Laws.{output-length, over-none, over-then}
 use Rattle.opening.proofs.Laws.{refusal-small}
 use Rattle.schedule.specs.Encoding.{room-for, decoded, list-opened, run-words}

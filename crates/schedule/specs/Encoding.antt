@@ -13,7 +13,7 @@ use Rattle.spec.specs.Machine.{Machine, machine-of}
 use Rattle.spec.specs.Words.{overwrite}
 use Rattle.spec.specs.Entries.{opening, Written, list}
 use Rattle.spec.specs.Schedule.{Event, schedule}
-use Rattle.schedule_words.specs.Events.{events-of}
+use Rattle.schedule_events.specs.Events.{events-of}
 use Rattle.schedule.specs.declared.Outcome.{Outcome}
 
 -- ---- the events that are run

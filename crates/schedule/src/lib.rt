@@ -1,6 +1,6 @@
 // A whole schedule in one call: the opening, then starts and steps given as words, then the list.
 use lines::Moved;
-use schedule_words::Asked;
+use schedule_events::Asked;
 use soundness::Checked;
 use spec::Config;
 use spec::Listing;
@@ -21,7 +21,7 @@ ghost use Rattle.spec.specs.ContainsSteps.{ContainsExact};
 ghost use Rattle.pace.specs.StepCounts.{none-begun, StepsWithin};
 ghost use Rattle.soundness.specs.Told.{told, checked-of};
 ghost use Rattle.lines.specs.Reply.{moved-reply};
-ghost use Rattle.schedule_words.specs.Events.{event-of, events-of};
+ghost use Rattle.schedule_events.specs.Events.{event-of, events-of};
 ghost use Rattle.schedule.specs.Encoding.{decoded, run-words, result-of};
 
 // What a run gives: the opening's refusal, or 0; the number of events run; the state; the list's answer, in whose place the refusal
@@ -64,7 +64,7 @@ fn run_event(
     ensures { λ r. ⌜ moved-reply s task r (now (ns .exit)) (now (bs .exit)) ≡ event (machine-of s (now (ns .entry)) (now (bs .entry)))
         (event-of kind task tag) ⌝ }
 {
-    match schedule_words::asked_by(kind) {
+    match schedule_events::asked_by(kind) {
         Asked::Start(call) => checked_start::start(s, d, task, call, tag),
         Asked::Step => checked_step::step(s, d, task, ns, bs),
     }
@@ -139,7 +139,7 @@ pub fn run(
             listing: Listing::Refused(refusal),
         };
     }
-    let n = schedule_words::number_of_events(events.len(), outs.len());
+    let n = schedule_events::number_of_events(events.len(), outs.len());
     let t = run_events(s, n, events, ns, bs, outs);
     let l = queries::list(t, ns, bs, tags);
     Outcome {

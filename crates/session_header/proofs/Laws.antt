@@ -11,9 +11,9 @@ use Rattle.spec.specs.Entries.{opening}
 use Rattle.session.specs.declared.Header.{Header}
 use Rattle.session.specs.Print.{refusal-line}
 use Rattle.session.specs.Buffer.{buffer, append}
+use Rattle.session_pools.specs.PoolParts.{node-extent, bucket-extent, node-part, bucket-part}
 use Rattle.session_state.specs.declared.Phase.the-variants.{Events, Stopped}
-use Rattle.session_state.specs.Handling.{session, handled, LineHandled, node-extent, bucket-extent, node-part, bucket-part, pools-kept, with-machine}
-use Rattle.session_state.specs.Handling.{silent, opened-then, open-then}
+use Rattle.session_state.specs.Handling.{session, handled, LineHandled, pools-kept, with-machine, silent, opened-then, open-then}
 use Rattle.session_state.proofs.Laws.{nothing-appended, puts-back}
 
 module _ (h : Header) (ns bs : List ℕ) (a b : ℕ) (ea : a ≡ node-extent h ns) (eb : b ≡ bucket-extent h bs) where

@@ -9,8 +9,8 @@ pub fn open_machine(h: Header, ns: &mut [u32], bs: &mut [u32], out: &mut [u8]) -
     ensures { λ r. ⌜ LineHandled (open-then h (now (ns .entry)) (now (bs .entry)) silent) r (now (ns .exit)) (now (bs .exit)) (now (out .entry))
         (now (out .exit)) ⌝ }
 {
-    let a = session_state::pools::node_extent(h.nodes, ns.len());
-    let b = session_state::pools::bucket_extent(h.buckets, bs.len());
+    let a = session_pools::node_extent(h.nodes, ns.len());
+    let b = session_pools::bucket_extent(h.buckets, bs.len());
     let config = h.config;
     let o = opening::open(config, &mut ns[..a], &mut bs[..b]);
     let refusal = o.refusal;

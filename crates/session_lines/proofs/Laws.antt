@@ -29,13 +29,13 @@ use Rattle.session.specs.Grammar.{InputLine}
 use Rattle.session.specs.Print.{refusal-line, output-line, listing-lines}
 use Rattle.session.specs.Transcript.{final-listing}
 use Rattle.session.specs.Buffer.{Buffer, buffer, append}
+use Rattle.session_pools.specs.PoolParts.{node-extent, bucket-extent, node-part, bucket-part}
 use Rattle.session_state.specs.declared.Phase.{Phase}
 use Rattle.session_state.specs.declared.Phase.the-variants.{Due, Events, Stopped}
 use Rattle.session_state.specs.declared.Session.{Session}
 use Rattle.session_state.specs.declared.Handled.{Handled}
-use Rattle.session_state.specs.Handling.{session, reads-events, handled, LineEffect, LineHandled, pools-kept, silent, node-extent, bucket-extent, node-part}
-use Rattle.session_state.specs.Handling.{bucket-part, session-machine, with-machine, opened-then, open-then, header-effect, reply-effect, phase-effect}
-use Rattle.session_state.specs.Handling.{line-effect, phase-end, end-effect}
+use Rattle.session_state.specs.Handling.{session, reads-events, handled, LineEffect, LineHandled, pools-kept, silent, session-machine, with-machine}
+use Rattle.session_state.specs.Handling.{opened-then, open-then, header-effect, reply-effect, phase-effect, line-effect, phase-end, end-effect}
 use Rattle.session_state.proofs.Laws.{nothing-appended, puts-back, same-machine}
 
 -- ---- a start or a step over the session's part of the pools

@@ -18,8 +18,9 @@ use Rattle.laws.specs.Tests.{and-right}
 use Rattle.laws.specs.OpeningSound.{OpeningOutcome, refused, accepted, opening-outcome}
 use Rattle.session.specs.declared.Header.{Header}
 use Rattle.session.specs.Transcript.{pool-words}
+use Rattle.session_pools.specs.PoolParts.{extent, node-extent, bucket-extent, bucket-part}
 use Rattle.session_state.specs.declared.Phase.{Phase}
-use Rattle.session_state.specs.Handling.{extent, node-extent, bucket-extent, bucket-part, session-machine, with-machine}
+use Rattle.session_state.specs.Handling.{session-machine, with-machine}
 
 -- ---- the part of a pool
 

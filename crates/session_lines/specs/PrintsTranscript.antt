@@ -25,11 +25,12 @@ use Rattle.session.specs.Header.{empty-header, optional, header-step, complete,
 use Rattle.session.specs.Print.{refusal-line, output-line}
 use Rattle.session.specs.Transcript.{add-event, events, is-event, all-events, task-in, output-lines, end-lines, ran-lines, event-lines, pool-words}
 use Rattle.session.specs.Transcript.{session-opening, opened-lines, header-lines, lines-transcript}
+use Rattle.session_pools.specs.PoolParts.{node-extent, bucket-extent, node-part, bucket-part}
 use Rattle.session_state.specs.declared.Phase.the-variants.{Due, Events, Stopped}
 use Rattle.session_state.specs.declared.Session.{Session}
-use Rattle.session_state.specs.Handling.{session, new-session, LineEffect, pools-kept, stopped, silent, node-extent, bucket-extent, node-part, bucket-part}
-use Rattle.session_state.specs.Handling.{session-machine, with-machine, opened-then, open-then, reply-effect, event-effect, listing-effect, header-effect}
-use Rattle.session_state.specs.Handling.{phase-effect, line-effect, phase-end, end-effect, lines-output}
+use Rattle.session_state.specs.Handling.{session, new-session, LineEffect, pools-kept, stopped, silent, session-machine, with-machine, opened-then, open-then}
+use Rattle.session_state.specs.Handling.{reply-effect, event-effect, listing-effect, header-effect, phase-effect, line-effect, phase-end, end-effect}
+use Rattle.session_state.specs.Handling.{lines-output}
 use Rattle.session_lines.specs.PoolLengths.{event-lengths}
 use Rattle.session_lines.specs.Openings.{part-length, part-words, machine-back, Alike, opening-same, opening-lengths}
 

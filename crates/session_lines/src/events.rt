@@ -25,8 +25,8 @@ fn start_task(
         (now (bs .entry))) r (now (ns .entry)) (now (bs .entry)) (now (out .entry)) (now (out .exit)) ⌝ }
 {
     let header = s.header;
-    let a = session_state::pools::node_extent(header.nodes, ns.len());
-    let b = session_state::pools::bucket_extent(header.buckets, bs.len());
+    let a = session_pools::node_extent(header.nodes, ns.len());
+    let b = session_pools::bucket_extent(header.buckets, bs.len());
     let before = s.state;
     let d = lent::start_local(before, k, call, tag, &ns[..a], &bs[..b]);
     let answered = d.out;
@@ -41,8 +41,8 @@ fn step_task(s: Session, k: u32, ns: &mut [u32], bs: &mut [u32], out: &mut [u8])
         r (now (ns .exit)) (now (bs .exit)) (now (out .entry)) (now (out .exit)) ⌝ }
 {
     let header = s.header;
-    let a = session_state::pools::node_extent(header.nodes, ns.len());
-    let b = session_state::pools::bucket_extent(header.buckets, bs.len());
+    let a = session_pools::node_extent(header.nodes, ns.len());
+    let b = session_pools::bucket_extent(header.buckets, bs.len());
     let before = s.state;
     let d = lent::step_local(before, k, &mut ns[..a], &mut bs[..b]);
     let answered = d.out;
@@ -73,11 +73,11 @@ fn list_tags(s: Session, ns: &[u32], bs: &[u32], out: &mut [u8]) -> usize
     ensures { λ r. ⌜ buffer (now (out .exit)) r ≡ append (final-output s (now (ns .entry)) (now (bs .entry))) (buffer (now (out .entry)) 0) ⌝ }
 {
     let header = s.header;
-    let a = session_state::pools::node_extent(header.nodes, ns.len());
-    let b = session_state::pools::bucket_extent(header.buckets, bs.len());
+    let a = session_pools::node_extent(header.nodes, ns.len());
+    let b = session_pools::bucket_extent(header.buckets, bs.len());
     let m = s.state;
     let head = m.head;
-    let size = session_state::pools::node_size(&ns[..a], head);
+    let size = session_pools::node_size(&ns[..a], head);
     let mut w = [0u32; 64];
     let listed = queries::list(m, &ns[..a], &bs[..b], &mut w);
     match listed {

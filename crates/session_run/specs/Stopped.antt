@@ -14,7 +14,7 @@ use Rattle.session.specs.Print.{key-line, refusal-line, listing-lines}
 use Rattle.session_state.specs.declared.Phase.{Phase}
 use Rattle.session_state.specs.declared.Phase.the-variants.{Due, Events, Stopped}
 use Rattle.session_state.specs.declared.Session.{Session}
-use Rattle.session_state.specs.PartialLines.{line-bytes}
+use Rattle.partial_line.specs.PartialLines.{line-bytes}
 use Rattle.session_state.specs.Handling.{LineEffect, pools-kept, silent, phase-effect, line-effect, phase-end, end-effect}
 use Rattle.session_stream.specs.Stream.{Progress, handled, kept, feed, feeds, stream-end, stream-output}
 

@@ -6,9 +6,9 @@ ghost use Prim.Native.Nat.{_*_, _≤_};
 ghost use lib.ListN.{length};
 ghost use Rattle.session.specs.OutputLengths.{longest-line};
 ghost use Rattle.session_run.specs.Stopped.{has-stopped, begins-refusal};
+use partial_line::PartialLine;
 use session_state::Phase;
 use session_state::Session;
-use session_state::partial_line::PartialLine;
 
 // How a run stands after a read: the input may go on, it is at its end, the session was refused, or a read or a write failed.
 pub enum Outcome {
@@ -148,7 +148,7 @@ fn read_some(all: bool, s: Session, h: PartialLine, ns: &mut [u32], bs: &mut [u3
 // refusal. A proved loop has to end, and nothing says that an input does, so the reads are counted down from a number that no run uses up.
 pub fn read_all(all: bool, ns: &mut [u32], bs: &mut [u32]) -> Reading {
     let mut s = session_state::new_session();
-    let mut h = session_state::partial_line::empty_line();
+    let mut h = partial_line::empty_line();
     let mut left: u64 = 18446744073709551615;
     while 0 < left {
         let k = read_some(all, s, h, ns, bs);

@@ -1,53 +1,19 @@
--- Laws that the proofs of the functions cite, over plain lists and numbers: the extent of a pool's part, an entry's machine put
--- back into the lent pools, a line that is not closed yet. Assumes nothing.
+-- Laws that the proofs of the functions cite, over plain lists and numbers: what was printed, an entry's machine put back into the
+-- lent pools. Assumes nothing.
 use mathlib.Core.Path.{_≡_, refl, sym, ap, subst, _∙_}
 use mathlib.Core.List.{List, [], _++_}
-use Prim.Native.Nat.{ℕ, _+_, _*_, _<_, _≤_}
-use native.Mathlib.Omega.{arith}
-use borrow.Author.Tests.{le-leb, lt-leb, lt-ltb, le-ltb}
-use lib.ListN.{length, getD, take, drop, set, List·getD-eq-default}
-use lib.Seq.{take-all}
+use Prim.Native.Nat.{ℕ}
+use lib.ListN.{take, drop}
 use Rattle.spec.specs.declared.State.{State}
 use Rattle.spec.specs.Machine.{Machine, machine-of}
-use Rattle.spec.specs.Words.{size}
 use Rattle.session.specs.declared.Header.{Header}
 use Rattle.session.specs.Buffer.{Buffer, buffer, append}
+use Rattle.session_pools.specs.PoolParts.{node-extent, bucket-extent}
 use Rattle.session_state.specs.declared.Phase.{Phase}
 use Rattle.session_state.specs.declared.Phase.the-variants.{Stopped}
-use Rattle.session_state.specs.declared.Session.{Session}
 use Rattle.session_state.specs.declared.Handled.{Handled}
-use Rattle.session_state.specs.declared.partial_line.PartialLine.{PartialLine}
-use Rattle.session_state.specs.PartialLines.{partial, pushed}
-use Rattle.session_state.specs.Handling.{session, handled, SessionEffect, SessionHandled, LineEffect, LineHandled, pools-kept, extent, node-extent}
-use Rattle.session_state.specs.Handling.{bucket-extent, session-machine, with-machine}
-
--- ---- the extent of a part
-
-module _ (width most n words : ℕ) where
-  pub extent-low : n < 1 → extent width most n words ≡ 0
-  unfolding extent
-  extent-low h = rw (lt-leb _ _ h)
-
-  pub extent-high : 1 ≤ n → most < n → extent width most n words ≡ 0
-  unfolding extent
-  extent-high l h = rw (le-leb _ _ l, lt-leb _ _ h)
-
-  pub extent-fits : 1 ≤ n → n ≤ most → width * n ≤ words → extent width most n words ≡ width * n
-  unfolding extent
-  extent-fits l h f = rw (le-leb _ _ l, le-leb _ _ h, le-leb _ _ f)
-
-  pub extent-short : 1 ≤ n → n ≤ most → words < width * n → extent width most n words ≡ 0
-  unfolding extent
-  extent-short l h f = rw (le-leb _ _ l, le-leb _ _ h, lt-leb _ _ f)
-
--- a node's size, past the pool's end too
-pub size-in : (ns : List ℕ) (k : ℕ) → getD ns (34 * k) 0 ≡ size ns k
-unfolding size
-size-in ns k = refl
-
-pub size-past : (ns : List ℕ) (k : ℕ) → length ns ≤ 34 * k → 0 ≡ size ns k
-unfolding size
-size-past ns k h = sym (List·getD-eq-default ns 0 h)
+use Rattle.session_state.specs.Handling.{session, handled, SessionEffect, SessionHandled, LineEffect, LineHandled, pools-kept}
+use Rattle.session_state.specs.Handling.{session-machine, with-machine}
 
 -- ---- nothing is printed; no word is changed
 
@@ -89,16 +55,3 @@ module _ (h : Header) (ns bs : List ℕ) (a b : ℕ) (ea : a ≡ node-extent h n
   same-machine m =
       ap (λ (n : ℕ). machine-of m (take n ns) (take b bs)) ea
       ∙ ap (λ (n : ℕ). machine-of m (take (node-extent h ns) ns) (take n bs)) eb
-
--- ---- a line that is not closed yet
-
-pub all-kept : (b : List ℕ) (n : ℕ) → length b ≡ 41 → 41 ≤ n → take 41 b ≡ take n b
-all-kept b n e h = take-all 41 b (omega arith) ∙ sym (take-all n b (omega arith))
-
-pub push-in : (h : PartialLine) (x : ℕ) → h .len < 41 → partial (set (h .bytes) (h .len) x) (h .len + 1) ≡ pushed h x
-unfolding pushed
-push-in h x l = rw (lt-ltb _ _ l)
-
-pub push-full : (h : PartialLine) (x : ℕ) → 41 ≤ h .len → h ≡ pushed h x
-unfolding pushed
-push-full h x l = rw (le-ltb _ _ l)

@@ -1,15 +1,14 @@
 -- What one line does to a session whose pools are lent whole, and what the end of the input prints: the definitions that the
 -- code is held to. That they print the paper's transcript is shown in session_lines, PrintsTranscript. Assumes nothing.
-use Prim.Native.Nat.{ℕ, _*_}
+use Prim.Native.Nat.{ℕ}
 use mathlib.Core.Path.{_≡_}
 use mathlib.Core.List.{List, [], _∷_, _++_}
-use mathlib.Core.Bool.{Bool, true, false, _&&_}
-use lib.Dec.{leb, eqb}
-use lib.ListN.{length, take, drop, replicate}
+use mathlib.Core.Bool.{Bool, true, false}
+use lib.Dec.{eqb}
+use lib.ListN.{drop, replicate}
 use Rattle.spec.specs.declared.State.{State}
 use Rattle.spec.specs.Lists.{if_then_else_}
 use Rattle.spec.specs.Machine.{Machine, machine-of, zero-config, state-of}
-use Rattle.spec.specs.Sound.{within}
 use Rattle.spec.specs.Entries.{Opened, opening, Reply, start, step, list}
 use Rattle.session.specs.declared.EventLine.{EventLine}
 use Rattle.session.specs.declared.EventLine.the-variants.{Start, Step, Outside}
@@ -22,6 +21,7 @@ use Rattle.session.specs.Header.{empty-header, optional, header-step}
 use Rattle.session.specs.Print.{refusal-line, output-line}
 use Rattle.session.specs.Buffer.{buffer, append}
 use Rattle.session.specs.Transcript.{final-listing}
+use Rattle.session_pools.specs.PoolParts.{node-extent, bucket-extent, node-part, bucket-part}
 use Rattle.session_state.specs.declared.Phase.{Phase}
 use Rattle.session_state.specs.declared.Phase.the-variants.{Due, Events, Stopped}
 use Rattle.session_state.specs.declared.Session.{Session}
@@ -66,24 +66,7 @@ prints-last s prints = record { session = session Stopped (s .header) (s .state)
 unfoldable pub stopped : Session → ℕ → SessionEffect
 stopped s r = prints-last s (refusal-line r)
 
--- ---- the session's part of the lent pools
-
--- how many words serve n records: none where n is out of bounds ("nodes outside 1 to 64 give 2, buckets outside 1 to 200 give
--- 3"), or where the lent pool is too short
-unfoldable pub extent : ℕ → ℕ → ℕ → ℕ → ℕ
-extent width most n words = if within 1 most n && leb (width * n) words then (width * n) else 0
-
-abbrev pub node-extent : Header → List ℕ → ℕ
-node-extent h ns = extent 34 64 (h .nodes) (length ns)
-
-abbrev pub bucket-extent : Header → List ℕ → ℕ
-bucket-extent h bs = extent 66 200 (h .buckets) (length bs)
-
-abbrev pub node-part : Header → List ℕ → List ℕ
-node-part h ns = take (node-extent h ns) ns
-
-abbrev pub bucket-part : Header → List ℕ → List ℕ
-bucket-part h bs = take (bucket-extent h bs) bs
+-- ---- the machine in the session's part of the lent pools
 
 abbrev pub session-machine : Session → List ℕ → List ℕ → Machine
 session-machine s ns bs = machine-of (s .state) (node-part (s .header) ns) (bucket-part (s .header) bs)

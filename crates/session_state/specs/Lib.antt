@@ -1,2 +1,1 @@
 pub mod Handling
-pub mod PartialLines

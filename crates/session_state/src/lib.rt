@@ -1,8 +1,4 @@
-// A session between two lines, and the refusal of a line outside the grammar. `partial_line` has a line that is not closed yet,
-// `pools` the parts of the lent pools that a session uses.
-pub mod partial_line;
-pub mod pools;
-
+// A session between two lines, and the refusal of a line outside the grammar.
 ghost use mathlib.Core.Path.{_≡_};
 ghost use Rattle.session_state.specs.Handling.{session, new-session, handled, stopped, reads-events, SessionHandled};
 use session::Header;

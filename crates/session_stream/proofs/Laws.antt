@@ -18,9 +18,9 @@ use Rattle.session.specs.BufferLaws.{append-both, behind, append-rest, append-w
 use Rattle.session.specs.Transcript.{transcript}
 use Rattle.session_state.specs.declared.Session.{Session}
 use Rattle.session_state.specs.declared.Handled.{Handled}
-use Rattle.session_state.specs.PartialLines.{partial, empty-line, line-bytes, pushed}
+use Rattle.partial_line.specs.PartialLines.{partial, empty-line, line-bytes, pushed}
 use Rattle.session_state.specs.Handling.{LineEffect, new-session, line-effect, end-effect, LineHandled}
-use Rattle.session_state.specs.declared.partial_line.PartialLine.{PartialLine}
+use Rattle.partial_line.specs.declared.PartialLine.{PartialLine}
 use Rattle.session_stream.specs.declared.Fed.{Fed}
 use Rattle.session_stream.specs.Stream.{Progress, begin, handled, kept, feed, feeds, stream-end, stream-output, streamed, FedAs, EndedBy, EndedAs}
 use Rattle.session_stream.specs.PrintsTranscript.{unclosed-too-long, stream-prints-transcript}

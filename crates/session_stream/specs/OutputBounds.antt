@@ -24,12 +24,13 @@ use Rattle.session.specs.Keys.{newline}
 use Rattle.session.specs.Grammar.{InputLine, closed-line, open-line}
 use Rattle.session.specs.Transcript.{final-listing, transcript}
 use Rattle.session.specs.OutputLengths.{longest-line, longest-end, refusal-length, output-length, listing-length}
+use Rattle.session_pools.specs.PoolParts.{node-part, bucket-part}
 use Rattle.session_state.specs.declared.Phase.{Phase}
 use Rattle.session_state.specs.declared.Phase.the-variants.{Due, Events, Stopped}
 use Rattle.session_state.specs.declared.Session.{Session}
-use Rattle.session_state.specs.PartialLines.{empty-line, line-bytes}
-use Rattle.session_state.specs.Handling.{LineEffect, new-session, session-machine, pools-kept, stopped, node-part, bucket-part, with-machine, silent}
-use Rattle.session_state.specs.Handling.{open-then, reply-effect, event-effect, listing-effect, header-effect, phase-effect, line-effect, phase-end, end-effect}
+use Rattle.partial_line.specs.PartialLines.{empty-line, line-bytes}
+use Rattle.session_state.specs.Handling.{LineEffect, new-session, session-machine, pools-kept, stopped, with-machine, silent, open-then, reply-effect}
+use Rattle.session_state.specs.Handling.{event-effect, listing-effect, header-effect, phase-effect, line-effect, phase-end, end-effect}
 use Rattle.session_stream.specs.Stream.{Progress, begin, handled, kept, feed, feeds, stream-end, stream-output, streamed}
 use Rattle.session_stream.specs.PrintsTranscript.{opened-either, stream-prints-transcript}
 

@@ -24,11 +24,11 @@ use Rattle.session.specs.Transcript.{transcript}
 use Rattle.session_state.specs.declared.Phase.{Phase}
 use Rattle.session_state.specs.declared.Phase.the-variants.{Due, Events, Stopped}
 use Rattle.session_state.specs.declared.Session.{Session}
-use Rattle.session_state.specs.PartialLines.{partial, empty-line, line-bytes, pushed}
+use Rattle.partial_line.specs.PartialLines.{partial, empty-line, line-bytes, pushed}
 use Rattle.session_state.specs.Handling.{LineEffect, new-session, pools-kept, stopped, with-machine, silent, opened-then, open-then}
 use Rattle.session_state.specs.Handling.{event-effect, header-effect, phase-effect, line-effect, phase-end, end-effect, lines-output}
 use Rattle.session_lines.specs.PrintsTranscript.{lines-print-transcript}
-use Rattle.session_state.specs.declared.partial_line.PartialLine.{PartialLine}
+use Rattle.partial_line.specs.declared.PartialLine.{PartialLine}
 use Rattle.session_stream.specs.Stream.{Progress, begin, handled, kept, feed, feeds, stream-end, stream-output, streamed}
 
 -- ---- a line that is too long or not closed: it is outside the grammar, whatever its bytes are

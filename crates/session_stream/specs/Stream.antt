@@ -11,8 +11,8 @@ use Rattle.session.specs.Grammar.{closed-line, open-line}
 use Rattle.session.specs.Buffer.{buffer, append, Written}
 use Rattle.session_state.specs.declared.Session.{Session}
 use Rattle.session_state.specs.Handling.{LineEffect, new-session, line-effect, end-effect}
-use Rattle.session_state.specs.declared.partial_line.PartialLine.{PartialLine}
-use Rattle.session_state.specs.PartialLines.{partial, empty-line, line-bytes, pushed}
+use Rattle.partial_line.specs.declared.PartialLine.{PartialLine}
+use Rattle.partial_line.specs.PartialLines.{partial, empty-line, line-bytes, pushed}
 use Rattle.session_stream.specs.declared.Fed.{Fed}
 
 -- ---- a session in the middle of its input

@@ -1,12 +1,12 @@
-// A session, byte by byte: a line's bytes are kept until byte 10 closes it, as far as session_state keeps them. `feed_byte` takes
+// A session, byte by byte: a line's bytes are kept until byte 10 closes it, as far as partial_line keeps them. `feed_byte` takes
 // one byte, `feed_bytes` a slice of them, `end_stream` the end of the input, and `transcript` a whole session.
 ghost use Prim.Native.Nat.{_≤_};
 ghost use lib.ListN.{length};
 ghost use Rattle.session.specs.Buffer.{Written};
 ghost use Rattle.session.specs.Transcript.{transcript};
 ghost use Rattle.session_stream.specs.Stream.{begin, feed, feeds, stream-end, FedAs, EndedBy, EndedAs};
+use partial_line::PartialLine;
 use session_state::Session;
-use session_state::partial_line::PartialLine;
 
 // The session after some bytes, the line that is not closed yet, and how many bytes were printed.
 pub struct Fed {
@@ -26,8 +26,8 @@ pub fn feed_byte(
 ) -> Fed
     ensures { λ r. ⌜ FedAs (feed (begin s h (now (ns .entry)) (now (bs .entry))) x) r (now (ns .exit)) (now (bs .exit)) (now (out .entry)) (now (out .exit)) ⌝ }
 {
-    if session_state::partial_line::closes(x) {
-        let n = session_state::partial_line::line_length(h);
+    if partial_line::closes(x) {
+        let n = partial_line::line_length(h);
         let b = h.bytes;
         let t = session_lines::handle_line(s, ns, bs, &b[..n], out);
         let next = t.session;
@@ -38,7 +38,7 @@ pub fn feed_byte(
             printed: t.printed,
         };
     }
-    let line = session_state::partial_line::push(h, x);
+    let line = partial_line::push(h, x);
     Fed {
         session: s,
         line,
@@ -88,12 +88,12 @@ pub fn end_stream(
     ensures { λ r. ⌜ EndedBy (stream-end (begin s h (now (ns .entry)) (now (bs .entry)))) r
         (now (ns .exit)) (now (bs .exit)) (now (out .entry)) (now (out .exit)) ⌝ }
 {
-    let n = session_state::partial_line::line_length(h);
+    let n = partial_line::line_length(h);
     if n == 0 {
         let t = session_lines::end_input(s, ns, bs, out);
         return t.printed;
     }
-    let long = session_state::partial_line::too_long();
+    let long = partial_line::too_long();
     let t = session_lines::handle_line(s, ns, bs, &long, out);
     t.printed
 }
@@ -107,7 +107,7 @@ pub fn transcript(input: &[u8], ns: &mut [u32], bs: &mut [u32], out: &mut [u8]) 
         → Written (transcript (now (input .entry))) (now (out .entry)) (now (out .exit)) r) ⌝ }
 {
     let s = session_state::new_session();
-    let h = session_state::partial_line::empty_line();
+    let h = partial_line::empty_line();
     let f = feed_bytes(s, h, input, ns, bs, out);
     let at = f.printed;
     let session = f.session;

@@ -26,7 +26,7 @@ use Rattle.corollaries.specs.Tables.{StartRefused, is-8, is-4, is-5, is-14, sta
 use Rattle.corollaries.specs.Turns.{turn-names-none}
 use Rattle.lines.specs.declared.Moved.{Moved}
 use Rattle.lines.specs.Reply.{settled, moved-reply}
-use Rattle.schedule_words.specs.Events.{listing-number}
+use Rattle.schedule_events.specs.Events.{listing-number}
 use Rattle.state_words.specs.StateWords.{state-words, state-of-words, state-fits}
 use Rattle.yard_answers.specs.Answers.{open-number, out-number, out-left, turn-number, turn-left}
 use Rattle.yard_c.specs.Calls.{called, c-reply, machine-in}

@@ -12,7 +12,7 @@ use Rattle.spec.specs.Lists.{if_then_else_}
 use Rattle.spec.specs.Machine.{Machine, machine-of, config-of, with-version, with-zero-withdrawn}
 use Rattle.spec.specs.Entries.{opening, Reply, start, step, list, show}
 use Rattle.turns.specs.Turn.{turn}
-use Rattle.schedule_words.specs.Events.{listing-number}
+use Rattle.schedule_events.specs.Events.{listing-number}
 use Rattle.state_words.specs.StateWords.{state-words, state-of-words, state-fits}
 use Rattle.yard_answers.specs.Answers.{refusing, open-number, out-number, out-left, turn-number, turn-left}
 

@@ -24,7 +24,7 @@ use Rattle.turns.specs.declared.Turn.the-variants.{Idle, Of, Refused}
 use Rattle.turns.specs.Turn.{turn, refusal-of}
 use Rattle.corollaries.specs.Unchanged.{refused-start-changes-nothing, refused-step-changes-nothing, refused-opening-changes-nothing}
 use Rattle.corollaries.specs.Turns.{turn-names-none, refused-turn-changes-nothing}
-use Rattle.schedule_words.specs.Events.{listing-number}
+use Rattle.schedule_events.specs.Events.{listing-number}
 use Rattle.state_words.specs.StateWords.{state-words, state-fits}
 use Rattle.state_words.specs.RoundTrip.{words-again}
 use Rattle.yard_answers.specs.Answers.{open-number, out-number, out-left, turn-number, turn-left}

@@ -201,7 +201,7 @@ pub extern "C" fn yard_list(w: &[u32], ns: &[u32], bs: &[u32], out: &mut [u32]) 
     }
     let s = yard_words::state_of_words(w);
     let l = queries::list(s, ns, bs, out);
-    schedule_words::listing_number(l)
+    schedule_events::listing_number(l)
 }
 
 // How many tags bucket k has, and where the first of them stands.
@@ -245,5 +245,5 @@ pub extern "C" fn schedule_run(
     let g = config(tasks, version, withdrawn);
     let o = schedule::run(g, ns, bs, events, outs, tags);
     let l = o.listing;
-    schedule_words::listing_number(l)
+    schedule_events::listing_number(l)
 }

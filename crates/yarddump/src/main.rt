@@ -2,9 +2,9 @@
 // it stopped. It holds one read of the input, one line, what that read prints, and the two pools.
 ghost use mathlib.Core.Path.{_≡_};
 ghost use lib.ListN.{length};
+use partial_line::PartialLine;
 use session_run::Outcome;
 use session_state::Session;
-use session_state::partial_line::PartialLine;
 
 // More than enough for a line that a session prints.
 fn room() -> [u8; 128]
@@ -32,8 +32,8 @@ fn dump(s: Session, ns: &[u32], bs: &[u32]) {
     let mut w = dump_words();
     let header = s.header;
     let m = s.state;
-    let a = session_state::pools::node_extent(header.nodes, ns.len());
-    let b = session_state::pools::bucket_extent(header.buckets, bs.len());
+    let a = session_pools::node_extent(header.nodes, ns.len());
+    let b = session_pools::bucket_extent(header.buckets, bs.len());
     if a <= ns.len() {
         if b <= bs.len() {
             dump_text::dump(m, &ns[0..a], &bs[0..b], &mut w);

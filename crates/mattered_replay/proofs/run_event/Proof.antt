@@ -1,6 +1,6 @@
 -- `run_event` gives what `event` gives of the event that the words name. Assumes nothing.
 use Rattle.spec.specs.Schedule.{event}
-use Rattle.schedule_words.specs.Events.{event-asked}
+use Rattle.schedule_events.specs.Events.{event-asked}
 use borrow.Author.Needs.{needs}
 use Rattle.mattered_replay.proofs.run_event.Statement.{statement}
 use Rattle.mattered_replay.proofs.run_event.Tie as tie

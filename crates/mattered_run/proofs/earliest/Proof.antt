@@ -3,7 +3,7 @@ use denote.Ref.{now}
 use mathlib.Core.Path.{sym, ap, _∙_}
 use borrow.Author.Tests.{ltb-true, ltb-false}
 use Rattle.spec.specs.Machine.{Machine}
-use Rattle.schedule_words.specs.Events.{events-of}
+use Rattle.schedule_events.specs.Events.{events-of}
 use Rattle.mattered.specs.Mattered.{mattered}
 use Rattle.mattered_run.proofs.Verdicts.{again-accepted, again-machine, verdict-refused, verdict-many, verdict-found}
 use borrow.Author.Needs.{needs}

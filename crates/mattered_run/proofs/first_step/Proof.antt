@@ -4,7 +4,7 @@ use Prim.Native.Nat.{_*_}
 use mathlib.Core.Path.{sym, ap, _∙_}
 use lib.Seq.{length-take-le}
 use Rattle.spec.specs.Machine.{Machine}
-use Rattle.schedule_words.specs.Events.{events-of}
+use Rattle.schedule_events.specs.Events.{events-of}
 use Rattle.mattered.specs.Mattered.{mattered}
 use Rattle.mattered_run.proofs.Verdicts.{all-words-read, again-accepted, again-machine}
 use native.Mathlib.Omega.{arith}

@@ -5,7 +5,7 @@ use denote.Ref.{now}
 use lib.ListN.{length, drop}
 use borrow.Author.Tests.{eq-eqb, ne-eqb}
 use Rattle.session.specs.Grammar.{starts-with, equals}
-use Rattle.session_parse.proofs.Laws.{starts-end, starts-other, starts-on}
+use Rattle.session_keys.proofs.Laws.{starts-end, starts-other, starts-on}
 use native.Mathlib.Omega.{arith}
 use borrow.Author.Needs.{needs}
 use Rattle.mattered_run.proofs.same_words.Statement.{statement}

@@ -4,8 +4,8 @@ use Prim.Native.Nat.{_≤_, _-_}
 use mathlib.Core.Path.{_≡_, refl, sym, _∙_}
 use lib.ListN.{length}
 use Rattle.spec.specs.Entries.{opening}
-use Rattle.schedule_words.specs.Events.{events-of}
-use Rattle.schedule_words.specs.EventLaws.{events-length}
+use Rattle.schedule_events.specs.Events.{events-of}
+use Rattle.schedule_events.specs.EventLaws.{events-length}
 use Rattle.mattered_run.proofs.Verdicts.{again-machine, alters-read, SearchLeft, search-start, search-found, search-on, search-end}
 use native.Mathlib.Omega.{arith}
 use borrow.Author.Needs.{needs}

@@ -4,7 +4,7 @@ use native.Mathlib.Omega.{arith}
 use lib.ListN.{length}
 use lib.Seq.{length-take-le}
 use borrow.Author.Tests.{eq-eqb, ne-eqb}
-use Rattle.session_state.specs.PartialLines.{line-bytes}
+use Rattle.partial_line.specs.PartialLines.{line-bytes}
 use Rattle.notes_text.specs.Reading.{end-lines}
 use borrow.Author.Needs.{needs}
 use Rattle.notes_text.proofs.stream.finish.Statement.{statement}

@@ -4,7 +4,7 @@ use mathlib.Core.Bool.{true}
 use lib.ListN.{length}
 use lib.Seq.{length-take-le}
 use borrow.Author.Tests.{eq-eqb, ne-eqb, not-true, not-false}
-use Rattle.session_state.specs.PartialLines.{line-bytes}
+use Rattle.partial_line.specs.PartialLines.{line-bytes}
 use Rattle.plan_text.specs.Text.{in-grammar}
 use Rattle.plan_text.specs.Reading.{end-lines}
 use native.Mathlib.Omega.{arith}
