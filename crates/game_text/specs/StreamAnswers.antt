@@ -17,7 +17,7 @@ use Rattle.session.specs.OutputLengths.{refusal-length}
 use Rattle.session.specs.Print.{refusal-line}
 use Rattle.session.specs.Transcript.{session-opening}
 use Rattle.partial_line.specs.PartialLines.{partial, empty-line, line-bytes, pushed}
-use Rattle.notes_text.specs.KeptLine.{LineSoFar, so-far-none, so-far-more, kept-length}
+use Rattle.partial_line.specs.LineSoFar.{LineSoFar, so-far-none, so-far-more, kept-length}
 use Rattle.game.specs.declared.LanesMove.the-variants.{StepTask0, StepTask1, LanesPass}
 use Rattle.game.specs.declared.Verdict.{Verdict}
 use Rattle.game.specs.declared.Verdict.the-variants.{LanesWin, OfficeHolds, Refused}

@@ -23,7 +23,7 @@ use Rattle.session.specs.Transcript.{is-event, session-opening}
 use Rattle.session_state.specs.declared.Phase.{Phase}
 use Rattle.session_state.specs.declared.Phase.the-variants.{Due, Events, Stopped}
 use Rattle.partial_line.specs.PartialLines.{empty-line, line-bytes}
-use Rattle.notes_text.specs.KeptLine.{LineSoFar, so-far-none, so-far-more, kept-length}
+use Rattle.partial_line.specs.LineSoFar.{LineSoFar, so-far-none, so-far-more, kept-length}
 use Rattle.mattered.specs.declared.Verdict.{Verdict}
 use Rattle.mattered.specs.declared.Verdict.the-variants.{Place as AtPlace, NoStep, Refused}
 use Rattle.mattered.specs.SessionVerdict.{verdict}

@@ -26,7 +26,8 @@ use Rattle.notes.specs.Text.{parse-note-line, outcome-lines, merge-lines, add-f
 use Rattle.notes.specs.Text.{notes-output, notes-transcript}
 use Rattle.notes_text.specs.declared.stream.Reading.{Reading}
 use Rattle.notes_text.specs.Reading.{notes-of, add-note, reading, no-notes, new-reading, close-line, feed, feeds, end-lines}
-use Rattle.notes_text.specs.KeptLine.{LineSoFar, so-far-none, so-far-more, kept-length, kept-says}
+use Rattle.partial_line.specs.LineSoFar.{LineSoFar, so-far-none, so-far-more, kept-length}
+use Rattle.notes_text.specs.KeptLine.{kept-says}
 
 -- ---- a lane's notes, and what is kept of them
 

@@ -1,1 +1,2 @@
 pub mod PartialLines
+pub mod LineSoFar

@@ -18,7 +18,7 @@ use Rattle.session.specs.Print.{refusal-line}
 use Rattle.partial_line.specs.declared.PartialLine.{PartialLine}
 use Rattle.partial_line.specs.PartialLines.{partial, empty-line, line-bytes, pushed}
 use Rattle.laws.specs.Tests.{bool?}
-use Rattle.notes_text.specs.KeptLine.{LineSoFar, so-far-none, so-far-more, kept-length}
+use Rattle.partial_line.specs.LineSoFar.{LineSoFar, so-far-none, so-far-more, kept-length}
 use Rattle.plans.specs.declared.Planned.{Planned}
 use Rattle.plans.specs.declared.Calls.{Calls}
 use Rattle.plans.specs.Plan.{plan, list-of}

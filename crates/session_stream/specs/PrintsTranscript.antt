@@ -3,13 +3,11 @@
 use mathlib.Core.Path.{_≡_, refl, sym, ap, _∙_}
 use mathlib.Core.List.{List, [], _∷_, _++_, append-assoc, append-nil}
 use mathlib.Core.Bool.{Bool, true, false}
-use Prim.Native.Nat.{ℕ, _+_, _<_, _≤_, min}
-use native.Mathlib.Numerals.{add-one}
+use Prim.Native.Nat.{ℕ, _+_, _<_, _≤_}
 use native.Mathlib.Omega.{arith}
-use borrow.Author.Tests.{ne-eqb, lt-leb, eqb-true, eqb-false, ltb-true, ltb-false}
-use lib.Dec.{eqb, ltb}
-use lib.ListN.{length, take, set, replicate, length-append, length-take, length-set}
-use lib.Seq.{take-all, take-append-le, take-suc-set}
+use borrow.Author.Tests.{ne-eqb, lt-leb, eqb-true, eqb-false}
+use lib.Dec.{eqb}
+use lib.ListN.{length, take, replicate}
 use Rattle.spec.specs.Lists.{if_then_else_}
 use Rattle.spec.specs.Entries.{Opened}
 use Rattle.session.specs.declared.EventLine.the-variants.{Outside}
@@ -24,7 +22,8 @@ use Rattle.session.specs.Transcript.{transcript}
 use Rattle.session_state.specs.declared.Phase.{Phase}
 use Rattle.session_state.specs.declared.Phase.the-variants.{Due, Events, Stopped}
 use Rattle.session_state.specs.declared.Session.{Session}
-use Rattle.partial_line.specs.PartialLines.{partial, empty-line, line-bytes, pushed}
+use Rattle.partial_line.specs.PartialLines.{partial, empty-line, line-bytes}
+use Rattle.partial_line.specs.LineSoFar.{LineSoFar, so-far-none, so-far-more, kept-length}
 use Rattle.session_state.specs.Handling.{LineEffect, new-session, pools-kept, stopped, with-machine, silent, opened-then, open-then}
 use Rattle.session_state.specs.Handling.{event-effect, header-effect, phase-effect, line-effect, phase-end, end-effect, lines-output}
 use Rattle.session_lines.specs.PrintsTranscript.{lines-print-transcript}
@@ -99,46 +98,6 @@ unclosed-last l s ns bs =
     ap (λ (p : Phase). d .prints ++ phase-end p (d .session) (d .nodes) (d .buckets) .prints) (unclosed-stops l s ns bs) ∙ append-nil (d .prints)
 
 -- ---- what is kept of a line, against the line so far
-
-record LineSoFar (h : PartialLine) (line : List ℕ) : Type 0 where
-  room : length (h .bytes) ≡ 41
-  some : h .len ≡ min 41 (length line)
-  same : line-bytes h ≡ take 41 line
-
-so-far-none : (b : List ℕ) → length b ≡ 41 → LineSoFar (partial b 0) []
-so-far-none b e = record { room = e; some = refl; same = refl }
-
-so-far-more : (h : PartialLine) (line : List ℕ) (x : ℕ) → LineSoFar h line → LineSoFar (pushed h x) (line ++ (x ∷ []))
-unfolding pushed
-so-far-more h line x o = go (ltb (h .len) 41) refl
-  where
-    l : length (line ++ (x ∷ [])) ≡ length line + 1
-    l = simp length-append (omega arith)
-
-    go : (b : Bool) → ltb (h .len) 41 ≡ b → LineSoFar (if b then partial (set (h .bytes) (h .len) x) (h .len + 1) else h) (line ++ (x ∷ []))
-    go true e =
-        let f : h .len < 41 = ltb-true _ _ e in
-        let g : length line < 41 = omega (arith, o .some) in
-        record {
-          room = length-set (h .bytes) (h .len) x ∙ o .room;
-          some = omega (arith, o .some, l);
-          same =
-              ap (λ (n : ℕ). take n (set (h .bytes) (h .len) x)) (add-one (h .len))
-              ∙ take-suc-set (h .bytes) (h .len) x (omega (arith, o .room))
-              ∙ ap (λ (w : List ℕ). w ++ (x ∷ [])) (o .same ∙ take-all 41 line (omega arith))
-              ∙ sym (take-all 41 (line ++ (x ∷ [])) (omega (arith, l)));
-        }
-    go false e =
-        let f : 41 ≤ h .len = ltb-false _ _ e in
-        let g : 41 ≤ length line = omega (arith, o .some) in
-        record {
-          room = o .room;
-          some = omega (arith, o .some, l);
-          same = o .same ∙ sym (take-append-le 41 line (x ∷ []) g);
-        }
-
-kept-length : (h : PartialLine) (line : List ℕ) → LineSoFar h line → length (line-bytes h) ≡ min 41 (length line)
-kept-length h line o = ap length (o .same) ∙ length-take 41 line
 
 kept-effect : (h : PartialLine) (line : List ℕ) (s : Session) (ns bs : List ℕ) → LineSoFar h line
     → line-effect s ns bs (closed-line (line-bytes h)) ≡ line-effect s ns bs (closed-line line)
