@@ -13,7 +13,7 @@ use Rattle.spec.specs.declared.Output.{Output}
 use Rattle.spec.specs.declared.Output.the-variants.{At, End, Refuse}
 use Rattle.laws.specs.Tests.{tf}
 use Rattle.laws.specs.StepAt.{Test, SomeFails, AllPass, one-fails, none-fails, tests-at, takes-at, effect-at, tested, refused-8, refused-7, accepted}
-use Rattle.lines.specs.declared.Moved.{Moved}
+use Rattle.line_moves.specs.declared.Moved.{Moved}
 use Rattle.lines.specs.Reply.{changes, settled, moved-reply, refusal, Gives}
 
 module _ {s : State} {k : ℕ} {m : Moved} {ns bs : List ℕ} {r : Reply} where

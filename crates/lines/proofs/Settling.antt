@@ -3,22 +3,16 @@
 use mathlib.Core.Path.{_≡_, refl}
 use mathlib.Core.List.{List}
 use mathlib.Core.Bool.{true, false}
-use Prim.Native.Nat.{ℕ, _+_, _<_, _≤_, min}
+use Prim.Native.Nat.{ℕ, _<_, _≤_}
 use native.Mathlib.Omega.{arith}
-use borrow.Author.Tests.{le-ltb, lt-ltb, ltb-true}
+use borrow.Author.Tests.{le-ltb, ltb-true}
 use lib.ListN.{set}
-use Rattle.spec.specs.Machine.{machine-of, idle, with-line, with-own, with-state, with-task, set-task}
-use Rattle.spec.specs.Machine.{state-head, state-last-node, state-last-bucket, state-task}
-use Rattle.spec.specs.Words.{nothing, apply}
-use Rattle.spec.specs.Lines.{moves, answers-of}
-use Rattle.spec.specs.Entries.{Reply, occupancy, finish, accept}
-use Rattle.spec.specs.declared.Task.{Task}
-use Rattle.spec.specs.declared.Answer.{Answer}
+use Rattle.spec.specs.Machine.{machine-of, state-head, state-last-node, state-last-bucket, state-task}
+use Rattle.spec.specs.Entries.{Reply}
 use Rattle.spec.specs.declared.State.{State}
-use Rattle.spec.specs.declared.Occupancy.{Occupancy}
 use Rattle.spec.specs.declared.Output.{Output}
 use Rattle.spec.specs.declared.Output.the-variants.{At, End, Refuse}
-use Rattle.lines.specs.declared.Moved.{Moved}
+use Rattle.line_moves.specs.declared.Moved.{Moved}
 use Rattle.lines.specs.Reply.{changes, settled, moved-reply}
 
 -- ---- which answers change the state
@@ -49,22 +43,6 @@ module _ (s : State) (k : ℕ) (m : Moved) (ns bs : List ℕ) {r : Reply} (h : m
   pub moved-off : changes (m .out) k ≡ false → record { out = m .out; machine = machine-of s ns bs } ≡ r
   unfolding settled
   moved-off e = rw e at h
-
--- the answers of an accepted line: the task goes on at line l, or its call ends
-module _ (s : State) (k : ℕ) (c : Task) (low : k < 8) (ns bs : List ℕ) where
-  abbrev gives : Output → Task → Moved
-  gives o x = record { out = o; head = s .head; «last_node» = s .«last_node»; «last_bucket» = s .«last_bucket»; task = x }
-
-  pub goes-on : (l : ℕ) → moved-reply s k (gives (At l) (with-own (min (c .own + 1) 65535) (with-line l c))) ns bs
-      ≡ accept (machine-of s ns bs) k (c .own) (moves (with-line l c))
-  unfolding accept finish set-task with-task with-state state-head state-last-node state-last-bucket state-task with-line apply settled changes
-  goes-on l = let e = lt-ltb _ _ low in rw e
-
-  -- so full is the bucket that the link names
-  pub ends-so : (a : Answer) (full : Occupancy) (l : ℕ) → full ≡ occupancy (machine-of s ns bs) l
-      → moved-reply s k (gives (End a (min (c .own + 1) 65535) full) idle) ns bs ≡ accept (machine-of s ns bs) k (c .own) (answers-of l nothing a)
-  unfolding accept finish set-task with-task with-state state-head state-last-node state-last-bucket state-task apply settled changes
-  ends-so a full l q = let e = lt-ltb _ _ low in rw (e, q)
 
 -- A line that takes a record or moves the head makes its answer over the state with that change. The answer over the state before is
 -- the same, since what it gives stands in the place of the change.

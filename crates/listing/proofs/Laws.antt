@@ -1,4 +1,4 @@
--- Laws of the loops that count and gather: a turn of each. Assumes nothing.
+-- Laws of the loops over places that count and gather, and of one tag more in a set that is gathered: a turn of each. Assumes nothing.
 use mathlib.Core.Path.{_≡_, refl, sym, ap, _∙_}
 use mathlib.Core.List.{List, [], _∷_, _++_, append-nil}
 use mathlib.Core.Bool.{Bool, true, false}
@@ -6,37 +6,22 @@ use Prim.Native.Nat.{ℕ, suc, _+_, _-_, _<_, _≤_}
 use native.Mathlib.Numerals.{add-one}
 use native.Mathlib.Omega.{arith}
 use borrow.Author.Tests.{eq-eqb, ne-eqb}
-use lib.ListN.{length, getD, drop, drop-of-length-le}
-use lib.Seq.{drop-cons}
 use Rattle.spec.specs.declared.Config.{Config}
-use Rattle.spec.specs.Lists.{if_then_else_, filter}
-use Rattle.spec.specs.Words.{number, pred, place}
+use Rattle.spec.specs.Lists.{if_then_else_}
+use Rattle.spec.specs.Words.{number, pred}
 use Rattle.bucket.specs.declared.Bucket.{Bucket}
 use Rattle.bucket.specs.declared.Changed.{Changed}
 use Rattle.bucket.specs.declared.Response.{Response}
 use Rattle.bucket.specs.declared.Response.the-variants.{Yes, No, Frozen, Full}
-use Rattle.bucket.specs.Bucket.{tags-in, added}
-use Rattle.pool.specs.Pool.{bucket-at}
+use Rattle.bucket.specs.Bucket.{added}
+use Rattle.listing_place.specs.PlaceTags.{place-tags}
 use Rattle.listing.specs.declared.Gathered.{Gathered}
-use Rattle.listing.specs.Listing.{linked-tags, looked-up, place-tags, places-tags, set-tags, is-full, after, add-to, adds}
+use Rattle.listing.specs.Listing.{places-tags, set-tags, is-full, after, add-to, adds}
 
 abbrev pub made : Bool → Bucket → Gathered
 made f b = record { full = f; bucket = b }
 
--- ---- a bucket's tags, one by one
-
-module _ (f : ℕ → Bool) (ts : List ℕ) (i : ℕ) where
-  pub pass : i < length ts → f (getD ts i 0) ≡ true → filter f (drop i ts) ≡ getD ts i 0 ∷ filter f (drop (i + 1) ts)
-  unfolding filter
-  pass h e = rw (add-one, drop-cons ts i 0 h, e)
-
-  pub skip : i < length ts → f (getD ts i 0) ≡ false → filter f (drop i ts) ≡ filter f (drop (i + 1) ts)
-  unfolding filter
-  skip h e = rw (add-one, drop-cons ts i 0 h, e)
-
-  pub rest-none : length ts ≤ i → filter f (drop i ts) ≡ []
-  unfolding filter
-  rest-none h = rw (drop-of-length-le ts h)
+-- ---- tags put in one after the other
 
 pub adds-append : (g : Gathered) (xs ys : List ℕ) → adds g (xs ++ ys) ≡ adds (adds g xs) ys
 unfolding adds
@@ -61,17 +46,6 @@ module _ (g : Config) (ns bs : List ℕ) (head k : ℕ) (old : Bool) (j : ℕ) w
   pub places-none : 32 ≤ j → places-tags g ns bs head k old j (32 - j) ≡ []
   unfolding places-tags
   places-none h = let e : 32 - j ≡ 0 = omega arith in rw e
-
-  -- the bucket that the place names, read out of the pool
-  module _ (l : ℕ) (e : l ≡ place ns k j) where
-    pub place-empty : l ≡ 0 → place-tags g ns bs head k old j ≡ []
-    unfolding place-tags linked-tags filter
-    place-empty z = rw (← e, eq-eqb l 0 z)
-
-    pub place-filled : (l ≡ 0 → ⊥) → (b : Bucket) → b ≡ bucket-at bs (l - 1)
-        → place-tags g ns bs head k old j ≡ filter (looked-up g ns head k old j) (tags-in (b .words))
-    unfolding place-tags linked-tags
-    place-filled z b q = rw (← e, ne-eqb l 0 z, q)
 
 -- ---- both nodes
 

@@ -26,7 +26,9 @@ use Rattle.laws.specs.Listing.{listed-rising, in-bucket-means, means-in-bucket,
 use Rattle.laws.specs.Listing.{head-link, pred-link, head-filled, slot-low, size-high}
 use Rattle.pool.proofs.Facts.{link-of}
 use Rattle.pool.proofs.At.{tags-here, ascends}
-use Rattle.listing.specs.Listing.{linked-tags, left-over, looked-up, place-tags, places-tags, set-tags, adds, nothing}
+use Rattle.looked_up.specs.LookedUp.{left-over, looked-up}
+use Rattle.listing_place.specs.PlaceTags.{linked-tags, place-tags}
+use Rattle.listing.specs.Listing.{places-tags, set-tags, adds, nothing}
 use Rattle.listing.proofs.Sets.{Distinct, rising-distinct, append-distinct, rising-same, Holds, holds-all, holds-none}
 use Rattle.listing.proofs.Sets.{add-all, rising-add-all, member-add-all, length-add-all}
 

@@ -2,39 +2,21 @@
 -- Assumes nothing.
 use Prim.Native.Nat.{ℕ, zero, suc}
 use mathlib.Core.List.{List, [], _∷_, _++_}
-use mathlib.Core.Bool.{Bool, true, false, not, _&&_, _||_}
-use lib.Dec.{eqb}
+use mathlib.Core.Bool.{Bool, true, false}
 use lib.ListN.{replicate, set}
 use Rattle.spec.specs.declared.Config.{Config}
-use Rattle.spec.specs.Lists.{if_then_else_, filter}
-use Rattle.spec.specs.Words.{number, filled, size, pred, place}
-use Rattle.spec.specs.Listed.{slot}
+use Rattle.spec.specs.Lists.{if_then_else_}
+use Rattle.spec.specs.Words.{number, filled, pred}
 use Rattle.bucket.specs.declared.Changed.{Changed}
 use Rattle.bucket.specs.declared.Response.{Response}
 use Rattle.bucket.specs.declared.Response.the-variants.{Yes, No, Frozen, Full}
-use Rattle.bucket.specs.Bucket.{tags-in, added}
-use Rattle.pool.specs.Pool.{bucket-at}
+use Rattle.bucket.specs.Bucket.{added}
+use Rattle.listing_place.specs.PlaceTags.{place-tags}
 use Rattle.listing.specs.declared.Gathered.{Gathered}
 
--- ---- where a tag is looked up, in a set opened so
+-- ---- the tags looked up at the places of a node, in a set opened so
 
--- the tags of the bucket that a link names, none for none
-unfoldable pub linked-tags : List ℕ → ℕ → List ℕ
-linked-tags bs l = if filled l then tags-in (bucket-at bs (number l) .words) else []
-
--- the head does not decide, its place for the tag being empty; asked of its predecessor's tags alone
-unfoldable pub left-over : Config → List ℕ → ℕ → Bool → ℕ → Bool
-left-over g ns head old t = not old || eqb (place ns head (slot g t (size ns head))) 0
-
--- place j of node k is where the tag t is looked up
-unfoldable pub looked-up : Config → List ℕ → ℕ → ℕ → Bool → ℕ → ℕ → Bool
-looked-up g ns head k old j t = eqb (slot g t (size ns k)) j && left-over g ns head old t
-
--- the tags that are looked up at place j of node k and are there
-unfoldable pub place-tags : Config → List ℕ → List ℕ → ℕ → ℕ → Bool → ℕ → List ℕ
-place-tags g ns bs head k old j = filter (looked-up g ns head k old j) (linked-tags bs (place ns k j))
-
--- the same of n places from j on
+-- those of n places from j on
 unfoldable pub places-tags : Config → List ℕ → List ℕ → ℕ → ℕ → Bool → ℕ → ℕ → List ℕ
 places-tags g ns bs head k old j zero = []
 places-tags g ns bs head k old j (suc n) = place-tags g ns bs head k old j ++ places-tags g ns bs head k old (suc j) n

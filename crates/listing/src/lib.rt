@@ -3,53 +3,17 @@
 // place is looked at once.
 use bucket::Bucket;
 use bucket::Response;
+use listing_place::count_place;
+use looked_up::is_looked_up;
 use spec::Config;
 use spec::State;
 ghost use mathlib.Core.Path.{_≡_};
 ghost use Prim.Native.Nat.{_≤_};
 ghost use lib.ListN.{length};
-ghost use Rattle.listing.specs.Listing.{looked-up, place-tags, places-tags, set-tags, add-to, adds, nothing};
-
-// ---- where a tag is looked up
-
-// Place j of node k is where the tag is looked up. For the head's predecessor, `old`, the head's own place must be empty.
-fn is_looked_up(g: Config, ns: &[u32], head: u32, k: u32, old: bool, j: u32, tag: u32) -> bool
-    ensures { λ r. ⌜ r ≡ looked-up g (now (ns .entry)) head k old j tag ⌝ }
-{
-    let z = pool::size_at(ns, k);
-    let i = bucket::slot(g, tag, z);
-    if i != j {
-        return false;
-    }
-    if old {
-        let p = pool::place_for_at(ns, head, g, tag);
-        return p == 0;
-    }
-    true
-}
+ghost use Rattle.listing_place.specs.PlaceTags.{place-tags};
+ghost use Rattle.listing.specs.Listing.{places-tags, set-tags, add-to, adds, nothing};
 
 // ---- how many
-
-fn count_place(g: Config, ns: &[u32], bs: &[u32], head: u32, k: u32, old: bool, j: u32) -> u32
-    ensures { λ r. ⌜ (r ≡ length (place-tags g (now (ns .entry)) (now (bs .entry)) head k old j)) × (r ≤ 64) ⌝ }
-{
-    let l = pool::place_at(ns, k, j);
-    if l == 0 {
-        return 0;
-    }
-    let b = pool::buckets::load(bs, l as usize - 1);
-    let w = b.words;
-    let n = b.count();
-    let mut found: u32 = 0;
-    let mut i = 0;
-    while i < n {
-        if is_looked_up(g, ns, head, k, old, j, w[2 + i]) {
-            found += 1;
-        }
-        i += 1;
-    }
-    found
-}
 
 fn count_node(g: Config, ns: &[u32], bs: &[u32], head: u32, k: u32, old: bool) -> u32
     ensures { λ r. ⌜ (r ≡ length (places-tags g (now (ns .entry)) (now (bs .entry)) head k old 0 32)) × (r ≤ 2048) ⌝ }

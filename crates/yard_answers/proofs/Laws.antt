@@ -10,7 +10,7 @@ use Rattle.spec.specs.declared.Output.{Output}
 use Rattle.spec.specs.declared.Output.the-variants.{At, End, Refuse}
 use Rattle.spec.specs.Numbers.{output-words}
 use Rattle.spec.specs.Words.{overwrite}
-use Rattle.lines.specs.declared.Moved.{Moved}
+use Rattle.line_moves.specs.declared.Moved.{Moved}
 use Rattle.lines.specs.Reply.{changes, settled}
 use Rattle.schedule_words.proofs.Laws.{output-length}
 use Rattle.state_words.specs.StateWords.{state-words, state-of-words, state-fits}

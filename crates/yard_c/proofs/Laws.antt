@@ -24,7 +24,7 @@ use Rattle.turns.specs.declared.Turn.the-variants.{Idle, Of, Refused}
 use Rattle.turns.specs.Turn.{turn}
 use Rattle.corollaries.specs.Tables.{StartRefused, is-8, is-4, is-5, is-14, start-refused, StepRefused, is-6, is-8-step, is-7, step-refused}
 use Rattle.corollaries.specs.Turns.{turn-names-none}
-use Rattle.lines.specs.declared.Moved.{Moved}
+use Rattle.line_moves.specs.declared.Moved.{Moved}
 use Rattle.lines.specs.Reply.{settled, moved-reply}
 use Rattle.schedule_events.specs.Events.{listing-number}
 use Rattle.state_words.specs.StateWords.{state-words, state-of-words, state-fits}

@@ -3,7 +3,8 @@ use mathlib.Core.Path.{_≡_, ap, _∙_}
 use Prim.Native.Nat.{_+_, _-_, _*_, _≤_}
 use denote.Ref.{now}
 use lib.ListN.{length, length-append}
-use Rattle.listing.specs.Listing.{place-tags, places-tags}
+use Rattle.listing_place.specs.PlaceTags.{place-tags}
+use Rattle.listing.specs.Listing.{places-tags}
 use native.Mathlib.Nat.{zero-add}
 use Rattle.listing.proofs.Laws.{places-on, places-none}
 use native.Mathlib.Omega.{arith}

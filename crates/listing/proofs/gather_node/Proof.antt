@@ -3,7 +3,8 @@ use mathlib.Core.Path.{_≡_, refl, sym, ap, _∙_}
 use Prim.Native.Nat.{_+_, _-_, _≤_}
 use denote.Ref.{now}
 use Rattle.listing.specs.declared.Gathered.{Gathered}
-use Rattle.listing.specs.Listing.{place-tags, places-tags, adds}
+use Rattle.listing_place.specs.PlaceTags.{place-tags}
+use Rattle.listing.specs.Listing.{places-tags, adds}
 use Rattle.listing.proofs.Laws.{places-on, places-none, adds-none, adds-append}
 use native.Mathlib.Omega.{arith}
 use borrow.Author.Needs.{needs}

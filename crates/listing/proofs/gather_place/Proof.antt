@@ -8,8 +8,10 @@ use Rattle.spec.specs.Lists.{filter}
 use Rattle.bucket.specs.Bucket.{tags-in}
 use Rattle.bucket.proofs.Laws.{tag-at}
 use Rattle.listing.specs.declared.Gathered.{Gathered}
-use Rattle.listing.specs.Listing.{looked-up, add-to, adds}
-use Rattle.listing.proofs.Laws.{pass, skip, rest-none, place-empty, place-filled, adds-none, adds-one}
+use Rattle.listing.specs.Listing.{add-to, adds}
+use Rattle.looked_up.specs.LookedUp.{looked-up}
+use Rattle.listing_place.proofs.Laws.{pass, skip, rest-none, place-empty, place-filled}
+use Rattle.listing.proofs.Laws.{adds-none, adds-one}
 use native.Mathlib.Omega.{arith}
 use borrow.Author.Needs.{needs}
 use Rattle.listing.proofs.gather_place.Statement.{statement}
