@@ -1,29 +1,27 @@
 -- What adding a tag makes of a changeable bucket, and of how many tags it has.
 -- Assumes nothing.
-use mathlib.Core.Path.{_≡_, refl, sym, ap, _∙_, subst}
-use mathlib.Core.List.{List, [], _∷_, _++_, append-nil, foldr}
+use mathlib.Core.Path.{_≡_, refl, sym, ap, subst}
+use mathlib.Core.List.{List, [], _∷_}
 use mathlib.Core.Bool.{Bool, true, false}
 use mathlib.Core.Logic.{⊎-elim}
-use Prim.Native.Nat.{ℕ, zero, suc, _+_, _-_, _<_, _≤_}
-use native.Mathlib.Numerals.{add-one}
+use Prim.Native.Nat.{ℕ, suc, _+_, _-_, _<_, _≤_}
 use native.Mathlib.Omega.{arith}
-use borrow.Author.Tests.{leb-true, leb-false, le-leb, lt-leb}
+use borrow.Author.Tests.{leb-true, leb-false}
 use lib.Dec.{leb, ltb, eqb}
-use lib.ListN.{length, getD, take, drop, set, length-take, length-drop, length-append, drop-of-length-le}
-use lib.Seq.{drop-cons, append-snoc}
+use lib.ListN.{length, take, drop, length-take, length-drop, length-append}
 use denote.Enum.Declared.{tagOf}
 use types.Run.{OneOf}
-use Rattle.spec.specs.Lists.{if_then_else_, filter, add-tag, union}
+use Rattle.spec.specs.Lists.{if_then_else_, add-tag}
 use Rattle.spec.specs.Words.{bucket-of}
 use Rattle.bucket.specs.declared.Bucket.{Bucket}
 use Rattle.bucket.specs.declared.Changed.{Changed}
 use Rattle.bucket.specs.declared.Response.{Response}
 use Rattle.bucket.specs.declared.Response.the-variants.{Yes, No, Full}
-use Rattle.bucket.specs.Bucket.{tags-in, rank, found, added, changed}
+use Rattle.bucket.specs.Bucket.{rank, found, added, changed}
 use Rattle.bucket.proofs.Response.{the-type}
 use Rattle.bucket_words.proofs.Laws.{add-rank}
 use Rattle.bucket.proofs.Laws.{add-present}
-use Rattle.bucket.proofs.Pad.{padded, words-bucket, tags-of-bucket}
+use Rattle.bucket.proofs.Pad.{tags-of-bucket}
 
 pub length-add : (x : ℕ) (ts : List ℕ) → length ts ≤ length (add-tag x ts)
 unfolding add-tag

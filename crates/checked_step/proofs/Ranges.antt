@@ -9,7 +9,7 @@ use lib.Dec.{leb, ltb, eqb}
 use Rattle.laws.specs.Tests.{and-left, and-right}
 use Rattle.spec.specs.Lists.{member, every}
 use Rattle.spec.specs.Sound.{lines-of, fill-lines}
-use Rattle.lines.specs.Running.{contains-lines, resize-lines, apply-lines, gather-lines, init-bucket-lines}
+use Rattle.lines.specs.Running.{contains-lines, resize-lines, apply-lines, init-bucket-lines}
 
 -- a test that every element passes is passed by each
 member-every : (p : ℕ → Bool) (l : ℕ) (xs : List ℕ) → every p xs ≡ true → member l xs ≡ true → p l ≡ true

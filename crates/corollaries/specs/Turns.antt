@@ -16,7 +16,7 @@ use Rattle.spec.specs.Lists.{range}
 use Rattle.spec.specs.Machine.{Machine, with-chosen, task-of}
 use Rattle.spec.specs.Words.{link}
 use Rattle.spec.specs.Held.{cyclic-order}
-use Rattle.spec.specs.Sound.{task-count, sound}
+use Rattle.spec.specs.Sound.{task-count}
 use Rattle.spec.specs.Entries.{step}
 use Rattle.spec.specs.Schedule.{Event, event}
 use Rattle.turns.specs.declared.Turn.the-variants.{Idle, Of, Refused}

@@ -9,7 +9,7 @@ use Rattle.spec.specs.Machine.{Machine, with-chosen, with-state, state-chosen}
 use Rattle.spec.specs.Sound.{task-count, sound}
 use Rattle.spec.specs.Entries.{step}
 use Rattle.spec.specs.Schedule.{Ran, Event, steps, event, run}
-use Rattle.turns.specs.Turn.{Turned, turn}
+use Rattle.turns.specs.Turn.{Turned}
 use Rattle.turns.specs.Moves.{Move, enters, turns, turned, move, Run, moves, stands-for, outputs}
 use Rattle.laws.specs.Soundness.{sound-facts}
 use Rattle.laws.specs.EntriesKeep.{event-keeps}

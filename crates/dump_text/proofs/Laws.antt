@@ -1,11 +1,10 @@
 -- The bucket that decides, by what the head's place and its predecessor are. Assumes nothing.
-use mathlib.Core.Path.{_≡_, refl, sym, ap, _∙_}
+use mathlib.Core.Path.{_≡_, sym, ap, _∙_}
 use mathlib.Core.List.{List}
 use Prim.Native.Nat.{ℕ}
 use borrow.Author.Tests.{eq-eqb, ne-eqb}
 use Rattle.spec.specs.declared.Config.{Config}
-use Rattle.spec.specs.Words.{number, size, pred, place}
-use Rattle.spec.specs.Listed.{slot}
+use Rattle.spec.specs.Words.{number, pred}
 use Rattle.dump_text.specs.Decides.{place-in, deciding}
 
 module _ (g : Config) (ns : List ℕ) (head k p : ℕ) (e : p ≡ place-in g ns head k) where

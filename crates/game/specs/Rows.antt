@@ -1,7 +1,7 @@
 -- Rows: what is said of small positions, computed from the definitions. A wrong definition breaks them. Assumes nothing.
 use Prim.Native.Nat.{ℕ, _*_}
 use mathlib.Core.Path.{_≡_, refl}
-use mathlib.Core.List.{List, [], _∷_, _++_, map}
+use mathlib.Core.List.{List, [], _∷_, _++_}
 use lib.ListN.{replicate}
 use Rattle.spec.specs.declared.Call.the-variants.{Insert, Remove, Contains, Grow}
 use Rattle.spec.specs.declared.Config.{Config}
@@ -15,7 +15,6 @@ use Rattle.spec.specs.Rows.{stepping, calling}
 use Rattle.spec.specs.WholeRows.{call_tag_line_i_own_t_s_b_m_n_new-node_new-bucket_, config_H_B_head_last-node_last-bucket_tasks_}
 use Rattle.spec.specs.WholeRows.{node, bucket, pool, whole-rows}
 use Rattle.game.specs.declared.LanesMove.the-variants.{StepTask0, StepTask1}
-use Rattle.game.specs.declared.Verdict.{Verdict}
 use Rattle.game.specs.declared.Verdict.the-variants.{LanesWin, OfficeHolds, Refused}
 use Rattle.game.specs.Game.{lanes-may, after-lanes, ended, ends-insert, office-may, after-office, wins-by, loses-by}
 use Rattle.game.specs.Game.{lanes-win, winning-move, plies, inserts, no-game, verdict}

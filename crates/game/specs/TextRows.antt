@@ -1,5 +1,4 @@
 -- Rows of the program's text: what is printed for an input, computed from the definitions by one statement, `table-holds`. Assumes nothing.
-use Prim.Native.Nat.{ℕ}
 use mathlib.Core.Path.{_≡_, refl}
 use mathlib.Core.List.{List, [], _∷_, map}
 use Rattle.session.specs.Ascii.{codes, ascii}

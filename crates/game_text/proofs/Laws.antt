@@ -2,9 +2,8 @@
 use Prim.Native.Nat.{ℕ}
 use mathlib.Core.Path.{_≡_, refl, sym, ap, subst, _∙_}
 use mathlib.Core.List.{List, [], _∷_, _++_}
-use mathlib.Core.Bool.{Bool, true, false, not, _||_}
+use mathlib.Core.Bool.{Bool, true, false}
 use borrow.Author.Tests.{eq-eqb, ne-eqb}
-use lib.Dec.{eqb}
 use lib.ListN.{take, drop, replicate, take-append-drop}
 use Rattle.spec.specs.declared.State.{State}
 use Rattle.spec.specs.Lists.{if_then_else_}
@@ -34,7 +33,7 @@ use Rattle.game.specs.Text.{game-key, verdict-line, parse-game-line}
 use Rattle.game_text.specs.declared.Asked.{Asked}
 use Rattle.game_text.specs.declared.Asked.the-variants.{NotYet, Turns}
 use Rattle.game_text.specs.declared.Standing.{Standing}
-use Rattle.game_text.specs.Reading.{standing, refused-with, Place, place, refusing, opened, after-event, take-event, take-unasked, take-asked}
+use Rattle.game_text.specs.Reading.{standing, refused-with, Place, place, opened, after-event, take-event, take-unasked, take-asked}
 use Rattle.game_text.specs.Reading.{take-turn, if-opened, header-taken, phase-taken, on-line, asked-at-end, ends-as, StandsAt, EndsAt}
 use Rattle.game_text.specs.OutsideLines.{same-outside}
 

@@ -11,7 +11,7 @@ use lib.ListN.{length}
 use Rattle.spec.specs.declared.State.{State}
 use Rattle.spec.specs.Lists.{if_then_else_}
 use Rattle.spec.specs.Machine.{Machine, zero-config, state-of}
-use Rattle.spec.specs.Entries.{Opened, Reply, opening}
+use Rattle.spec.specs.Entries.{Opened, opening}
 use Rattle.spec.specs.Schedule.{Event, starts, steps, event, run}
 use Rattle.session.specs.declared.Decimal.{Decimal}
 use Rattle.session.specs.declared.Decimal.the-variants.{Value, NotDecimal}
@@ -26,16 +26,14 @@ use Rattle.session.specs.Grammar.{InputLine, open-line, admissible, parse-heade
 use Rattle.session.specs.Header.{empty-header, optional, header-step, complete, incomplete, after-step, read-from, read-header}
 use Rattle.session.specs.LineLaws.{outside-step}
 use Rattle.session.specs.Print.{refusal-line, output-line}
-use Rattle.session.specs.Transcript.{pool-words, session-opening}
-use Rattle.session_pools.specs.PoolParts.{node-extent, bucket-extent, node-part, bucket-part}
-use Rattle.session_state.specs.declared.Phase.the-variants.{Due, Events, Stopped}
-use Rattle.session_state.specs.declared.Session.{Session}
+use Rattle.session.specs.Transcript.{session-opening}
+use Rattle.session_pools.specs.PoolParts.{node-part, bucket-part}
+use Rattle.session_state.specs.declared.Phase.the-variants.{Due, Events}
 use Rattle.session_state.specs.Handling.{session, new-session, reads-events, pools-kept, stopped, session-machine, with-machine, reply-effect, event-effect}
 use Rattle.session_state.specs.Handling.{phase-effect, line-effect}
 use Rattle.session_lines.specs.PoolLengths.{event-lengths}
 use Rattle.session_lines.specs.Openings.{part-length, part-words, machine-back, Alike, opening-same, opening-lengths}
-use Rattle.game.specs.Game.{verdict}
-use Rattle.game.specs.Text.{verdict-line, parse-game-line, asks, outside, first-event, event-then, game-then, line-then, asked, game-line, opened-line}
+use Rattle.game.specs.Text.{parse-game-line, asks, outside, first-event, event-then, game-then, line-then, asked, game-line, opened-line}
 use Rattle.game.specs.Text.{header-line, lines-answer}
 use Rattle.game_text.specs.declared.Asked.the-variants.{NotYet, Turns}
 use Rattle.game_text.specs.Reading.{standing, new-standing, refused-with, Place, place, refusing, opened, after-event, take-event, take-unasked}

@@ -24,7 +24,7 @@ use Rattle.session_state.specs.Handling.{reads-events, pools-kept, stopped, eve
 use Rattle.game.specs.Text.{parse-game-line}
 use Rattle.game_text.specs.declared.Asked.{Asked}
 use Rattle.game_text.specs.declared.Asked.the-variants.{NotYet, Turns}
-use Rattle.game_text.specs.Reading.{Place, refused-with, refusing, opened, after-event, take-event, take-unasked, take-asked, take-turn}
+use Rattle.game_text.specs.Reading.{Place, refused-with, opened, after-event, take-event, take-unasked, take-asked, take-turn}
 use Rattle.game_text.specs.Reading.{if-opened, header-taken, phase-taken, on-line}
 
 outside-game : (l : InputLine) → admissible l ≡ false → parse-game-line l ≡ NotDecimal

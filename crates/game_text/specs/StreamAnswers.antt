@@ -16,14 +16,13 @@ use Rattle.session.specs.Header.{HeaderRead, complete, incomplete, read-header}
 use Rattle.session.specs.OutputLengths.{refusal-length}
 use Rattle.session.specs.Print.{refusal-line}
 use Rattle.session.specs.Transcript.{session-opening}
-use Rattle.partial_line.specs.PartialLines.{partial, empty-line, line-bytes, pushed}
+use Rattle.partial_line.specs.PartialLines.{empty-line, line-bytes}
 use Rattle.partial_line.specs.LineSoFar.{LineSoFar, so-far-none, so-far-more, kept-length}
 use Rattle.game.specs.declared.LanesMove.the-variants.{StepTask0, StepTask1, LanesPass}
 use Rattle.game.specs.declared.Verdict.{Verdict}
 use Rattle.game.specs.declared.Verdict.the-variants.{LanesWin, OfficeHolds, Refused}
-use Rattle.game.specs.Game.{verdict}
 use Rattle.game.specs.Text.{move-word, verdict-line, Asked, asks, outside, asked, game-line, opened-line, header-line, lines-answer, game-answer}
-use Rattle.game_text.specs.Reading.{new-standing, Place, place, on-line, asked-at-end, ends-as}
+use Rattle.game_text.specs.Reading.{Place, on-line, asked-at-end, ends-as}
 use Rattle.game_text.specs.OutsideLines.{same-outside, outside-refuses, short-line}
 use Rattle.game_text.specs.LinesAnswer.{answered, refused-answer, lines-give-answer}
 use Rattle.game_text.specs.Stream.{new-reading, Progress, progress, place-of, taken, feed, feeds, stream-end, streamed}

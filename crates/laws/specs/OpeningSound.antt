@@ -5,8 +5,8 @@ use mathlib.Core.List.{List, []}
 use mathlib.Core.Bool.{true, not}
 use native.Mathlib.Omega.{arith}
 use native.Mathlib.Decide.{ℕ-discrete}
-use borrow.Author.Tests.{eqb-true, leb-true, not-false}
-use lib.Dec.{leb, eqb}
+use borrow.Author.Tests.{eqb-true, not-false}
+use lib.Dec.{eqb}
 use lib.ListN.{length, getD, replicate, length-replicate}
 use Rattle.spec.specs.declared.Config.{Config}
 use Rattle.spec.specs.Lists.{member, ascending}

@@ -1,6 +1,6 @@
 -- Refusal 8 of a step, readable: the step is not refused with 8 exactly if the facts of one record hold. Each is a row of the table in
 -- StepAt. And refusal 7. Assumes nothing.
-use Prim.Native.Nat.{ℕ, _+_, _≤_, _<_}
+use Prim.Native.Nat.{_+_, _≤_, _<_}
 use mathlib.Core.Path.{_≡_}
 use mathlib.Core.Logic.{_↔_, _⊎_, inl, inr}
 use mathlib.Core.List.{[], _∷_}

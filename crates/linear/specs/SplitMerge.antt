@@ -2,7 +2,7 @@
 -- node's size. A bucket of place j at size s splits into the places j and j + s at size 2s: each tag goes to exactly one of them.
 -- Two such buckets merge into exactly the tags of place j at size s. Then line 49 does so under the rule of its set, in both versions.
 -- Assumes nothing.
-use Prim.Native.Nat.{ℕ, suc, _+_, _*_, _/_, _%_, _≤_, _<_}
+use Prim.Native.Nat.{ℕ, suc, _+_, _*_, _/_, _%_, _<_}
 use mathlib.Core.Path.{_≡_, refl, sym, ap, _∙_}
 use mathlib.Core.Logic.{_⊎_, inl, inr}
 use mathlib.Core.List.{List, [], _∷_}

@@ -2,7 +2,7 @@
 -- tests and the effect are those of the line's number, as `laws` states them once for all lines. Assumes nothing.
 use mathlib.Core.Path.{_≡_, sym, ap, _∙_}
 use mathlib.Core.List.{List}
-use mathlib.Core.Bool.{true, false}
+use mathlib.Core.Bool.{true}
 use Prim.Native.Nat.{ℕ}
 use Rattle.spec.specs.Machine.{Machine, machine-of}
 use Rattle.spec.specs.Lines.{Effect}

@@ -3,7 +3,7 @@ use mathlib.Core.Path.{_≡_, refl}
 use Prim.Native.String.{String}
 use mathlib.Core.List.{List, [], _∷_, _++_, map}
 use lib.ListN.{replicate}
-use Rattle.session.specs.Ascii.{codes, ascii}
+use Rattle.session.specs.Ascii.{ascii}
 use Rattle.mattered.specs.declared.Verdict.the-variants.{Place, NoStep, Refused}
 use Rattle.mattered.specs.Text.{verdict-line}
 use Rattle.mattered.specs.Rows.{mattered-definitions, say, header-calls, calls-of, task_call_tag_answer_}

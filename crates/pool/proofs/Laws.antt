@@ -3,19 +3,18 @@
 -- Assumes nothing.
 use mathlib.Core.Path.{_≡_, refl, sym, ap, _∙_}
 use mathlib.Core.List.{List, [], _∷_, map}
-use mathlib.Core.Bool.{Bool, true, false, not, _&&_, _||_, false≢true}
+use mathlib.Core.Bool.{Bool, true, false, _||_, false≢true}
 use Prim.Native.Nat.{ℕ, zero, suc, _*_, _<_, _≤_}
 use native.Mathlib.Omega.{arith}
-use borrow.Author.Tests.{eq-eqb, eqb-true, leb-true, ltb-true}
-use lib.Dec.{leb, eqb}
+use borrow.Author.Tests.{eqb-true, ltb-true}
+use lib.Dec.{eqb}
 use lib.ListN.{length, List·getD-eq-default, length-map}
-use Rattle.laws.specs.Tests.{or-case, and-right}
+use Rattle.laws.specs.Tests.{or-case}
 use Rattle.spec.specs.Lists.{if_then_else_, member}
 use Rattle.spec.specs.Machine.{Machine}
 use Rattle.spec.specs.Words.{size}
 use Rattle.laws.specs.Tests.{passes}
 use Rattle.laws.specs.Links.{filled-true}
-use Rattle.laws.specs.SoundFacts.{ConfigFacts}
 use Rattle.laws.specs.Soundness.{config-facts, within-facts}
 use Rattle.spec.specs.Sound.{listed-size, fill-lines, lines-of, sound-running, zero-task, sound-task, sound-numbers}
 use Rattle.spec.specs.declared.Task.{Task}

@@ -3,10 +3,10 @@
 use mathlib.Core.Path.{_≡_, refl, sym, ap, subst, _∙_}
 use mathlib.Core.List.{List, [], _∷_, _++_}
 use mathlib.Core.Bool.{Bool, true, false, not, _||_}
-use Prim.Native.Nat.{ℕ, zero, suc, _+_, _-_, _<_, _≤_, min}
+use Prim.Native.Nat.{ℕ, zero, suc, _+_, _-_, _<_, _≤_}
 use native.Mathlib.Omega.{arith}
 use borrow.Author.Tests.{ne-eqb, ltb-true, ltb-false}
-use lib.Dec.{eqb, ltb, leb}
+use lib.Dec.{ltb, leb}
 use lib.ListN.{length, getD, take, drop, replicate, length-append, length-take}
 use lib.Seq.{take-at}
 use Rattle.spec.specs.declared.Listing.{Listing}
@@ -19,12 +19,11 @@ use Rattle.spec.specs.Listed.{listed, head-of, size-of}
 use Rattle.spec.specs.Entries.{Written, list}
 use Rattle.session.specs.Keys.{refuse-key, size-key, tags-key, tag-key}
 use Rattle.session.specs.Grammar.{closed-line, equals}
-use Rattle.session.specs.Print.{decimal, key-line, refusal-line}
+use Rattle.session.specs.Print.{key-line, refusal-line}
 use Rattle.session.specs.OutputLengths.{longest-line}
 use Rattle.session.specs.Buffer.{Buffer, append}
 use Rattle.session_pools.specs.PoolParts.{node-extent, bucket-extent, node-part}
 use Rattle.recording.specs.declared.ReaderPhase.the-variants.{Listed}
-use Rattle.recording.specs.declared.Verdict.{Verdict}
 use Rattle.recording.specs.declared.Verdict.the-variants.{Same, Differs, Refusal}
 use Rattle.recording.specs.Recording.{RecordedLine, close, tag-listing, listing-of, listing}
 use Rattle.recording.specs.Verdict.{past-listing}

@@ -4,22 +4,20 @@ use mathlib.Core.Path.{_≡_, refl, sym, ap, subst, _∙_}
 use mathlib.Core.List.{List}
 use mathlib.Core.Bool.{Bool, true, false}
 use Prim.Native.Nat.{ℕ}
-use lib.ListN.{drop}
 use Rattle.session.specs.declared.EventLine.{EventLine}
 use Rattle.session.specs.declared.Header.{Header}
 use Rattle.session.specs.declared.HeaderLine.{HeaderLine}
 use Rattle.session.specs.declared.HeaderStep.the-variants.{Next, Complete}
 use Rattle.session.specs.Keys.{size-key}
 use Rattle.session.specs.Grammar.{InputLine, closed-line, starts-with, parse-event-line}
-use Rattle.session.specs.Header.{optional}
 use Rattle.recording.specs.declared.ReaderPhase.{ReaderPhase}
 use Rattle.recording.specs.declared.ReaderPhase.the-variants.{Due}
 use Rattle.recording.specs.declared.Verdict.{Verdict}
 use Rattle.recording.specs.declared.Verdict.the-variants.{Refusal}
 use Rattle.recording.specs.Verdict.{lists, event-turn, turn}
 use Rattle.reader_state.specs.declared.Reader.{Reader}
-use Rattle.reader_state.specs.Standing.{next-number, missing, reader-of, LineRead, line-read, awaits-event, opened, turn-line, opened-line, header-line}
-use Rattle.reader_state.specs.Standing.{phase-line, read-line, EndRead, end-read, answer-at-end, opened-end, phase-end, read-end, ReadAs, EndedAs}
+use Rattle.reader_state.specs.Standing.{next-number, reader-of, LineRead, line-read, awaits-event, opened, turn-line, opened-line, header-line}
+use Rattle.reader_state.specs.Standing.{phase-line, read-line, end-read, answer-at-end, opened-end, phase-end, read-end, ReadAs, EndedAs}
 
 -- ---- an event's turn
 

@@ -1,7 +1,7 @@
 -- A reader over lent pools of at least 64 nodes and 200 buckets, whatever they hold, stands where the reader of recording's definitions stands:
 -- `Follows`. A line keeps this, `line-follows`, and so the answer at the end is the same, `end-follows`. Assumes nothing.
 use mathlib.Core.Path.{_≡_, refl, sym, ap, subst, _∙_}
-use mathlib.Core.List.{List, [], _∷_, _++_}
+use mathlib.Core.List.{List, [], _∷_}
 use mathlib.Core.Bool.{Bool, true, false}
 use Prim.Native.Nat.{ℕ, suc, _+_, _<_, _≤_, min}
 use native.Mathlib.Omega.{arith}
@@ -9,9 +9,8 @@ use borrow.Author.Tests.{eq-eqb, ne-eqb, eqb-true, eqb-false}
 use lib.Dec.{eqb}
 use lib.ListN.{length, drop}
 use Rattle.spec.specs.Lists.{if_then_else_}
-use Rattle.spec.specs.Machine.{Machine, machine-of}
+use Rattle.spec.specs.Machine.{Machine}
 use Rattle.spec.specs.Entries.{Opened, opening}
-use Rattle.spec.specs.Schedule.{Event, event}
 use Rattle.laws.specs.Tests.{tf}
 use Rattle.session.specs.declared.Header.{Header}
 use Rattle.session.specs.declared.HeaderLine.{HeaderLine}
@@ -37,7 +36,7 @@ use Rattle.recording.specs.Reader.{reader, moved, after-comparing as compared-b
 use Rattle.recording.specs.Reader.{read-opened, read-header-line, read-phase, answers, listing-end, read-phase-end, read-phase-unclosed}
 use Rattle.recording.specs.Reader.{read-line as read-defined, read-end as end-defined, read-unclosed as unclosed-defined, opened-end as opened-end-defined}
 use Rattle.reader_state.specs.declared.Reader.{Reader}
-use Rattle.reader_state.specs.Standing.{most-lines, next-number, missing, with-part, LineRead, line-read, put-back, decided, awaits-event, opened}
+use Rattle.reader_state.specs.Standing.{most-lines, next-number, missing, with-part, LineRead, put-back, decided, awaits-event, opened}
 use Rattle.reader_state.specs.Standing.{turn-line, opened-line, header-line, phase-line, read-line, answer-at-end, opened-end, phase-end, read-end}
 
 -- the header is read, or the answer is given

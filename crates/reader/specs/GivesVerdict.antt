@@ -1,6 +1,6 @@
 -- Read byte by byte over lent pools of at least 64 nodes and 200 buckets, whatever they hold, a recording gives its verdict: `stream-gives-verdict`.
 -- For what is kept of a line is what recording's definitions keep, and each line leaves the reader where they stand (Follows). Assumes nothing.
-use mathlib.Core.Path.{_≡_, refl, sym, ap, subst, _∙_}
+use mathlib.Core.Path.{_≡_, refl, ap, subst, _∙_}
 use mathlib.Core.List.{List, [], _∷_, _++_}
 use mathlib.Core.Bool.{Bool, true, false}
 use Prim.Native.Nat.{ℕ, suc, _+_, _<_, _≤_}

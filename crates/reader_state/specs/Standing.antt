@@ -5,12 +5,11 @@ use Prim.Native.Nat.{ℕ, suc, _+_, min}
 use mathlib.Core.Path.{_≡_}
 use mathlib.Core.List.{List, _++_}
 use mathlib.Core.Bool.{Bool, true, false}
-use lib.Dec.{eqb, ltb}
 use lib.ListN.{drop}
 use Rattle.spec.specs.declared.State.{State}
 use Rattle.spec.specs.Lists.{if_then_else_}
-use Rattle.spec.specs.Machine.{Machine, machine-of, zero-config, state-of}
-use Rattle.spec.specs.Entries.{Opened, opening}
+use Rattle.spec.specs.Machine.{machine-of, zero-config, state-of}
+use Rattle.spec.specs.Entries.{opening}
 use Rattle.session.specs.declared.Header.{Header}
 use Rattle.session.specs.declared.HeaderLine.the-variants.{Tasks}
 use Rattle.session.specs.declared.HeaderStep.{HeaderStep}

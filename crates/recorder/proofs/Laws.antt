@@ -12,12 +12,11 @@ use lib.ListN.{length, getD, take, drop}
 use lib.Seq.{take-all, take-suc}
 use Rattle.spec.specs.Lists.{if_then_else_}
 use Rattle.session.specs.declared.EventLine.{EventLine}
-use Rattle.session.specs.declared.EventLine.the-variants.{Outside}
 use Rattle.session.specs.declared.HeaderStep.the-variants.{Absent, Missing}
 use Rattle.session.specs.Buffer.{Buffer, buffer, append, Written}
 use Rattle.session.specs.BufferLaws.{append-both, append-written, append-within}
 use Rattle.session.specs.Grammar.{InputLine, closed-line, admissible, parse-event-line}
-use Rattle.session.specs.Header.{optional, header-step}
+use Rattle.session.specs.Header.{optional}
 use Rattle.session.specs.Keys.{newline}
 use Rattle.session.specs.LineLaws.{outside-step, outside-event}
 use Rattle.session.specs.Transcript.{is-event}
@@ -26,7 +25,7 @@ use Rattle.session_state.specs.declared.Phase.the-variants.{Due, Events, Stoppe
 use Rattle.session_state.specs.declared.Session.{Session}
 use Rattle.session_state.specs.declared.Handled.{Handled}
 use Rattle.partial_line.specs.declared.PartialLine.{PartialLine}
-use Rattle.session_state.specs.Handling.{handled, LineEffect, LineHandled, pools-kept, stopped, silent, open-then, line-effect, end-effect}
+use Rattle.session_state.specs.Handling.{handled, LineEffect, LineHandled, pools-kept, stopped, open-then, line-effect, end-effect}
 use Rattle.partial_line.specs.PartialLines.{partial, line-bytes, pushed}
 use Rattle.session_state.proofs.Laws.{nothing-appended}
 use Rattle.session_stream.specs.Stream.{EndedBy}

@@ -17,9 +17,8 @@ use Rattle.session.specs.declared.EventLine.the-variants.{Start, Step, Outside}
 use Rattle.session.specs.declared.Header.{Header}
 use Rattle.session.specs.declared.HeaderLine.{HeaderLine}
 use Rattle.session.specs.declared.HeaderStep.{HeaderStep}
-use Rattle.session.specs.declared.HeaderStep.the-variants.{Next, Complete, Absent, Missing}
 use Rattle.session.specs.Grammar.{InputLine, closed-line, admissible, parse-event-line}
-use Rattle.session.specs.Header.{optional, header-step}
+use Rattle.session.specs.Header.{optional}
 use Rattle.session.specs.Keys.{newline}
 use Rattle.session.specs.LineLaws.{outside-event}
 use Rattle.session.specs.Print.{refusal-line}
@@ -31,7 +30,7 @@ use Rattle.session_state.specs.declared.Phase.the-variants.{Due, Events, Stoppe
 use Rattle.session_state.specs.declared.Session.{Session}
 use Rattle.session_state.specs.Handling.{session, new-session, LineEffect, pools-kept, stopped, silent, with-machine, opened-then, open-then, reply-effect}
 use Rattle.session_state.specs.Handling.{event-effect, listing-effect, phase-effect, line-effect, phase-end, end-effect}
-use Rattle.partial_line.specs.PartialLines.{empty-line, line-bytes, pushed}
+use Rattle.partial_line.specs.PartialLines.{empty-line, line-bytes}
 use Rattle.session_stream.specs.Stream as stream
 use Rattle.session_stream.specs.OutputBounds as session-bounds
 use Rattle.recording.specs.Recording.{close}
@@ -39,11 +38,11 @@ use Rattle.recording.specs.Recorder.{longest-header, recorder-output}
 use Rattle.recording_laws.specs.HeaderLaws.{TakenLine, HeaderKnown, goes-on, last-taken, left-out, missing, header-known}
 use Rattle.recorder_lines.specs.declared.KeptLines.{KeptLines}
 use Rattle.recorder.specs.declared.Recorder.{Recorder}
-use Rattle.recorder_lines.specs.KeptLines.{no-lines, kept-bytes, keep-line, kept-after}
+use Rattle.recorder_lines.specs.KeptLines.{no-lines, kept-bytes, kept-after}
 use Rattle.recorder_lines.specs.KeptBytes.{keep-length}
 use Rattle.recorder.specs.LentRecorder.{after-bytes, recorded-event, first-recorded, recorded-opening, recorded-header, recorded-phase, recorded-line}
 use Rattle.recorder.specs.LentRecorder.{recorded-end, new-recorder, RecordEffect, begin, record-end, record-closed, record-byte, then-byte}
-use Rattle.recorder.specs.LentRecorder.{record-bytes, input-recorded, end-of, all-written}
+use Rattle.recorder.specs.LentRecorder.{record-bytes, input-recorded, all-written}
 use Rattle.recorder.specs.WritesRecording.{writes-recording}
 
 -- an event's line, closed, and its output line

@@ -26,21 +26,19 @@ use Rattle.session.specs.Keys.{newline}
 use Rattle.session.specs.Print.{refusal-line, output-line}
 use Rattle.session.specs.Transcript.{is-event, task-in, pool-words, session-opening}
 use Rattle.session_pools.specs.PoolParts.{node-extent, bucket-extent, node-part, bucket-part}
-use Rattle.session_state.specs.declared.Phase.{Phase}
 use Rattle.session_state.specs.declared.Phase.the-variants.{Due, Events, Stopped}
 use Rattle.session_state.specs.declared.Session.{Session}
 use Rattle.session_state.specs.Handling.{session, new-session, LineEffect, pools-kept, stopped, silent, session-machine, with-machine, opened-then, open-then}
 use Rattle.session_state.specs.Handling.{reply-effect, event-effect, listing-effect, phase-effect, line-effect, phase-end, end-effect}
-use Rattle.partial_line.specs.PartialLines.{empty-line, line-bytes, pushed}
+use Rattle.partial_line.specs.PartialLines.{empty-line, line-bytes}
 use Rattle.session_lines.specs.PoolLengths.{event-lengths}
 use Rattle.session_lines.specs.Openings.{part-length, part-words, machine-back, Alike, opening-same, opening-lengths}
 use Rattle.recording.specs.declared.RecorderPhase.the-variants.{Header as HeaderDue, Events as EventsDue, Ended}
 use Rattle.recording.specs.Recording.{close}
 use Rattle.recording.specs.Verdict.{printed-for}
-use Rattle.recording.specs.Reader.{keep}
 use Rattle.recording.specs.Recorder as defined
 use Rattle.recording.specs.Recorder.{RecorderEffect, recorder-effect, record-last, write-listing, write-pair, record-event, after-kept, record-opened}
-use Rattle.recording.specs.Recorder.{record-header-line, record-phase, record-phase-end, ByteRecorder, byte-recorder, new-byte-recorder, line-closed}
+use Rattle.recording.specs.Recorder.{record-header-line, record-phase, record-phase-end, ByteRecorder, new-byte-recorder, line-closed}
 use Rattle.recording.specs.Recorder.{record-input, recorder-output}
 use Rattle.recording_laws.specs.ByteRecorder.{bytes-write-recording}
 use Rattle.recorder_lines.specs.declared.KeptLines.{KeptLines}

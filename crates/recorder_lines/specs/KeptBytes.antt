@@ -1,6 +1,6 @@
 -- What is kept in arrays is what the definition keeps in lists: of the line that is not closed yet, `line-more`, and of the header's lines,
 -- `kept-more`. Assumes nothing.
-use mathlib.Core.Path.{_≡_, refl, sym, ap, subst, _∙_}
+use mathlib.Core.Path.{_≡_, refl, sym, ap, _∙_}
 use mathlib.Core.List.{List, [], _∷_, _++_, append-assoc}
 use mathlib.Core.Bool.{Bool, true, false}
 use Prim.Native.Nat.{ℕ, _+_, _-_, _<_, _≤_, min}
@@ -8,18 +8,18 @@ use native.Mathlib.Numerals.{add-one}
 use native.Mathlib.Omega.{arith}
 use borrow.Author.Tests.{leb-true, leb-false, ltb-true, ltb-false}
 use lib.Dec.{leb, ltb}
-use lib.ListN.{length, take, drop, set, replicate, length-append, length-set, length-drop}
+use lib.ListN.{length, take, drop, set, length-append, length-set, length-drop}
 use lib.Seq.{length-take-le, take-all, take-at, take-append-le, take-append-add, take-suc-set}
 use Rattle.spec.specs.Lists.{if_then_else_}
 use Rattle.session.specs.Buffer.{Buffer, buffer, append-byte, append}
 use Rattle.session.specs.BufferLaws.{append-first, append-rest}
 use Rattle.partial_line.specs.declared.PartialLine.{PartialLine}
-use Rattle.partial_line.specs.PartialLines.{partial, empty-line, line-bytes, pushed}
+use Rattle.partial_line.specs.PartialLines.{partial, line-bytes, pushed}
 use Rattle.recording.specs.Recorder.{longest-header, longest-read}
 use Rattle.recording.specs.Reader.{keep}
 use Rattle.recording.specs.Recording.{close}
 use Rattle.recorder_lines.specs.declared.KeptLines.{KeptLines}
-use Rattle.recorder_lines.specs.KeptLines.{no-lines, kept-bytes, kept-in, keep-line}
+use Rattle.recorder_lines.specs.KeptLines.{no-lines, kept-bytes, keep-line}
 
 -- ---- the line that is not closed yet
 

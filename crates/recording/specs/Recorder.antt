@@ -19,8 +19,8 @@ use Rattle.session.specs.declared.HeaderStep.the-variants.{Next, Complete, Abse
 use Rattle.session.specs.Keys.{newline}
 use Rattle.session.specs.Grammar.{InputLine, closed-line, parse-event-line}
 use Rattle.session.specs.Header.{empty-header, optional, header-step}
-use Rattle.session.specs.Print.{refusal-line, output-line}
-use Rattle.session.specs.Transcript.{task-in, final-listing, session-opening, transcript}
+use Rattle.session.specs.Print.{refusal-line}
+use Rattle.session.specs.Transcript.{final-listing, session-opening, transcript}
 use Rattle.recording.specs.declared.RecorderPhase.{RecorderPhase}
 use Rattle.recording.specs.declared.RecorderPhase.the-variants.{Header as HeaderDue, Events, Ended}
 use Rattle.recording.specs.Recording.{close, bytes-of, Recorded, recorded, not-recorded, recorded-lines}

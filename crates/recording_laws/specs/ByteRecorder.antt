@@ -8,7 +8,6 @@ use native.Mathlib.Omega.{arith}
 use lib.Dec.{eqb}
 use lib.ListN.{length, take}
 use Rattle.spec.specs.Lists.{if_then_else_}
-use Rattle.spec.specs.Entries.{Opened}
 use Rattle.session.specs.declared.EventLine.{EventLine}
 use Rattle.session.specs.declared.HeaderStep.the-variants.{Absent, Missing}
 use Rattle.session.specs.Keys.{newline}
@@ -19,8 +18,7 @@ use Rattle.session.specs.Print.{refusal-line}
 use Rattle.session.specs.Transcript.{session-opening}
 use Rattle.recording.specs.declared.RecorderPhase.{RecorderPhase}
 use Rattle.recording.specs.declared.RecorderPhase.the-variants.{Header as HeaderDue, Events, Ended}
-use Rattle.recording.specs.Reader.{keep}
-use Rattle.recording.specs.Recorder.{Recorder, recorder, new-recorder, RecorderEffect, recorder-effect, record-last, write-listing, record-event}
+use Rattle.recording.specs.Recorder.{Recorder, recorder, new-recorder, RecorderEffect, record-last, write-listing, record-event}
 use Rattle.recording.specs.Recorder.{after-kept, record-opened, record-header-line, record-phase, record-line, record-phase-end, record-end, record-lines}
 use Rattle.recording.specs.Recorder.{longest-read, ByteRecorder, byte-recorder, new-byte-recorder, line-closed, record-byte, record-bytes, record-input}
 use Rattle.recording.specs.Recorder.{recorder-output}

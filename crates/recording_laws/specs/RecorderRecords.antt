@@ -19,9 +19,8 @@ use Rattle.session.specs.declared.Header.{Header}
 use Rattle.session.specs.declared.HeaderLine.{HeaderLine}
 use Rattle.session.specs.declared.HeaderLine.the-variants.{Tasks}
 use Rattle.session.specs.declared.HeaderStep.{HeaderStep}
-use Rattle.session.specs.Keys.{newline}
 use Rattle.session.specs.Grammar.{InputLine, input-lines, parse-event-line}
-use Rattle.session.specs.Header.{empty-header, optional, header-step, HeaderRead, complete, incomplete, after-step as session-step, read-from, read-header}
+use Rattle.session.specs.Header.{empty-header, optional, header-step, complete, incomplete, after-step as session-step, read-from, read-header}
 use Rattle.session.specs.Print.{refusal-line}
 use Rattle.session.specs.Transcript.{add-event, events, final-listing, event-lines, session-opening, opened-lines, header-lines, lines-transcript, transcript}
 use Rattle.recording.specs.declared.RecorderPhase.the-variants.{Header as HeaderDue, Events, Ended}

@@ -7,14 +7,13 @@ use mathlib.Core.List.{List}
 use mathlib.Core.Bool.{Bool, true, false}
 use native.Mathlib.Omega.{arith}
 use native.Mathlib.Decide.{decLt}
-use borrow.Author.Tests.{lt-ltb, ltb-true, ltb-false}
+use borrow.Author.Tests.{ltb-true, ltb-false}
 use lib.Dec.{ltb}
 use lib.ListN.{length, getD, take, drop, set, length-set, length-drop}
 use lib.Seq.{getD-set-other, getD-take, getD-drop, ext-getD, length-take-le}
-use Rattle.spec.specs.Lists.{if_then_else_}
 use Rattle.spec.specs.Words.{overwrite}
 use Rattle.laws.specs.Overwrite.{over-length, over-in, over-out}
-use Rattle.pool.specs.Pool.{front-of, bucket-at, store-bucket}
+use Rattle.pool.specs.Pool.{bucket-at, store-bucket}
 use Rattle.undo.specs.Undo.{node-words, store-words}
 
 -- w is as long as v, and as v but for the n words from this one on

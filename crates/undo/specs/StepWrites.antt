@@ -1,7 +1,7 @@
 -- A step changes no word but those of the two records that Undo names for its line: a write changes words of the record that it names
 -- alone, and a line's write names one of these two. Assumes nothing.
-use Prim.Native.Nat.{ℕ, _+_, _*_, _≤_, _<_, min}
-use mathlib.Core.Path.{_≡_, refl, sym, ap, _∙_}
+use Prim.Native.Nat.{ℕ, _+_, _*_, _≤_, _<_}
+use mathlib.Core.Path.{_≡_, refl, sym, ap}
 use mathlib.Core.List.{List, [], _∷_}
 use mathlib.Core.Bool.{Bool, true, false}
 use native.Mathlib.Omega.{arith}
@@ -27,7 +27,7 @@ use Rattle.laws.specs.Sizes.{size-most}
 use Rattle.laws.specs.Soundness.{sound-facts, run-of}
 use Rattle.laws.specs.NodeWords.{nn-long, nn-fits}
 use Rattle.laws.specs.BucketWords.{bk-long, bk-fits}
-use Rattle.laws.specs.WritesKeep.{WriteSound, sound-nothing, sound-head, sound-place, sound-pred, sound-freeze, sound-put, sound-new-node, sound-new-bucket}
+use Rattle.laws.specs.WritesKeep.{WriteSound, sound-place, sound-put, sound-new-node, sound-new-bucket}
 use Rattle.laws.specs.StepRefusals.{step-sound-facts}
 use Rattle.laws.specs.AfterWrites.{after-task}
 use Rattle.laws.specs.CallLines.{All, every-line, pick-one, one-of-all}

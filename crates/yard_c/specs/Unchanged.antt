@@ -17,7 +17,7 @@ use Rattle.spec.specs.Lists.{concat-map, range}
 use Rattle.spec.specs.Machine.{Machine, idle, zero-config, state-of}
 use Rattle.spec.specs.Sound.{sound}
 use Rattle.spec.specs.Listed.{listed}
-use Rattle.spec.specs.Entries.{Opened, opening, start, step, Written, list, show}
+use Rattle.spec.specs.Entries.{Opened, opening, start, step, Written, list}
 use Rattle.laws.specs.Tests.{choose, and-left, or-none}
 use Rattle.turns.specs.declared.Turn.{Turn}
 use Rattle.turns.specs.declared.Turn.the-variants.{Idle, Of, Refused}

@@ -1,8 +1,7 @@
 -- `bucket::answered` meets its contract: the count is the number of tags. Assumes nothing.
-use mathlib.Core.Path.{_≡_, ap}
+use mathlib.Core.Path.{ap}
 use Prim.Native.Nat.{ℕ}
 use Rattle.bucket.specs.declared.Changed.{Changed}
-use native.Mathlib.Omega.{arith}
 use borrow.Author.Needs.{needs}
 use Rattle.bucket.proofs.answered.Statement.{statement}
 use Rattle.bucket.proofs.answered.Tie as tie

@@ -1,7 +1,6 @@
 -- `bucket_search::position` meets its contract: the tags passed are below the tag, so the rank is their number and the rank in the rest.
 -- Assumes nothing.
 use native.Mathlib.Omega.{arith}
-use borrow.Author.Needs.{needs}
 use mathlib.Core.Path.{_≡_}
 use Prim.Native.Nat.{_≤_, _<_, _-_, _+_}
 use denote.Ref.{now}

@@ -1,7 +1,6 @@
 -- `game_text::event_line` meets its contract: where the session reads no more events the line was outside the grammar. Assumes nothing.
-use mathlib.Core.Path.{sym, ap, _∙_}
+use mathlib.Core.Path.{sym, ap}
 use mathlib.Core.Bool.{Bool}
-use Prim.Native.Nat.{ℕ}
 use borrow.Author.Needs.{needs}
 use Rattle.spec.specs.Lists.{if_then_else_}
 use Rattle.game_text.specs.Reading.{take-event}

@@ -1,6 +1,5 @@
 -- `lines::changes` meets its contract: by the number of the task, and then by the three kinds of output. Assumes nothing.
 use mathlib.Core.Path.{sym}
-use native.Mathlib.Omega.{arith}
 use borrow.Author.Needs.{needs}
 use borrow.Author.Tests.{lt-ltb}
 use Rattle.lines.specs.Reply.{changes}

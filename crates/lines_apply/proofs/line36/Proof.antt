@@ -1,6 +1,5 @@
 -- `lines_apply::line36` meets its contract: there is no bucket, or it is frozen, or an insert or a remove asks it. Assumes nothing.
-use mathlib.Core.Path.{_≡_, sym, _∙_}
-use Prim.Native.Nat.{ℕ}
+use mathlib.Core.Path.{sym, _∙_}
 use native.Mathlib.Omega.{arith}
 use denote.Ref.{now}
 use Rattle.spec.specs.Machine.{Machine, with-i, without-places, machine-of}

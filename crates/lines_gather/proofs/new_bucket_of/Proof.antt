@@ -9,7 +9,7 @@ use lib.Dec.{eqb}
 use lib.ListN.{length}
 use borrow.Author.Tests.{ne-eqb}
 use Rattle.spec.specs.Lists.{filter, union}
-use Rattle.spec.specs.Words.{number, size, tags}
+use Rattle.spec.specs.Words.{number, tags}
 use Rattle.spec.specs.Listed.{slot, size-of, tags-of}
 use Rattle.spec.specs.Lines.{gathered}
 use Rattle.bucket.specs.declared.Bucket.{Bucket}

@@ -1,6 +1,6 @@
 -- `lines_gather::read_place` meets its contract: refused through an empty node's place or past its size, else the place is read. Assumes
 -- nothing.
-use mathlib.Core.Path.{_≡_, refl, sym, ap, _∙_}
+use mathlib.Core.Path.{_≡_, refl, ap, _∙_}
 use mathlib.Core.List.{List}
 use Prim.Native.Nat.{ℕ}
 use denote.Ref.{now}
@@ -8,7 +8,7 @@ use Rattle.spec.specs.declared.Task.{Task}
 use Rattle.spec.specs.Machine.{Machine, with-line, with-b, with-m, with-n, machine-of}
 use Rattle.spec.specs.Listed.{size-of, place-of}
 use Rattle.spec.specs.Lines.{moves}
-use Rattle.spec.specs.Entries.{Reply, accept}
+use Rattle.spec.specs.Entries.{accept}
 use Rattle.laws.specs.StepAt.{AllPass, here, next}
 use Rattle.lines.proofs.Giving.{fails-test, passes-tests}
 use Rattle.lines_gather.specs.declared.Field.{Field}

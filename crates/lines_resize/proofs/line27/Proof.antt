@@ -7,7 +7,7 @@ use Prim.Native.Nat.{ℕ, _≤_, _-_}
 use native.Mathlib.Omega.{arith}
 use denote.Ref.{now}
 use Rattle.spec.specs.Machine.{Machine, with-line, with-new-node, with-state, with-nodes, with-last-node, state-last-node, machine-of}
-use Rattle.spec.specs.Words.{number, size, apply}
+use Rattle.spec.specs.Words.{apply}
 use Rattle.spec.specs.Sound.{listed-size}
 use Rattle.spec.specs.Held.{free-node}
 use Rattle.spec.specs.Listed.{size-of}

@@ -8,7 +8,7 @@ use lib.ListN.{length, replicate}
 use Rattle.spec.specs.declared.State.{State}
 use Rattle.spec.specs.Machine.{machine-of}
 use Rattle.spec.specs.Entries.{Opened, not-opened, fresh-machine}
-use Rattle.opening.proofs.Laws.{blank-nodes, blank-buckets, Pool, Accepted, is-refused, is-accepted}
+use Rattle.opening.proofs.Laws.{blank-nodes, blank-buckets, Accepted, is-refused, is-accepted}
 use native.Mathlib.Omega.{arith}
 use borrow.Author.Needs.{needs}
 use Rattle.opening.proofs.open.Statement.{statement}

@@ -1,6 +1,5 @@
 -- `play::no_game` meets its contract: a test for each condition. Assumes nothing.
-use mathlib.Core.Path.{sym, ap, _∙_}
-use mathlib.Core.Bool.{not}
+use mathlib.Core.Path.{sym}
 use borrow.Author.Needs.{needs}
 use borrow.Author.Tests.{not-true, not-false}
 use Rattle.spec.specs.Machine.{machine-of, task-of, idle}

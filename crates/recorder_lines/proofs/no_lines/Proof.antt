@@ -1,7 +1,6 @@
 -- `recorder_lines::no_lines` meets its contract: as in the definition. Assumes nothing.
 use mathlib.Core.Path.{refl}
 use Rattle.recorder_lines.specs.KeptLines.{no-lines}
-use borrow.Author.Needs.{needs}
 use Rattle.recorder_lines.proofs.no_lines.Statement.{statement}
 use Rattle.recorder_lines.proofs.no_lines.Tie as tie
 

@@ -5,7 +5,6 @@ use Prim.Native.Nat.{_%_}
 use native.Mathlib.Omega.{arith}
 use Rattle.spec.specs.Machine.{task-of}
 use Rattle.spec.specs.declared.Task.{Task}
-use Rattle.soundness.specs.declared.Checked.{Checked}
 use Rattle.soundness.proofs.Laws.{told-sound, no-such-task}
 use borrow.Author.Needs.{needs}
 use Rattle.schedule.proofs.known_sound.Statement.{statement}

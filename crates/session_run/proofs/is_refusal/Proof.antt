@@ -1,5 +1,4 @@
 -- `session_run::is_refusal` meets its contract. A text of no bytes reads 0, which is no `r`. Assumes nothing.
-use mathlib.Core.Path.{_≡_}
 use Prim.Native.Nat.{_≤_}
 use native.Mathlib.Omega.{arith}
 use denote.Ref.{now}

@@ -1,7 +1,6 @@
 -- `session_run::read_all` meets its contract. The pools stay as long as they were; the count of reads falls. Assumes nothing.
-use mathlib.Core.Path.{_≡_, refl, _∙_}
+use mathlib.Core.Path.{_≡_}
 use lib.ListN.{length}
-use native.Mathlib.Omega.{arith}
 use borrow.Author.Needs.{needs}
 use Rattle.session_run.proofs.read_all.Statement.{statement}
 use Rattle.session_run.proofs.read_all.Tie as tie

@@ -1,7 +1,6 @@
 -- `slots::key` meets its contract: its branches are the definition's. Assumes nothing.
 use borrow.Author.Tests.{eq-eqb, ne-eqb}
 use Rattle.spec.specs.Listed.{key}
-use borrow.Author.Needs.{needs}
 use Rattle.slots.proofs.key.Statement.{statement}
 use Rattle.slots.proofs.key.Tie as tie
 

@@ -3,7 +3,6 @@ use mathlib.Core.Path.{_≡_, refl, ap, _∙_}
 use Prim.Native.Nat.{ℕ, _-_, _≤_}
 use denote.Ref.{now}
 use lib.ListN.{length}
-use mathlib.Core.List.{List}
 use lib.ListN.{length-set}
 use Rattle.pool.proofs.Part.{over, over-none, over-more, over-full}
 use native.Mathlib.Omega.{arith}

@@ -1,6 +1,6 @@
 -- `undo::store_words` meets its contract: 34 words over the part that begins at the node's first. Assumes nothing.
 use Prim.Native.Nat.{_*_, _/_, _<_}
-use mathlib.Core.Path.{_≡_, sym, _∙_}
+use mathlib.Core.Path.{_∙_}
 use native.Mathlib.Omega.{arith}
 use borrow.Author.Needs.{needs}
 use borrow.Author.Tests.{lt-ltb, le-ltb}

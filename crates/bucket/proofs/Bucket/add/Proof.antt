@@ -1,6 +1,6 @@
 -- `bucket::Bucket::add` meets its contract: each return is the case of `added` that its tests lead to. Assumes nothing.
 use mathlib.Core.Path.{_≡_, ap, _∙_}
-use mathlib.Core.Bool.{true, false}
+use mathlib.Core.Bool.{false}
 use mathlib.Core.List.{List}
 use Prim.Native.Nat.{ℕ}
 use lib.ListN.{length}

@@ -1,5 +1,5 @@
 -- `coop_helpers::help_finish::line139` meets its contract: refused where the helped operation is empty, else it is done. Assumes nothing.
-use mathlib.Core.Path.{refl, sym, ap, _∙_}
+use mathlib.Core.Path.{refl, ap, _∙_}
 use Prim.Native.Nat.{ℕ}
 use Rattle.spec.specs.Lists.{member}
 use Rattle.coop_spec.specs.Machine.{Machine, machine-of, to-line-with}

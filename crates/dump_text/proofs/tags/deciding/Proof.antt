@@ -1,5 +1,4 @@
 -- `dump_text::tags::deciding` meets its contract. The head's place, no predecessor, or the predecessor's place. Assumes nothing.
-use denote.Ref.{now}
 use Rattle.dump_text.proofs.Laws.{by-head, by-none, by-predecessor}
 use Rattle.dump_text.proofs.tags.deciding.Statement.{statement}
 use Rattle.dump_text.proofs.tags.deciding.Tie as tie

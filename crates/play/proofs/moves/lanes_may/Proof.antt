@@ -1,5 +1,4 @@
 -- `play::moves::lanes_may` meets its contract: by the move. Assumes nothing.
-use mathlib.Core.Path.{refl}
 use borrow.Author.Needs.{needs}
 use Rattle.game.specs.Game.{lanes-may}
 use Rattle.play.proofs.moves.lanes_may.Statement.{statement}

@@ -1,7 +1,5 @@
 -- `reader::by_line::header_line` meets its contract. The four cases of what a line says, as in the definition. Assumes nothing.
 use mathlib.Core.Path.{sym, _∙_}
-use denote.Ref.{now}
-use Rattle.recording.specs.declared.Verdict.the-variants.{Refusal}
 use Rattle.reader_state.specs.Standing.{header-line}
 use Rattle.reader.proofs.Parts.{read-as, kept-as}
 use Rattle.reader.proofs.Turns.{next-due, completes, opened-turn, opened-stays}

@@ -1,7 +1,7 @@
 -- `reader::by_line::listed_end` meets its contract. A line of the listing is not empty, so as many bytes are printed as there is a line. Assumes nothing.
 use mathlib.Core.Path.{sym, _∙_}
 use denote.Ref.{now}
-use Rattle.session.specs.BufferLaws.{append-within, append-written, written-whole}
+use Rattle.session.specs.BufferLaws.{append-written, written-whole}
 use Rattle.reader_state.specs.Standing.{with-part}
 use Rattle.reader.proofs.Places.{place-in, short-place, ends-listed, misses-listed}
 use borrow.Author.Needs.{needs}

@@ -1,12 +1,8 @@
 -- `reader::by_line::print_listed` meets its contract. The contract of `queries::list`: a count is at most 64, and so many of the words are the tags;
 -- and the line at the place. Assumes nothing.
-use mathlib.Core.Path.{sym, ap, _∙_}
-use mathlib.Core.List.{List}
-use Prim.Native.Nat.{ℕ}
-use lib.ListN.{replicate}
+use mathlib.Core.Path.{sym}
 use denote.Ref.{now}
 use lib.Seq.{length-take-le}
-use Rattle.session.specs.Buffer.{buffer, append}
 use Rattle.reader.proofs.Places.{counts-few, prints-counted, prints-refused, prints-none}
 use native.Mathlib.Omega.{arith}
 use borrow.Author.Needs.{needs}

@@ -1,7 +1,7 @@
 -- `recorder::writing::after_opening` meets its contract. The kept lines, and behind them the line, or what it gives as an event's.
 -- Assumes nothing.
 use mathlib.Core.Path.{_≡_, refl, sym, ap, _∙_}
-use lib.ListN.{length, take}
+use lib.ListN.{length}
 use lib.Seq.{length-take-le}
 use denote.Ref.{now}
 use Prim.Native.Nat.{ℕ}
