@@ -58,7 +58,7 @@ pub fn start(s: State, d: Checked, k: u32, call: Call, tag: u32) -> Moved
     if withdrawn(g, call, tag) {
         return lines::refused(s, 14);
     }
-    let x = begun::begun(call, tag);
+    let x = started_task::begun(call, tag);
     Moved {
         out: Output::At(x.line),
         head: s.head,

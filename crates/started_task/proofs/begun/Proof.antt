@@ -1,8 +1,8 @@
--- `begun::begun` meets its contract: each arm is the clause of `started` for its call. Assumes nothing.
+-- `begun` meets its contract: each arm is the clause of `started` for its call. Assumes nothing.
 use Rattle.spec.specs.Entries.{started}
 use borrow.Author.Needs.{needs}
-use Rattle.begun.proofs.begun.Statement.{statement}
-use Rattle.begun.proofs.begun.Tie as tie
+use Rattle.started_task.proofs.begun.Statement.{statement}
+use Rattle.started_task.proofs.begun.Tie as tie
 
 enum-told : tie.Need-enum-told
 enum-told c = search needs
