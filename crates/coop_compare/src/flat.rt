@@ -1,4 +1,5 @@
 // The proved bucket's state and output, made of words and compared with words, as the second implementation has them.
+use coop_reference::slices::get;
 use coop_reference::words::FLAG;
 use coop_reference::words::LAST;
 use coop_reference::words::NODE;
@@ -12,7 +13,6 @@ use coop_spec::Operation;
 use coop_spec::Output;
 use coop_spec::State;
 use coop_spec::Task;
-use reference_words::slices::get;
 
 fn operation_of(m: &[u32], n: usize) -> Operation {
     let at = OPERATIONS + n % 64 * 5;

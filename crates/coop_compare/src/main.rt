@@ -8,9 +8,9 @@ mod report;
 mod script;
 mod vars;
 
+use coop_reference::slices::clear;
 use coop_reference::words::VERSIONS;
 use coop_reference::words::WHAT;
-use reference_words::slices::clear;
 ghost use mathlib.Core.Path.{_≡_};
 ghost use lib.ListN.{length};
 

@@ -5,10 +5,10 @@ use crate::vars::DIFFERENCES;
 use crate::vars::DIFFERS;
 use crate::vars::EXCURSION;
 use crate::vars::RAN;
+use coop_reference::slices::get;
+use coop_reference::slices::put;
 use coop_reference::words::REPLY;
 use coop_reference::words::WHAT;
-use reference_words::slices::get;
-use reference_words::slices::put;
 use reference_words::words::either;
 use reference_words::words::plus;
 

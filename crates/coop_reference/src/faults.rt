@@ -1,4 +1,5 @@
 // Refusal 8, general part. Memory is sound if no word of it is bad.
+use super::slices::get;
 use crate::lines::TEST;
 use crate::lines::entry;
 use crate::lines::is_strange;
@@ -11,7 +12,6 @@ use crate::words::V;
 use crate::words::VERSION_WORDS;
 use crate::words::VERSIONS;
 use crate::words::operation;
-use reference_words::slices::get;
 use reference_words::words::less_1;
 
 // "if T, H, B or a slice length is wrong"

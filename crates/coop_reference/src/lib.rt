@@ -5,17 +5,18 @@
 mod faults;
 mod lines;
 mod sets;
+pub mod slices;
 pub mod words;
 
 use lines::THROUGH;
 use lines::entry;
-use reference_words::slices::copy;
-use reference_words::slices::get;
-use reference_words::slices::put;
 use reference_words::words::SPAN;
 use reference_words::words::either;
 use reference_words::words::less_1;
 use reference_words::words::plus;
+use slices::copy;
+use slices::get;
+use slices::put;
 use words::ASKED_K;
 use words::ASKED_N;
 use words::ASKED_TAG;

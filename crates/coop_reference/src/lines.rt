@@ -3,6 +3,7 @@
 // holds, and where not. 000 ends the call and 001 HELPFINISH; where a line calls HELPFINISH the last number is the line after that has ended.
 // Tests: 1 "b.node.op ≠ ⊥ ∧ op.prio ≠ ∞", 2 "b.flag", 3 "o.op = nil" (in a CAS too), 4 op.prio ≠ ∞, 5 "b.node.op ≠ ⊥", 6 "op ≠ nil ∧ op ≠ ⊥" of
 // o.op, 7 whether an invoke has called DOFREEZE, 0 nothing.
+use super::slices::get;
 use crate::words::BACK;
 use crate::words::CALL;
 use crate::words::FLAG;
@@ -13,7 +14,6 @@ use crate::words::mine;
 use crate::words::node;
 use crate::words::operation;
 use crate::words::version;
-use reference_words::slices::get;
 use reference_words::words::letter;
 
 pub const CALLS: usize = 4;

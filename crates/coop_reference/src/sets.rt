@@ -1,4 +1,5 @@
 // Held versions, and the set that an operation makes.
+use super::slices::get;
 use crate::words::HELPED;
 use crate::words::LAST;
 use crate::words::LINE;
@@ -9,7 +10,6 @@ use crate::words::mine;
 use crate::words::node;
 use crate::words::operation;
 use crate::words::version;
-use reference_words::slices::get;
 use reference_words::words::either;
 use reference_words::words::less_1;
 use reference_words::words::plus;

@@ -1,5 +1,5 @@
 // The words of one memory, and those of its records. Past its end a read gives 0 and a store changes nothing (`reference_words`).
-use reference_words::slices::get;
+use super::slices::get;
 use reference_words::words::plus;
 
 // The state. From OPERATIONS on 64 operations of 5 words: type (0 never invoked, 1 INS, 2 REM), key, resp, prio (1 for infinite), whether an invoke of

@@ -1,7 +1,2 @@
-// What the second implementation asks of the words of paper 01: words and records by place, sets of tags, held records, faults. See `reference`.
-pub mod faults;
-pub mod slices;
-pub mod table;
-pub mod tags;
-pub mod taking;
+// The words of the second implementation's memory, and what it and its comparisons ask of words and numbers. See `reference`.
 pub mod words;

@@ -40,21 +40,45 @@ pub const NODES: usize = 200;
 pub const BUCKETS: usize = 2410;
 
 pub const MEMORY_END: usize = 70060;
-// What a call works with: whether memory is spoilt; the task that is meant; where the record of a task that steps is, NOWHERE for none; the record that would
-// be taken, 0 for none; the refusal's number, 0 for none; a record that is made; words that are stored at the end. Then what is asked.
-pub const SPOILT: usize = 70060;
+// What a call works with: the task that is meant; where its record is, NOWHERE for none; the row of the table; the record that would be taken, 0 for
+// none; the refusal's number, 0 for none; the tags of a bucket afterwards plus 1; a record that is made; a copy of the record of the task. Then what is asked.
+pub const TASK: usize = 70060;
 
-pub const TASK: usize = 70061;
+pub const RECORD: usize = 70061;
 
-pub const RECORD: usize = 70062;
+pub const ROW: usize = 70062;
 
 pub const FREE: usize = 70063;
 
 pub const WHY: usize = 70064;
 
-pub const MADE: usize = 70065;
+pub const AFTERWARDS: usize = 70065;
 
-pub const PLAN: usize = 70140;
+pub const MADE: usize = 70066;
+
+pub const MINE: usize = 70140;
+
+pub const CALL: usize = 70141;
+
+pub const TAG: usize = 70142;
+
+pub const I: usize = 70144;
+
+pub const OWN: usize = 70145;
+
+pub const AT_T: usize = 70146;
+
+pub const AT_S: usize = 70147;
+
+pub const AT_B: usize = 70148;
+
+pub const AT_M: usize = 70149;
+
+pub const AT_N: usize = 70150;
+
+pub const NEW_NODE: usize = 70151;
+
+pub const NEW_BUCKET: usize = 70152;
 
 pub const WHAT: usize = 71260;
 
@@ -65,30 +89,6 @@ pub const ASKED_TAG: usize = 71262;
 pub const ASKED_RULE: usize = 71263;
 
 pub const END: usize = 71264;
-// The words of a task's record.
-pub const CALL: usize = 1;
-
-pub const TAG: usize = 2;
-
-pub const LINE: usize = 3;
-
-pub const I: usize = 4;
-
-pub const OWN: usize = 5;
-
-pub const AT_T: usize = 6;
-
-pub const AT_S: usize = 7;
-
-pub const AT_B: usize = 8;
-
-pub const AT_M: usize = 9;
-
-pub const AT_N: usize = 10;
-
-pub const NEW_NODE: usize = 11;
-
-pub const NEW_BUCKET: usize = 12;
 // The address of no word, past the end of any memory that is lent, and a bound on addresses.
 pub const NOWHERE: usize = 1000000;
 
@@ -136,53 +136,6 @@ pub fn field_at(k: u32, j: u32) -> usize {
     RECORDS + (k as usize) * 13 + j as usize
 }
 
-// Word j of the record of the task that steps, 0 where none does.
-pub fn mine(w: &Memory, j: usize) -> u32 {
-    get(w, get(w, RECORD) as usize + j % 13)
-}
-
-// Where word j is of the node, or of the bucket, in a place: "record number plus 1, 0 for empty".
-pub fn node_at(place: u32, j: u32) -> usize {
-    if place == 0 {
-        return NOWHERE;
-    }
-    NODES + (place as usize - 1) * 34 + j as usize
-}
-
-pub fn bucket_at(place: u32, j: u32) -> usize {
-    if place == 0 {
-        return NOWHERE;
-    }
-    BUCKETS + (place as usize - 1) * 66 + j as usize
-}
-
-pub fn node(w: &Memory, place: u32, j: u32) -> u32 {
-    get(w, node_at(place, j))
-}
-
-pub fn bucket(w: &Memory, place: u32, j: u32) -> u32 {
-    get(w, bucket_at(place, j))
-}
-
-// Place i of a node.
-pub fn place(w: &Memory, of: u32, i: u32) -> u32 {
-    node(w, of, plus(i, 2))
-}
-
-// The number of a node's place for a tag, and that place. "Version 2 uses tag div 10 wherever version 1 uses the tag before a mod".
-pub fn home(w: &Memory, of: u32, tag: u32) -> u32 {
-    rest(either(get(w, VERSION) == 2, tag / 10, tag), node(w, of, 0))
-}
-
-pub fn at_home(w: &Memory, of: u32, tag: u32) -> u32 {
-    place(w, of, home(w, of, tag))
-}
-
-// The head's place.
-pub fn head(w: &Memory) -> u32 {
-    plus(get(w, HEAD), 1)
-}
-
 // The letter of a number, in a table with a letter for each number from 0 on.
 pub fn letter(table: &[u8], n: usize) -> u8 {
     if n < table.len() { table[n] } else { b'.' }
@@ -205,12 +158,4 @@ pub fn plus(x: u32, y: u32) -> u32 {
 // x - 1, and 0 for 0.
 pub fn less_1(x: u32) -> u32 {
     if x == 0 { 0 } else { x - 1 }
-}
-
-// "Buckets in a node: 1, 2, 4, 8, 16 or 32."
-pub fn is_size(x: u32) -> bool {
-    match x {
-        1 | 2 | 4 | 8 | 16 | 32 => true,
-        _ => false,
-    }
 }

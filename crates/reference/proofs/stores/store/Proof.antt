@@ -5,28 +5,25 @@ use Rattle.reference.proofs.stores.store.Tie as tie
 use borrow.Author.Needs.{needs}
 
 abbrev Inv-loop : tie.InvT-loop
-Inv-loop w₀ first n j₀ w j = (j ≤ n)
+Inv-loop w₀ n j₀ w j = (j ≤ n)
 
 abbrev μ-loop : tie.MeasureT-loop
-μ-loop w₀ first n j₀ w j = n - j
+μ-loop w₀ n j₀ w j = n - j
 
-plan-requires : tie.Need-plan-requires Inv-loop μ-loop
-plan-requires c κs = search needs
-
-first-part-requires : tie.Need-first-part-requires Inv-loop μ-loop
-first-part-requires c κs = search needs
-
-parts-requires : tie.Need-parts-requires Inv-loop μ-loop
-parts-requires c κs = search needs
+words-requires : tie.Need-words-requires Inv-loop μ-loop
+words-requires c κs = search needs
 
 loop-holds : tie.Need-loop-holds Inv-loop μ-loop
 loop-holds c = search needs
 
-add-store-part : tie.Need-add-store-part Inv-loop μ-loop
-add-store-part c = search needs
+to-requires : tie.Need-to-requires Inv-loop μ-loop
+to-requires c κs = search needs
 
-store-part-requires : tie.Need-store-part-requires Inv-loop μ-loop
-store-part-requires c κs = search needs
+word-requires : tie.Need-word-requires Inv-loop μ-loop
+word-requires c κs = search needs
+
+put-requires : tie.Need-put-requires Inv-loop μ-loop
+put-requires c κs = search needs
 
 add-j : tie.Need-add-j Inv-loop μ-loop
 add-j c = search needs
@@ -46,12 +43,11 @@ store-spec =
     (tie.spec
     Inv-loop
     μ-loop
-    plan-requires
-    first-part-requires
-    parts-requires
+    words-requires
     loop-holds
-    add-store-part
-    store-part-requires
+    to-requires
+    word-requires
+    put-requires
     add-j
     loop-less
     loop-again

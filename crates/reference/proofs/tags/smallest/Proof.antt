@@ -1,17 +1,20 @@
--- `reference_words::tags::smallest` is safe and ends: counters stay within their bounds. Assumes nothing.
+-- `reference::tags::smallest` is safe and ends: counters stay within their bounds. Assumes nothing.
 use Prim.Native.Nat.{_≤_, _-_}
-use Rattle.reference_words.proofs.tags.smallest.Statement.{statement}
-use Rattle.reference_words.proofs.tags.smallest.Tie as tie
+use Rattle.reference.proofs.tags.smallest.Statement.{statement}
+use Rattle.reference.proofs.tags.smallest.Tie as tie
 use borrow.Author.Needs.{needs}
 
 abbrev Inv-loop : tie.InvT-loop
-Inv-loop w set from all best₀ k₀ best k = (k ≤ all)
+Inv-loop w set from none all best₀ n₀ best n = (n ≤ all)
 
 abbrev μ-loop : tie.MeasureT-loop
-μ-loop w set from all best₀ k₀ best k = all - k
+μ-loop w set from none all best₀ n₀ best n = all - n
 
 get-requires : tie.Need-get-requires Inv-loop μ-loop
 get-requires c κs = search needs
+
+mul-either : tie.Need-mul-either Inv-loop μ-loop
+mul-either c = search needs
 
 either-requires : tie.Need-either-requires Inv-loop μ-loop
 either-requires c κs = search needs
@@ -22,11 +25,11 @@ brought-requires c κs = search needs
 loop-holds : tie.Need-loop-holds Inv-loop μ-loop
 loop-holds c = search needs
 
-add-k : tie.Need-add-k Inv-loop μ-loop
-add-k c = search needs
+better-requires : tie.Need-better-requires Inv-loop μ-loop
+better-requires c κs = search needs
 
-best-in-requires : tie.Need-best-in-requires Inv-loop μ-loop
-best-in-requires c κs = search needs
+add-n : tie.Need-add-n Inv-loop μ-loop
+add-n c = search needs
 
 loop-less : tie.Need-loop-less Inv-loop μ-loop
 loop-less c = search needs
@@ -44,11 +47,12 @@ smallest-spec =
     Inv-loop
     μ-loop
     get-requires
+    mul-either
     either-requires
     brought-requires
     loop-holds
-    add-k
-    best-in-requires
+    better-requires
+    add-n
     loop-less
     loop-again
     returns)

@@ -1,5 +1,5 @@
-// The same ways to reach a word, of a slice that is lent.
-use super::words::SPAN;
+// Total ways to reach a word of a slice that is lent: a read past the end gives 0, and a store past the end changes nothing.
+use reference_words::words::SPAN;
 
 pub fn get(w: &[u32], at: usize) -> u32 {
     if at < w.len() { w[at] } else { 0 }

@@ -1,14 +1,14 @@
--- `reference_words::tags::listed` is safe and ends: counters stay within their bounds. Assumes nothing.
+-- `reference::tags::count` is safe and ends: counters stay within their bounds. Assumes nothing.
 use Prim.Native.Nat.{_≤_, _-_}
-use Rattle.reference_words.proofs.tags.listed.Statement.{statement}
-use Rattle.reference_words.proofs.tags.listed.Tie as tie
+use Rattle.reference.proofs.tags.count.Statement.{statement}
+use Rattle.reference.proofs.tags.count.Tie as tie
 use borrow.Author.Needs.{needs}
 
 abbrev Inv-loop : tie.InvT-loop
-Inv-loop w from₀ n₀ from n = (n ≤ 64)
+Inv-loop w set from₀ n₀ from n = (n ≤ 65)
 
 abbrev μ-loop : tie.MeasureT-loop
-μ-loop w from₀ n₀ from n = 64 - n
+μ-loop w set from₀ n₀ from n = 65 - n
 
 loop-holds : tie.Need-loop-holds Inv-loop μ-loop
 loop-holds c = search needs
@@ -34,8 +34,8 @@ loop-again c = search needs
 returns-2 : tie.Need-returns-2 Inv-loop μ-loop
 returns-2 c = search needs
 
-pub listed-spec : {M : Type 1} → statement M
-listed-spec =
+pub count-spec : {M : Type 1} → statement M
+count-spec =
     tie.close
     (tie.spec
     Inv-loop

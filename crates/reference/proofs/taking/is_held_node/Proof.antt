@@ -1,7 +1,7 @@
--- `reference_words::taking::is_held_node` is safe and ends: counters stay within their bounds. Assumes nothing.
+-- `reference::taking::is_held_node` is safe and ends: counters stay within their bounds. Assumes nothing.
 use Prim.Native.Nat.{_≤_, _-_}
-use Rattle.reference_words.proofs.taking.is_held_node.Statement.{statement}
-use Rattle.reference_words.proofs.taking.is_held_node.Tie as tie
+use Rattle.reference.proofs.taking.is_held_node.Statement.{statement}
+use Rattle.reference.proofs.taking.is_held_node.Tie as tie
 use borrow.Author.Needs.{needs}
 
 abbrev Inv-loop : tie.InvT-loop
