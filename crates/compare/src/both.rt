@@ -1,7 +1,7 @@
 // One call on both implementations. The proved set gets the words that the second implementation has before the call; every word is compared
 // afterwards.
 use crate::first;
-use crate::vars::DIFFERS;
+use crate::report;
 use crate::vars::FIRST;
 use reference_words::words::BUCKET_WORDS;
 use reference_words::words::BUCKETS;
@@ -11,9 +11,8 @@ use reference_words::words::NODES;
 use reference_words::words::SPAN;
 use reference_words::words::WHAT;
 use reference_words::words::copy;
-use reference_words::words::either;
 use reference_words::words::get;
-use reference_words::words::put;
+ghost use Prim.Native.Nat.{_≤_};
 
 // The words of m from `from` on become those of s.
 pub fn load(s: &mut [u32], m: &Memory, from: usize) {
@@ -38,35 +37,36 @@ pub fn alike(s: &[u32], m: &Memory, from: usize) -> bool {
     true
 }
 
-fn load_all(m: &mut Memory, ns: &mut [u32], bs: &mut [u32]) {
+// The second implementation. What it has before the call is kept.
+fn second(m: &mut Memory) {
+    copy(m, 0, FIRST, NODE_WORDS);
+    reference::act(m)
+}
+
+// What the proved set gives and leaves is to be what the second implementation has given and left.
+fn compared(m: &mut Memory, ns: &mut [u32], bs: &mut [u32]) {
     load(ns, m, NODES);
     load(bs, m, BUCKETS);
-    copy(m, 0, FIRST, NODE_WORDS);
-}
-
-// What the proved set gives and leaves is what the second implementation has given and left.
-fn same(m: &Memory, ns: &mut [u32], bs: &mut [u32]) -> bool {
+    second(m);
     let given = first::act(m, ns, bs);
-    given & alike(ns, m, NODES) & alike(bs, m, BUCKETS)
+    let same = given & alike(ns, m, NODES) & alike(bs, m, BUCKETS);
+    report::after(m, same)
 }
 
-fn compared(m: &mut Memory, ns: &mut [u32], bs: &mut [u32]) {
-    load_all(m, ns, bs);
-    reference::act(m);
-    let so = same(m, ns, bs);
-    put(m, DIFFERS, either(so, 0, 1));
+// How many words are lent, a number that m has, up to so many.
+pub fn lent(m: &Memory, at: usize, most: usize) -> usize
+    ensures { λ r. ⌜ r ≤ most ⌝ }
+{
+    let n = get(m, at) as usize;
+    if n < most { n } else { most }
 }
 
 // The call over pools of as many words as are lent.
 pub fn call(m: &mut Memory, ns: &mut [u32], bs: &mut [u32]) {
-    let n = get(m, NODE_WORDS) as usize;
-    let b = get(m, BUCKET_WORDS) as usize;
-    if 9 < get(m, WHAT) {
+    if 9 < m[WHAT] {
         return;
     }
-    if n <= ns.len() {
-        if b <= bs.len() {
-            compared(m, &mut ns[0..n], &mut bs[0..b]);
-        }
-    }
+    let n = lent(m, NODE_WORDS, ns.len());
+    let b = lent(m, BUCKET_WORDS, bs.len());
+    compared(m, &mut ns[0..n], &mut bs[0..b]);
 }

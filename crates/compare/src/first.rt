@@ -1,6 +1,7 @@
 // The proved set, over words: each entry takes the state out of the words that m had before the call. Whether its answer and the next state are those
 // that the second implementation has left in m.
 use crate::both::alike;
+use crate::both::lent;
 use crate::both::load;
 use crate::flat;
 use crate::vars::FIRST;
@@ -60,12 +61,10 @@ fn is_lent(m: &Memory, words: &[u32; 73]) -> bool {
 }
 
 // A list into so many words, of those that are lent.
-fn list(m: &Memory, ns: &[u32], bs: &[u32], n: usize) -> bool {
+fn list(m: &Memory, ns: &[u32], bs: &[u32]) -> bool {
     let mut out = [0; 73];
     load(&mut out, m, FIRST + LENT);
-    if 73 < n {
-        return false;
-    }
+    let n = lent(m, ASKED_K, 73);
     let l = queries::list(flat::state_of(m), ns, bs, &mut out[0..n]);
     flat::is_answered(m, flat::listing(l)) & is_lent(m, &out)
 }
@@ -78,13 +77,20 @@ fn show(m: &Memory, ns: &[u32], bs: &[u32]) -> bool {
     shown & flat::is_answered(m, [0, n as u32, 0, 0, 0]) & flat::is_kept(m, LENT + n, NODE_WORDS)
 }
 
+// Calls that leave both pools as they are.
+fn ask(m: &Memory, ns: &[u32], bs: &[u32]) -> bool {
+    match get(m, WHAT) {
+        6 => list(m, ns, bs),
+        7 => show(m, ns, bs),
+        _ => start(m, ns, bs),
+    }
+}
+
 pub fn act(m: &Memory, ns: &mut [u32], bs: &mut [u32]) -> bool {
     match get(m, WHAT) {
         0 => step(m, ns, bs),
-        6 => list(m, ns, bs, get(m, ASKED_K) as usize),
-        7 => show(m, ns, bs),
         8 => open(m, ns, bs),
         9 => turn(m, ns, bs),
-        _ => start(m, ns, bs),
+        _ => ask(m, ns, bs),
     }
 }

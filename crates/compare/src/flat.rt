@@ -21,6 +21,7 @@ use reference_words::words::T;
 use reference_words::words::VERSION;
 use reference_words::words::ZERO_WITHDRAWN;
 use reference_words::words::either;
+use reference_words::words::field_at;
 use reference_words::words::get;
 use reference_words::words::plus;
 use spec::Answer;
@@ -32,45 +33,60 @@ use spec::State;
 use spec::Task;
 use turns::Turn;
 
-fn task_at(m: &Memory, k: usize) -> Task {
-    let at = FIRST + RECORDS + k % 8 * 13;
+// A word as m had it before the call, and word j of task k's record.
+fn was(m: &Memory, at: usize) -> u32 {
+    get(m, FIRST + at % 1000)
+}
+
+fn field(m: &Memory, k: u32, j: u32) -> u32 {
+    was(m, field_at(k, j))
+}
+
+fn task_at(m: &Memory, k: u32) -> Task {
     Task {
-        running: get(m, at) != 0,
-        call: get(m, at + 1),
-        tag: get(m, at + 2),
-        line: get(m, at + 3),
-        i: get(m, at + 4),
-        own: (get(m, at + 5) % 65536) as u16,
-        t: get(m, at + 6),
-        s: get(m, at + 7),
-        b: get(m, at + 8),
-        m: get(m, at + 9),
-        n: get(m, at + 10),
-        new_node: get(m, at + 11),
-        new_bucket: get(m, at + 12),
+        running: field(m, k, 0) != 0,
+        call: field(m, k, 1),
+        tag: field(m, k, 2),
+        line: field(m, k, 3),
+        i: field(m, k, 4),
+        own: (field(m, k, 5) % 65536) as u16,
+        t: field(m, k, 6),
+        s: field(m, k, 7),
+        b: field(m, k, 8),
+        m: field(m, k, 9),
+        n: field(m, k, 10),
+        new_node: field(m, k, 11),
+        new_bucket: field(m, k, 12),
     }
 }
 
+fn tasks_of(m: &Memory) -> [Task; 8] {
+    [
+        task_at(m, 0),
+        task_at(m, 1),
+        task_at(m, 2),
+        task_at(m, 3),
+        task_at(m, 4),
+        task_at(m, 5),
+        task_at(m, 6),
+        task_at(m, 7),
+    ]
+}
+
 pub fn state_of(m: &Memory) -> State {
-    let mut ts = [task_at(m, 0); 8];
-    let mut k: usize = 1;
-    while k < 8 {
-        let c = task_at(m, k);
-        ts[k] = c;
-        k += 1;
-    }
+    let ts = tasks_of(m);
     State {
         config: Config {
-            tasks: get(m, FIRST + T),
-            version: get(m, FIRST + VERSION),
-            zero_withdrawn: get(m, FIRST + ZERO_WITHDRAWN) != 0,
+            tasks: was(m, T),
+            version: was(m, VERSION),
+            zero_withdrawn: was(m, ZERO_WITHDRAWN) != 0,
         },
-        nodes: get(m, FIRST + H),
-        buckets: get(m, FIRST + B),
-        head: get(m, FIRST + HEAD),
-        last_node: get(m, FIRST + LAST_NODE),
-        last_bucket: get(m, FIRST + LAST_BUCKET),
-        chosen: get(m, FIRST + CHOSEN),
+        nodes: was(m, H),
+        buckets: was(m, B),
+        head: was(m, HEAD),
+        last_node: was(m, LAST_NODE),
+        last_bucket: was(m, LAST_BUCKET),
+        chosen: was(m, CHOSEN),
         task: ts,
     }
 }
@@ -79,7 +95,7 @@ pub fn state_of(m: &Memory) -> State {
 pub fn is_kept(m: &Memory, from: usize, end: usize) -> bool {
     let mut at = from;
     while at < end {
-        if get(m, at) != get(m, FIRST + at % 1000) {
+        if get(m, at) != was(m, at) {
             return false;
         }
         at += 1;

@@ -15,27 +15,8 @@ use reference_words::words::NOWHERE;
 use reference_words::words::WHAT;
 use reference_words::words::copy;
 use reference_words::words::get;
-ghost use mathlib.Core.Path.{_≡_};
-ghost use lib.ListN.{length};
 
-// 34 x 65 words, and 66 x 1,025 words, for the pools of the proved set. The `ensures` gives the length, which lending a part needs.
-fn node_words() -> [u32; 2210]
-    ensures { λ r. ⌜ 2210 ≡ length r ⌝ }
-{
-    [7; 2210]
-}
-
-fn bucket_words() -> [u32; 67650]
-    ensures { λ r. ⌜ 67650 ≡ length r ⌝ }
-{
-    [7; 67650]
-}
-
-fn memory() -> Memory {
-    [1; 150060]
-}
-
-fn run(text: &[u8], m: &mut Memory, ns: &mut [u32], bs: &mut [u32]) {
+fn run(text: &[u8], m: &mut Memory, ns: &mut [u32; 2210], bs: &mut [u32; 67650]) {
     let mut left: u32 = 10000000;
     while 0 < left {
         script::next(text, m);
@@ -43,17 +24,8 @@ fn run(text: &[u8], m: &mut Memory, ns: &mut [u32], bs: &mut [u32]) {
             return;
         }
         both::call(m, ns, bs);
-        report::after(m);
         left -= 1;
     }
-}
-
-// The script is what standard input has, below 65,536 bytes.
-fn script_in(space: &[u8], n: usize) -> &[u8] {
-    if n <= space.len() {
-        return &space[0..n];
-    }
-    &space[..0]
 }
 
 fn say_if_cut(n: usize) {
@@ -62,14 +34,16 @@ fn say_if_cut(n: usize) {
     }
 }
 
+// The script is what standard input has, below 65,536 bytes.
 fn main() {
     let mut space = io::large_buffer();
     let n = io::read_full(0, &mut space);
     say_if_cut(n);
-    let mut ns = node_words();
-    let mut bs = bucket_words();
-    let mut m = memory();
+    // 34 x 65 words, and 66 x 1,025 words, for the pools of the proved set.
+    let mut ns = [7; 2210];
+    let mut bs = [7; 67650];
+    let mut m = [1; 150060];
     copy(&mut m, NOWHERE, END, vars::KEPT - END);
-    run(script_in(&space, n), &mut m, &mut ns, &mut bs);
+    run(&space[..n], &mut m, &mut ns, &mut bs);
     report::print(&m);
 }

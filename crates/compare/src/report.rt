@@ -1,30 +1,43 @@
 // What is counted and printed, by the script's V: each output's kind, line, answer or refusal, the turns of each task, and the differences found.
-use crate::script::number;
 use crate::vars::CALLS;
+use crate::vars::COUNTED;
 use crate::vars::COUNTS;
 use crate::vars::DIFFERENCES;
-use crate::vars::DIFFERS;
 use crate::vars::DRAWN;
 use crate::vars::EXCURSION;
 use crate::vars::LISTS;
 use crate::vars::NOTHING;
 use crate::vars::SHOWS;
+use crate::vars::VERSION_COUNTS;
 use crate::vars::WITHDRAWN;
 use reference_words::words::Memory;
 use reference_words::words::REPLY;
+use reference_words::words::SPAN;
 use reference_words::words::WHAT;
 use reference_words::words::ZERO_WITHDRAWN;
 use reference_words::words::either;
 use reference_words::words::get;
 use reference_words::words::less_1;
+use reference_words::words::letter;
 use reference_words::words::plus;
 use reference_words::words::put;
 
-fn more(m: &mut Memory, i: u32) {
-    let at = COUNTS + (number(m, b'V') % 4) as usize * 1000 + i as usize % 1000;
-    let n = plus(get(m, at), 1);
-    put(m, at, n);
-}
+// The texts that `say` prints, by number. The first four stand before a line, an answer, a refusal and a turn with nothing running.
+const TURN: u32 = 4;
+
+const TAGS_LEFT: u32 = 5;
+
+const DIFFERS: u32 = 6;
+
+const VERSION_1: u32 = 7;
+
+const VERSION_2: u32 = 8;
+
+const TASK_0: u32 = 9;
+
+const ALL_COUNTS: u32 = 10;
+
+const NO_TEXT: u32 = 11;
 
 // Word x of a row of counts, seven rows later in spoilt memory.
 fn in_row(m: &Memory, r: u32, x: u32) -> u32 {
@@ -49,67 +62,56 @@ fn turn_place(m: &Memory) -> u32 {
 }
 
 // All that a random call is counted as.
-fn counted(m: &Memory, j: u32) -> u32 {
+fn counted(m: &Memory, same: bool, j: u32) -> u32 {
     let withdrawn = (get(m, WHAT) == 8) & (get(m, ZERO_WITHDRAWN) != 0);
     match j {
         0 => place(m),
         1 => turn_place(m),
         2 => CALLS,
-        3 => either(get(m, DIFFERS) == 0, NOTHING, DIFFERENCES),
+        3 => either(same, NOTHING, DIFFERENCES),
         _ => either(withdrawn, WITHDRAWN, NOTHING),
     }
 }
 
-fn count(m: &mut Memory) {
+// Where count i is of a V of the script.
+fn count_at(v: u32, i: u32) -> usize {
+    COUNTS + (v % 4) as usize * VERSION_COUNTS + i as usize % VERSION_COUNTS
+}
+
+fn count(m: &mut Memory, same: bool) {
+    let v = get(m, COUNTED);
     let mut j: u32 = 0;
     while j < 5 {
-        let i = counted(m, j);
-        more(m, i);
+        let at = count_at(v, counted(m, same, j));
+        let n = plus(get(m, at), 1);
+        put(m, at, n);
         j += 1;
     }
 }
 
-// After a call of the script.
-fn label(kind: u32) {
-    match kind {
-        1 => text(b" end="),
-        2 => text(b" refuse="),
-        3 => text(b" running="),
-        _ => text(b" "),
-    }
-}
-
 // A number that only some replies have.
-fn optional(name: &[u8], plus_1: u32) {
+fn optional(m: &Memory, name: u32, plus_1: u32) {
     if 0 < plus_1 {
-        text(name);
+        say(m, name, 0);
         decimal(plus_1 - 1);
     }
 }
 
-// The task of a turn comes first, and last how many tags an ended insert or remove left in its bucket.
-fn outcome(m: &Memory) {
-    optional(b" turn=", get(m, REPLY + 4));
-    label(get(m, REPLY));
+// After a call of the script. The task of a turn comes first, and last how many tags an ended insert or remove left in its bucket.
+fn outcome(m: &Memory, same: bool) {
+    optional(m, TURN, get(m, REPLY + 4));
+    say(m, get(m, REPLY), 0);
     decimal(get(m, REPLY + 1));
-    optional(b":", get(m, REPLY + 3));
-    if get(m, DIFFERS) != 0 {
-        text(b" DIFFERS");
-    }
+    optional(m, TAGS_LEFT, get(m, REPLY + 3));
+    say(m, either(same, NO_TEXT, DIFFERS), 0);
 }
 
-pub fn after(m: &mut Memory) {
-    if 9 < get(m, WHAT) {
-        return;
+// After a call, in which all words are the same or not.
+pub fn after(m: &mut Memory, same: bool) {
+    if m[DRAWN] == 0 {
+        return outcome(m, same);
     }
-    if get(m, DRAWN) == 0 {
-        return outcome(m);
-    }
-    count(m)
-}
-
-fn text(s: &[u8]) {
-    io::write_all(1, s);
+    count(m, same)
 }
 
 fn decimal(n: u32) {
@@ -118,16 +120,16 @@ fn decimal(n: u32) {
 
 fn cell(i: u32, n: u32) {
     if n != 0 {
-        text(b" ");
+        io::write_all(1, b" ");
         decimal(i);
-        text(b":");
+        io::write_all(1, b":");
         decimal(n);
     }
 }
 
-// The counts from place a on, those that are not 0, each as number:count with the number counted from a.
-fn row(m: &Memory, a: u32) {
-    let first = COUNTS + (a % 4000) as usize;
+// The counts from an address on, those that are not 0, each as number:count with the number counted from there.
+fn row(m: &Memory, at: usize) {
+    let first = at % SPAN;
     let mut i: u32 = 0;
     while i < 64 {
         cell(i, get(m, first + i as usize));
@@ -135,33 +137,24 @@ fn row(m: &Memory, a: u32) {
     }
 }
 
-// A count is printed where the text has a capital letter: A to N for the rows, each with its number and count, but D and K for the first count of the row alone; from O
-// on lists, shows, calls, differences and openings under the new rule; T for openings, which are counted at line 0.
-fn mark(m: &Memory, b: u8, from: u32) {
+// A byte of a text, or the counts that stand for a capital letter: A to N are rows (r), each count with its number, but of D and K only the first count (1); from O on
+// lists, shows, calls, differences and openings under the new rule; T is the openings, which are counted at line 0, the first of A.
+fn mark(m: &Memory, b: u8, v: u32) {
     let r = (b as u32 + 191) % 256;
-    let i = plus(from, either(r < 14, r * 64, either(r < 19, r + 966, 0)));
-    if 25 < r {
-        return text(&[b]);
-    }
-    if (r < 14) & (r != 3) & (r != 10) {
-        return row(m, i);
-    }
-    decimal(get(m, COUNTS + i as usize))
-}
-
-fn print_text(words: &[u8], m: &Memory, from: u32) {
-    let mut i: usize = 0;
-    while i < words.len() {
-        mark(m, words[i], from);
-        i += 1;
+    let at = count_at(v, r % 19 * 64);
+    match letter(b"rrr1rrrrrr1rrr111111", r as usize) {
+        b'r' => row(m, at),
+        b'1' => decimal(get(m, at)),
+        _ => {
+            io::write_all(1, &[b]);
+        }
     }
 }
 
-// The counts of a version. Each schedule has one opening.
-fn print_version(name: &[u8], m: &Memory, from: u32) {
-    text(name);
-    print_text(
-        b"openings T, under the new rule S, calls Q
+// Text n, with the counts of a V of the script. Each text ends at a |.
+fn say(m: &Memory, n: u32, v: u32) {
+    let texts =
+        b" | end=| refuse=| running=| turn=|:| differs|version 1: |version 2: |task 0 of eight always refused by 7: |openings T, under the new rule S, calls Q
 at lineA
 ended (1 yes 2 no 3 full 4 done 5 lost 6 limit)B
 refusedC
@@ -180,14 +173,25 @@ turns refused by 8 of the step, by taskN
 lists O
 shows P
 differences R
-",
-        m,
-        from,
-    );
+|";
+    let mut k: u32 = 0;
+    let mut i: usize = 0;
+    while i < texts.len() {
+        let b = texts[i];
+        if (k == n) & (b != b'|') {
+            mark(m, b, v);
+        }
+        k = plus(k, either(b == b'|', 1, 0));
+        i += 1;
+    }
 }
 
+// The counts of each version. Each schedule has one opening.
 pub fn print(m: &Memory) {
-    print_version(b"version 1: ", m, 1000);
-    print_version(b"version 2: ", m, 2000);
-    print_version(b"task 0 of eight always refused by 7: ", m, 3000);
+    say(m, VERSION_1, 1);
+    say(m, ALL_COUNTS, 1);
+    say(m, VERSION_2, 2);
+    say(m, ALL_COUNTS, 2);
+    say(m, TASK_0, 3);
+    say(m, ALL_COUNTS, 3);
 }

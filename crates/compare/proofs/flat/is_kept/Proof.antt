@@ -16,11 +16,8 @@ loop-holds c = search needs
 get-requires : tie.Need-get-requires Inv-loop μ-loop
 get-requires c κs = search needs
 
-add-get : tie.Need-add-get Inv-loop μ-loop
-add-get c = search needs
-
-get-requires-2 : tie.Need-get-requires-2 Inv-loop μ-loop
-get-requires-2 c κs = search needs
+was-requires : tie.Need-was-requires Inv-loop μ-loop
+was-requires c κs = search needs
 
 returns : tie.Need-returns Inv-loop μ-loop
 returns c = search needs
@@ -45,8 +42,7 @@ is-kept-spec =
     μ-loop
     loop-holds
     get-requires
-    add-get
-    get-requires-2
+    was-requires
     returns
     add-at
     loop-less

@@ -5,10 +5,13 @@ use Rattle.compare.proofs.report.count.Tie as tie
 use borrow.Author.Needs.{needs}
 
 abbrev Inv-loop : tie.InvT-loop
-Inv-loop m₀ j₀ m j = (j ≤ 5)
+Inv-loop m₀ same v j₀ m j = (j ≤ 5)
 
 abbrev μ-loop : tie.MeasureT-loop
-μ-loop m₀ j₀ m j = 5 - j
+μ-loop m₀ same v j₀ m j = 5 - j
+
+get-requires : tie.Need-get-requires Inv-loop μ-loop
+get-requires c κs = search needs
 
 loop-holds : tie.Need-loop-holds Inv-loop μ-loop
 loop-holds c = search needs
@@ -16,8 +19,17 @@ loop-holds c = search needs
 counted-requires : tie.Need-counted-requires Inv-loop μ-loop
 counted-requires c κs = search needs
 
-more-requires : tie.Need-more-requires Inv-loop μ-loop
-more-requires c κs = search needs
+count-at-requires : tie.Need-count-at-requires Inv-loop μ-loop
+count-at-requires c κs = search needs
+
+get-requires-2 : tie.Need-get-requires-2 Inv-loop μ-loop
+get-requires-2 c κs = search needs
+
+plus-requires : tie.Need-plus-requires Inv-loop μ-loop
+plus-requires c κs = search needs
+
+put-requires : tie.Need-put-requires Inv-loop μ-loop
+put-requires c κs = search needs
 
 add-j : tie.Need-add-j Inv-loop μ-loop
 add-j c = search needs
@@ -37,9 +49,13 @@ count-spec =
     (tie.spec
     Inv-loop
     μ-loop
+    get-requires
     loop-holds
     counted-requires
-    more-requires
+    count-at-requires
+    get-requires-2
+    plus-requires
+    put-requires
     add-j
     loop-less
     loop-again

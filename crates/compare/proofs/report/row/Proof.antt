@@ -5,16 +5,10 @@ use Rattle.compare.proofs.report.row.Tie as tie
 use borrow.Author.Needs.{needs}
 
 abbrev Inv-loop : tie.InvT-loop
-Inv-loop m a first i₀ i = (i ≤ 64)
+Inv-loop m at first i₀ i = (i ≤ 64)
 
 abbrev μ-loop : tie.MeasureT-loop
-μ-loop m a first i₀ i = 64 - i
-
-cast-first : tie.Need-cast-first Inv-loop μ-loop
-cast-first c = search needs
-
-add-first : tie.Need-add-first Inv-loop μ-loop
-add-first c = search needs
+μ-loop m at first i₀ i = 64 - i
 
 loop-holds : tie.Need-loop-holds Inv-loop μ-loop
 loop-holds c = search needs
@@ -49,8 +43,6 @@ row-spec =
     (tie.spec
     Inv-loop
     μ-loop
-    cast-first
-    add-first
     loop-holds
     cast-get
     add-get
