@@ -50,6 +50,10 @@ find-rows =
     ∷ keeps grown
     (call 1 tag 5 line 47 i 0 own 4 t 1 s 3 b 3 m 1 n 2 new-node 3 new-bucket 4)
     (call 1 tag 5 line 48 i 0 own 5 t 1 s 3 b 3 m 1 n 3 new-node 3 new-bucket 4)
+    -- place 0 + 2
+    ∷ keeps (with-these-nodes (node-0 ∷ node-1 ∷ node 8 1 (4 ∷ 3 ∷ 2 ∷ []) ∷ []))
+    (call 1 tag 5 line 47 i 0 own 4 t 2 s 3 b 3 m 1 n 1 new-node 3 new-bucket 4)
+    (call 1 tag 5 line 48 i 0 own 5 t 2 s 3 b 3 m 1 n 2 new-node 3 new-bucket 4)
     ∷ []
 
 pub find-rows-hold : map stepped find-rows ≡ map told find-rows

@@ -4,7 +4,7 @@ use mathlib.Core.Path.{_≡_, refl}
 use mathlib.Core.List.{List, [], _∷_, _++_, map}
 use lib.ListN.{replicate}
 use Rattle.spec.specs.declared.Answer.{Answer}
-use Rattle.spec.specs.declared.Answer.the-variants.{Yes, No, Full, Done}
+use Rattle.spec.specs.declared.Answer.the-variants.{Yes, No, Full, Done, Lost, Limit}
 use Rattle.spec.specs.declared.Call.the-variants.{Insert, Remove, Contains, Grow, Shrink}
 use Rattle.spec.specs.declared.Output.{Output}
 use Rattle.spec.specs.declared.Output.the-variants.{At, Refuse}
@@ -63,3 +63,37 @@ pub history-row :
     ∷ []
 unfolding everything history history-from note tell set-call told-events told-outs
 history-row = refl
+
+-- ---- a history of every call and every answer
+
+-- task 1's insert finds the tag there; task 0's insert of 90 is refused a step by 7, and a start while it runs would make it a remove;
+-- task 2's grow meets its limit and its shrink loses; at the end its insert of 0 still runs
+unfoldable pub all-events : List Event
+all-events =
+    starts 0 Insert 5 ∷ starts 1 Insert 5 ∷ steps 0 ∷ starts 2 Grow 0 ∷ steps 1 ∷ starts 0 Insert 90 ∷ steps 0 ∷ starts 0 Remove 5 ∷ steps 0 ∷ steps 2
+    ∷ starts 2 Shrink 0 ∷ starts 0 Remove 5 ∷ steps 2 ∷ steps 0 ∷ starts 0 Remove 6 ∷ starts 1 Contains 9 ∷ steps 0 ∷ steps 1 ∷ starts 2 Insert 0
+    ∷ steps 2 ∷ steps 1 ∷ []
+
+unfoldable pub all-outs : List Output
+all-outs =
+    At 32 ∷ At 32 ∷ counted Yes 3 1 ∷ At 20 ∷ counted No 3 1 ∷ At 32 ∷ Refuse 7 ∷ Refuse 5 ∷ counted Full 3 64 ∷ ended Limit 1
+    ∷ At 20 ∷ At 32 ∷ ended Lost 5 ∷ counted Yes 3 63 ∷ At 32 ∷ At 12 ∷ counted No 3 63 ∷ ended Yes 3 ∷ At 32
+    ∷ At 33 ∷ Refuse 6 ∷ []
+
+-- inserts that say yes, no and full, removes that say yes and no, a contains that says yes; no resize, and nothing that still runs
+pub history-of-all :
+    history all-events all-outs
+    ≡ record { task = 1; call = Contains; tag = 9; answer = Yes; start = 15; end = 17 }
+    ∷ record { task = 0; call = Remove; tag = 6; answer = No; start = 14; end = 16 }
+    ∷ record { task = 0; call = Remove; tag = 5; answer = Yes; start = 11; end = 13 }
+    ∷ record { task = 0; call = Insert; tag = 90; answer = Full; start = 5; end = 8 }
+    ∷ record { task = 1; call = Insert; tag = 5; answer = No; start = 1; end = 4 }
+    ∷ record { task = 0; call = Insert; tag = 5; answer = Yes; start = 0; end = 2 }
+    ∷ []
+unfolding everything history history-from note tell set-call all-events all-outs
+history-of-all = refl
+
+-- after a refused opening there are no outputs, and no call has ended
+pub history-of-none : history all-events [] ≡ []
+unfolding history history-from all-events
+history-of-none = refl

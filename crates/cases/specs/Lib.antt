@@ -6,6 +6,7 @@ pub mod FillRows
 pub mod FullRows
 pub mod HeldRows
 pub mod EntryRows
+pub mod EdgeRows
 pub mod RefusalOrderRows
 pub mod VersionRows
 pub mod WithdrawnRows
@@ -17,3 +18,4 @@ pub mod SpoiltTaskRows
 pub mod SpoiltLengths
 pub mod HistoryRows
 pub mod OrderExamples
+pub mod LongerOrders

@@ -7,7 +7,7 @@ use mathlib.Core.Logic.{_⊎_, inl, inr}
 use mathlib.Core.Bool.{true, false}
 use native.Mathlib.Omega.{arith}
 use lib.Dec.{ltb}
-use lib.ListN.{length, drop, replicate}
+use lib.ListN.{length, drop, getD, replicate}
 use Rattle.spec.specs.declared.Answer.{Answer}
 use Rattle.spec.specs.declared.Answer.the-variants.{Yes, No}
 use Rattle.spec.specs.declared.Call.the-variants.{Insert, Remove, Contains}
@@ -23,6 +23,7 @@ use Rattle.spec.specs.Schedule.{Event, starts, steps, schedule}
 use Rattle.spec.specs.History.{Ended, note, tell, history-from, history, set-call}
 use Rattle.spec.specs.Linearizable.{Into, here, there, Order, none, more, Timely, Answers, after, Linearizable}
 use Rattle.spec.specs.Everything.{everything}
+use Rattle.spec.specs.Rows.{stepping, calling}
 
 -- ---- two calls: an insert of 5 from event 0 to event 3, answered yes, and a contains of 5 that ended with event 9
 
@@ -114,12 +115,12 @@ no-order L d = go (order-of-two (d .0))
 
 -- ---- the listing
 
--- "ends with exactly the tags then listed": of a machine and an order
+-- a machine lists exactly the tags of the plain set after an order
 abbrev pub Lists : Machine → List Ended → Type 0
 Lists y L =
     (w : List ℕ) → length w ≡ 64 → list y w ≡ record { says = Count (length (after [] L)); words = after [] L ++ drop (length (after [] L)) w }
 
--- it is what demand 3 has of the listing
+-- a reading: it is what demand 3 has of the listing
 pub lists : {g : Config} {ns bs : List ℕ} {es : List Event} (d : Linearizable g ns bs es) → Lists (schedule g ns bs es .machine) (d .order)
 lists d = d .listed
 
@@ -160,3 +161,39 @@ remove-5 = record { task = 0; call = Remove; tag = 5; answer = Yes; start = 4; e
 pub stays-listed : ¬ Lists (left-by alone) (insert-5 ∷ remove-5 ∷ [])
 unfolding everything alone left-by
 stays-listed d = one-none (sym (ap (λ (x : Written). x .says) (d (replicate 64 7) refl)))
+
+-- one tag more than is listed, and another tag in its place
+abbrev pub insert-6 : Ended
+insert-6 = record { task = 0; call = Insert; tag = 6; answer = Yes; start = 4; end = 7 }
+
+one-two : Count 1 ≡ Count 2 → ⊥
+one-two e = let z : _≡_ {A = ℕ} 1 2 = cc in omega arith
+
+pub one-more : ¬ Lists (left-by alone) (insert-5 ∷ insert-6 ∷ [])
+unfolding everything alone left-by
+one-more d = one-two (ap (λ (x : Written). x .says) (d (replicate 64 7) refl))
+
+pub another-tag : ¬ Lists (left-by alone) (insert-6 ∷ [])
+unfolding everything alone left-by
+another-tag d = let e = ap (λ (x : Written). getD (x .words) 0 0) (d (replicate 64 7) refl) in omega arith
+
+-- 6 goes in after 5 and is listed after it, and so are both if 6 went in first: "it writes the tags ascending"
+pub lists-5-and-6 :
+    Lists (left-by (calling 0 Insert 5 3 ++ calling 0 Insert 6 3)) (insert-5 ∷ insert-6 ∷ [])
+    × Lists (left-by (calling 0 Insert 6 3 ++ calling 0 Insert 5 3)) (insert-6 ∷ insert-5 ∷ [])
+unfolding everything stepping calling left-by
+lists-5-and-6 = (
+  λ w e. list-writes (left-by (calling 0 Insert 5 3 ++ calling 0 Insert 6 3)) w refl refl e,
+  λ w e. list-writes (left-by (calling 0 Insert 6 3 ++ calling 0 Insert 5 3)) w refl refl e,
+)
+
+-- no other order of the two is listed
+pub descending : ¬ (list (left-by (calling 0 Insert 6 3 ++ calling 0 Insert 5 3)) (replicate 64 7) .words ≡ 6 ∷ 5 ∷ replicate 62 7)
+unfolding everything stepping calling left-by
+descending e = let d = ap (λ (w : List ℕ). getD w 0 0) e in omega arith
+
+-- a reading: the other three demands are of the same order: the history's calls, in time, answered by the plain set from empty on
+pub orders :
+    {g : Config} {ns bs : List ℕ} {es : List Event} (d : Linearizable g ns bs es)
+    → Order (history es (schedule g ns bs es .outs)) (d .order) × Timely (d .order) × Answers [] (d .order)
+orders d = (d .once, d .timely, d .answers)

@@ -131,8 +131,8 @@ pub record Written : Type 0 where
   pub says : Listing
   pub words : List ℕ
 
--- "List: 8, 9; it writes the tags ascending, gives their number, and keeps later words." "In a list also 8 if more than 64 tags
--- are listed."
+-- "List: 8, 9; it writes the tags ascending, gives their number, and keeps later words." 8 also for what the paper says of a list:
+-- "In a list also if more than 64 tags are listed."
 unfoldable pub list : Machine → List ℕ → Written
 list y w =
     if not (sound y) || ltb 64 (length (listed y)) then record { says = Refused 8; words = w }

@@ -14,6 +14,7 @@ pub mod History
 pub mod Linearizable
 pub mod Everything
 pub mod Rows
+pub mod PromiseRows
 pub mod ContainsSteps
 pub mod ThreeAndFive
 pub mod WholeRows

@@ -1,6 +1,6 @@
--- Demand 3 as a type: "ONE order of all ended inserts, removes and contains that respects real time, gives exactly their answers
--- on a plain set of at most 64 tags, and ends with exactly the tags then listed". And a promise beside it. Proved in the crate
--- linear. Assumes nothing.
+-- Demand 3 as a type: of every schedule there is one order of all ended inserts, removes and contains in which a call that ended before
+-- another started stands first, a plain set of at most 64 tags gives exactly their answers, and the set then has exactly the tags listed.
+-- And a promise beside it. Proved in the crate linear. Assumes nothing.
 use Prim.Native.Nat.{ℕ, _≤_}
 use mathlib.Core.Path.{_≡_}
 use mathlib.Core.List.{List, [], _∷_, _++_}
@@ -31,12 +31,12 @@ abbrev pub Late : ℕ → List Ended → Type 0
 Late r [] = Unit {0}
 Late r (e ∷ L) = (r ≤ e .end) × Late r L
 
--- "respects real time": no call stands before one that ended before it started
+-- real time: no call stands before one that ended before it started
 abbrev pub Timely : List Ended → Type 0
 Timely [] = Unit {0}
 Timely (e ∷ L) = Late (e .start) L × Timely L
 
--- "gives exactly their answers on a plain set of at most 64 tags", from the set S on
+-- a plain set of at most 64 tags, S at first, gives exactly their answers
 abbrev pub Answers : List ℕ → List Ended → Type 0
 Answers S [] = length S ≤ 64
 Answers S (e ∷ L) = (length S ≤ 64) × (plain S (e .call) (e .tag) .answer ≡ e .answer) × Answers (plain S (e .call) (e .tag) .tags) L

@@ -65,7 +65,7 @@ unfoldable pub idle : Task
 idle =
     record { running = false; call = 0; tag = 0; line = 0; i = 0; own = 0; t = 0; s = 0; b = 0; m = 0; n = 0; «new_node» = 0; «new_bucket» = 0 }
 
--- "A start sets the call, the tag and the first line, and leaves the rest so": a call's number, its tag, its first line
+-- "A start sets the call, the tag (0 for a resize) and the first line (12, 32 or 20), and leaves the rest so." Given: these three
 unfoldable pub fresh-task : ℕ → ℕ → ℕ → Task
 fresh-task call tag line =
     record { running = true; call = call; tag = tag; line = line; i = 0; own = 0; t = 0; s = 0; b = 0; m = 0; n = 0; «new_node» = 0; «new_bucket» = 0 }
