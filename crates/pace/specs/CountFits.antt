@@ -75,8 +75,8 @@ fill-names-t t at-51 = refl
 
 -- of an insert or a remove, and of a resize
 most-update : (u : Bool) (r m : ℕ) → m < 12 * (1 + r) → m < most-steps (set-of u) r
-most-update true r m lt = lt
-most-update false r m lt = lt
+most-update true r m lt = omega arith
+most-update false r m lt = omega arith
 
 most-resize : (u : Bool) (r m : ℕ) → m < 292 → m < most-steps (resize-of u) r
 most-resize true r m lt = lt

@@ -1,5 +1,5 @@
--- "with U11's records it then ends for certain", in a run of starts, steps and turns: with nobody starting a call, every running call ends
--- within 292 × T turns. The type; proved in TurnsLeft. Assumes nothing.
+-- U12 with U11's records, where no step is refused with 7: in a run of starts, steps and turns, with nobody starting a call, every running
+-- call ends within 292 × T turns. The type; proved in TurnsLeft. Assumes nothing.
 use Prim.Native.Nat.{ℕ, suc, _*_, _≤_}
 use mathlib.Core.Path.{_≡_}
 use mathlib.Core.Bool.{false}

@@ -1,20 +1,27 @@
 -- What is counted in a few schedules, computed: a wrong way to count breaks a row, and 12 × (1 + R) is reached, for R 0 and 1. A resize that
--- ends lost is not counted. The longest resize found makes 228 steps (`longest-resize`), of 292 that are promised: a node of 32 places has grown,
+-- ends lost is not counted. The longest resize found makes 228 steps (`shrink-of-228`), of 292 that are promised: a node of 32 places has grown,
 -- so that filling one takes at most seven lines. Assumes nothing.
 use Prim.Native.Nat.{ℕ}
 use mathlib.Core.Path.{_≡_, refl}
 use mathlib.Core.List.{List, [], _∷_, _++_, map}
 use mathlib.Core.Bool.{Bool, true, false}
+use native.Mathlib.Omega.{arith}
 use lib.ListN.{length, drop, replicate}
 use Rattle.spec.specs.declared.Answer.the-variants.{Done}
 use Rattle.spec.specs.declared.Call.{Call}
 use Rattle.spec.specs.declared.Call.the-variants.{Insert, Grow, Shrink}
 use Rattle.spec.specs.Machine.{config-of}
+use Rattle.spec.specs.Entries.{opening}
 use Rattle.spec.specs.Schedule.{Event, schedule}
 use Rattle.spec.specs.Rows.{stepping, calling, waiting}
 use Rattle.spec.specs.Everything.{everything}
+use Rattle.bounds.specs.EnoughRecords.{Enough}
+use Rattle.plans.specs.declared.Planned.{Planned}
+use Rattle.plans.specs.declared.Figures.{Figures}
 use Rattle.plans.specs.Plan.{call-of, figures, planned, plan}
+use Rattle.plans.specs.Run.{calls-alone, figures-run}
 use Rattle.plans.specs.Rows.{planning}
+use Rattle.plan_laws.specs.Theorems.{plan-is-run}
 use Rattle.pace.specs.StepCounts.{CallCount, counts, none-begun, anew}
 use Rattle.pace.specs.Rows.{counting}
 
@@ -66,9 +73,18 @@ pub further-step : let os = schedule (config-of 2) (replicate 68 7) (replicate 1
 unfolding everything stepping calling waiting counting
 further-step = refl
 
--- the longest resize found: shrinking from 32 places, all of them empty after a grow; by the planner, whose figures are those of a run
-pub longest-resize : plan 1 (replicate 5 (call-of Grow 0) ++ call-of Shrink 0 ∷ [])
-    ≡ planned
-    (figures Done 7 0 ∷ figures Done 18 2 ∷ figures Done 32 4 ∷ figures Done 60 8 ∷ figures Done 116 16 ∷ figures Done 228 32 ∷ [])
-unfolding planning
+-- the longest resize found: shrinking from 32 places, all of them empty after a grow; by the planner
+unfoldable pub growing-then-shrinking : List Planned
+growing-then-shrinking = replicate 5 (call-of Grow 0) ++ call-of Shrink 0 ∷ []
+
+unfoldable pub their-steps : List Figures
+their-steps = figures Done 7 0 ∷ figures Done 18 2 ∷ figures Done 32 4 ∷ figures Done 60 8 ∷ figures Done 116 16 ∷ figures Done 228 32 ∷ []
+
+pub longest-resize : plan 1 growing-then-shrinking ≡ planned their-steps
+unfolding planning growing-then-shrinking their-steps
 longest-resize = refl
+
+-- whose figures are those of a run: so a schedule has a shrink of 228 steps, and no claim of fewer for a resize is true
+pub shrink-of-228 : (ns bs : List ℕ) → opening (config-of 1) ns bs .refusal ≡ 0 → Enough (config-of 1) ns bs
+    → figures-run 0 (schedule (config-of 1) ns bs (calls-alone 0 growing-then-shrinking) .outs) ≡ their-steps
+shrink-of-228 ns bs ok enough = plan-is-run 1 1 0 (omega arith) ns bs ok enough growing-then-shrinking their-steps longest-resize
