@@ -6,3 +6,4 @@ pub mod FewBucketsHeld
 pub mod RecordsSuffice
 pub mod Theorems
 pub mod Examples
+pub mod EnoughExamples

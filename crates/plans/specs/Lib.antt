@@ -1,3 +1,4 @@
 pub mod Plan
 pub mod Run
 pub mod Rows
+pub mod RunExamples

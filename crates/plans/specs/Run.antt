@@ -1,5 +1,5 @@
--- A list of calls as one task makes them alone, and what a reader takes from the outputs of that run: "running each call of that task to
--- its end". "Its figures equal those of the run." is the type PlanIsRun. Proved in the crate plan_laws. Assumes nothing.
+-- A list of calls as one task makes them alone, each run to its end, and what a reader takes from the outputs of that run. "Its figures
+-- equal those of the run." is the type PlanIsRun. Proved in the crate plan_laws. Assumes nothing.
 use Prim.Native.Nat.{ℕ, suc}
 use mathlib.Core.Path.{_≡_}
 use mathlib.Core.List.{List, [], _∷_, _++_}
