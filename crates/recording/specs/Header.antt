@@ -1,6 +1,6 @@
--- The header of a session's input or of a recording: its lines, what they say, and the lines after them: `take-header`. "Header lines
--- are judged as in a session" is session's `header-step`; `as-session` (HeaderLaws) has that this is the header that a session reads. A
--- session gives 10 where a header line is missing, a reader 12. Assumes nothing.
+-- The header of a session's input or of a recording: its lines, what they say, and the lines after them: `take-header`. Each is
+-- judged as in a session, by session's `header-step`; `as-session` (HeaderLaws) has that this is the header that a session reads. A session
+-- gives 10 where a header line is missing, a reader 12. Assumes nothing.
 use Prim.Native.Nat.{ℕ}
 use mathlib.Core.List.{List, [], _∷_}
 use Rattle.spec.specs.Lists.{if_then_else_}

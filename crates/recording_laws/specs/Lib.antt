@@ -21,3 +21,4 @@ pub mod Judged
 pub mod Conditions
 pub mod OpeningConditions
 pub mod AsSession
+pub mod RoleRows
