@@ -131,6 +131,11 @@ table =
     (invoke-to-140 ++ End Yes 11 ∷ At 112 ∷ At 113 ∷ invoke-to-140 ++ End Yes 11 ∷ invoke-to-140
     ++ Refuse 7 ∷ End Yes 2 ∷ End Yes 11 ∷ [])
     1 false (5 ∷ 6 ∷ 7 ∷ [])
+    -- two versions: task 1 read version 0 at 99 and stands at 129 with no o, so that line 140 may take that version again
+    ∷ case 2 2
+    (calling 0 InvokeInsert 0 5 6 ++ calling 1 InvokeInsert 1 6 4 ++ stepping 0 5 ++ calling 0 InvokeInsert 2 7 11)
+    (invoke-to-129 ++ at (95 ∷ 96 ∷ 99 ∷ 100 ∷ 129 ∷ 130 ∷ 138 ∷ 139 ∷ 140 ∷ []) ++ End Yes 11 ∷ invoke-to-140 ++ End Yes 11 ∷ [])
+    0 false (5 ∷ 7 ∷ [])
     -- one version: line 140 gives 7, again and again, and the task still stands there
     ∷ case 1 1
     (calling 0 InvokeInsert 0 5 12)

@@ -55,7 +55,7 @@ refuse r y = record { out = Refuse r; machine = y }
 
 -- "the first invoke of a number fixes its type and tag, and an invoke with others, or of a number past 63, gives 5"
 unfoldable pub fits-type : Operation → ℕ → ℕ → Bool
-fits-type o kind tag = eqb (o .kind) 0 || (eqb (o .kind) kind && eqb (o .tag) tag)
+fits-type op kind tag = eqb (op .kind) 0 || (eqb (op .kind) kind && eqb (op .tag) tag)
 
 -- "A get response is started only after an invoke of that operation has ended true, and otherwise gives 5."
 unfoldable pub may-start : Machine → Call → ℕ → ℕ → Bool

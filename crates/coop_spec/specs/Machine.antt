@@ -53,25 +53,25 @@ never-invoked = record { kind = 0; tag = 0; resp = false; done = false; returned
 
 -- "the first invoke of a number fixes its type and tag"
 unfoldable pub with-type : ℕ → ℕ → Operation → Operation
-with-type kind tag o = record { kind = kind; tag = tag; resp = o .resp; done = o .done; returned = o .returned }
+with-type kind tag op = record { kind = kind; tag = tag; resp = op .resp; done = op .done; returned = op .returned }
 
 unfoldable pub with-resp : Bool → Operation → Operation
-with-resp b o = record { kind = o .kind; tag = o .tag; resp = b; done = o .done; returned = o .returned }
+with-resp b op = record { kind = op .kind; tag = op .tag; resp = b; done = op .done; returned = op .returned }
 
 -- its prio becomes infinite
 unfoldable pub as-done : Operation → Operation
-as-done o = record { kind = o .kind; tag = o .tag; resp = o .resp; done = true; returned = o .returned }
+as-done op = record { kind = op .kind; tag = op .tag; resp = op .resp; done = true; returned = op .returned }
 
 -- an invoke of it has ended with yes
 unfoldable pub as-returned : Operation → Operation
-as-returned o = record { kind = o .kind; tag = o .tag; resp = o .resp; done = o .done; returned = true }
+as-returned op = record { kind = op .kind; tag = op .tag; resp = op .resp; done = op .done; returned = true }
 
 -- operation n, never invoked past the end; operation n replaced
 unfoldable pub operation-of : Machine → ℕ → Operation
 operation-of y n = getD (y .state .operation) n never-invoked
 
 unfoldable pub set-operation : ℕ → Operation → Machine → Machine
-set-operation n o y = with-operations (set (y .state .operation) n o) y
+set-operation n op y = with-operations (set (y .state .operation) n op) y
 
 -- ---- a task's record
 

@@ -34,14 +34,14 @@ was-invoked y n = ltb n 64 && not (eqb (operation-of y n .kind) 0)
 
 -- an operation never invoked is zeros
 abbrev pub zero-operation : Operation → Bool
-zero-operation o = eqb (o .tag) 0 && not (o .resp) && not (o .done) && not (o .returned)
+zero-operation op = eqb (op .tag) 0 && not (op .resp) && not (op .done) && not (op .returned)
 
 -- its kind is known; zeros if never invoked; an invoke of it ended with yes only if it is done
 unfoldable pub sound-operation : Operation → Bool
-sound-operation o =
-    leb (o .kind) 2
-    && (not (eqb (o .kind) 0) || zero-operation o)
-    && (not (o .returned) || o .done)
+sound-operation op =
+    leb (op .kind) 2
+    && (not (eqb (op .kind) 0) || zero-operation op)
+    && (not (op .returned) || op .done)
 
 -- ---- a version, given by the pool from its first word on
 
@@ -105,9 +105,9 @@ back-of-line c =
 -- an invoke's operation is of its kind; an invoke of a get response's has ended with yes; no other call has one
 unfoldable pub operation-of-call : Machine → Task → Bool
 operation-of-call y c =
-    let o = operation-of y (c .op) in
+    let op = operation-of y (c .op) in
     ltb (c .op) 64
-    && (if invokes (c .call) then eqb (o .kind) (c .call) else if eqb (c .call) 5 then o .returned else eqb (c .op) 0)
+    && (if invokes (c .call) then eqb (op .kind) (c .call) else if eqb (c .call) 5 then op .returned else eqb (c .op) 0)
 
 -- only a member test has a tag
 abbrev pub tag-of-call : Task → Bool

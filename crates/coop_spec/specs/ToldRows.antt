@@ -2,7 +2,7 @@
 -- schedule, its order and further orders that are none are in the crate `coop_cases`. Assumes nothing.
 use Prim.Native.Nat.{ℕ}
 use mathlib.Core.Path.{_≡_, refl}
-use mathlib.Core.List.{[], _∷_, _++_}
+use mathlib.Core.List.{List, [], _∷_, _++_}
 use mathlib.Core.Bool.{true, false}
 use native.Mathlib.Omega.{arith}
 use lib.ListN.{replicate}
@@ -12,7 +12,7 @@ use Rattle.coop_spec.specs.Entries.{opening}
 use Rattle.coop_spec.specs.Schedule.{run}
 use Rattle.coop_spec.specs.Atomic.{AtomicCall, invoke, has-member, get-response, Result, boolean, empty-bucket}
 use Rattle.coop_spec.specs.History.{History, Ended, Occurrence, operations, history}
-use Rattle.coop_spec.specs.Linearizable.{Answers, In, Timely, here, there}
+use Rattle.coop_spec.specs.Linearizable.{Answers, In, Linearizable, Timely, here, there}
 use Rattle.coop_spec.specs.Everything.{everything}
 use Rattle.coop_spec.specs.Rows.{stepping, calling}
 
@@ -47,3 +47,19 @@ pub again-answers : Answers (operations invoked) empty-bucket
     (called 0 0 (invoke 0) (boolean true) ∷ called 1 1 (invoke 0) (boolean true) ∷ called 0 2 (get-response 0) (boolean true) ∷ [])
 unfolding everything stepping calling invoked
 again-answers = (refl, (refl, (refl, tt)))
+
+-- of three tests the third ended before the first started; the second overlaps both
+pub first-and-third :
+    ¬ Timely (ended-call 2 1 (has-member 9) (boolean false) 5 ∷ [])
+    (called 0 6 (has-member 9) (boolean false) ∷ called 1 0 (has-member 9) (boolean false) ∷ called 2 1 (has-member 9) (boolean false) ∷ [])
+first-and-third t = let late = t .0 .1 .0 (ended-call 2 1 (has-member 9) (boolean false) 5) here (refl, refl) in omega arith
+
+-- an order has every ended call: one of no call has none
+in-none : {e : Occurrence} {L : List Occurrence} → In e L → L ≡ [] → ⊥
+in-none here q = let z : _≡_ {A = ℕ} 0 1 = cc in omega arith
+in-none (there i) q = let z : _≡_ {A = ℕ} 0 1 = cc in omega arith
+
+pub left-out : (l : Linearizable 1 (replicate 66 7) (calling 0 HasMember 0 5 2 ++ calling 0 HasMember 0 6 2)) → ¬ (l .order ≡ [])
+unfolding tested
+left-out l q =
+    in-none (l .ended (ended-call 0 0 (has-member 5) (boolean false) 2) (rw tests-told (there here))) q

@@ -26,11 +26,11 @@ tags-of y k = tags (y .versions) k
 
 -- "132 if op.type = INS then 133 resp ← op.key ∉ o.set .. 135 else if op.type = REM then 136 resp ← op.key ∈ o.set"
 unfoldable pub response : Operation → List ℕ → Bool
-response o ks = if eqb (o .kind) 1 then not (member (o .tag) ks) else member (o .tag) ks
+response op ks = if eqb (op .kind) 1 then not (member (op .tag) ks) else member (op .tag) ks
 
 -- "134 set ← o.set ∪ {op.key} .. 137 set ← o.set \ {op.key}"
 unfoldable pub applied : Operation → List ℕ → List ℕ
-applied o ks = if eqb (o .kind) 1 then add-tag (o .tag) ks else remove-tag (o .tag) ks
+applied op ks = if eqb (op .kind) 1 then add-tag (op .tag) ks else remove-tag (op .tag) ks
 
 -- ---- writes: what a line may do to the shared words, one constructor a kind
 
