@@ -10,3 +10,4 @@ pub mod RefusedMoves
 pub mod Rows
 pub mod Text
 pub mod TextRows
+pub mod WinRows

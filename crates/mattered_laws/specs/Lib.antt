@@ -5,3 +5,4 @@ pub mod Refusals
 pub mod CallsKept
 pub mod Histories
 pub mod Cases
+pub mod EndedCallRows

@@ -5,3 +5,4 @@ pub mod Theorems
 pub mod Cost
 pub mod Text
 pub mod Cases
+pub mod NoteExamples
