@@ -12,3 +12,4 @@ pub mod Everything
 pub mod Cases
 pub mod ReadBack
 pub mod Answered
+pub mod WordRows
