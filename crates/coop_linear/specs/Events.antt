@@ -197,25 +197,52 @@ module _ {T : Operations} {n : ℕ} {s : History} (b : Before T n s) where
         told : tell n (s .last) (s .ended) (steps p) (Outs.End a own) (m .machine) ≡ after-end (b .configuration) p g c (result-of (m .machine) a) .ended
         told = rw (b .start≡ p, b .call≡ p c runs≡, b .ended, b .clock)
 
-  accepted-step : (p : ℕ) → task-of (s .machine) p .running ≡ true → all-held (s .machine) (task-of (s .machine) p) ≡ false
-      → After T n s (steps p) (accept (s .machine) p (task-of (s .machine) p .own) (effect (s .machine) (task-of (s .machine) p)))
-  accepted-step p r free =
+  -- what the line of a running task does
+  line-does : (p : ℕ) → task-of (s .machine) p .running ≡ true
+      → Does (b .sim .rep) (b .sim .images p .0) (b .configuration .position p) (effect (s .machine) (task-of (s .machine) p))
+  line-does p r =
       let m = b .sim .images p in
       let i = inv .1 in
       let c = runs-image T (b .sim .slot) (m .0) (b .configuration .position p) (sym (ap (λ (c : Task). c .running) (m .1)) ∙ r) in
       let f = fit (b .sim) i p (b .configuration .position p) (c .1) (b .sim .shapes p) (λ v z. inr (p, z)) (i .task p) in
-      stepped-next p _ (
-      step-simulated (b .sim) i p (c .0) (c .1) (m .0) (task-of (s .machine) p .own) (b .configuration .position p) refl
-      (effect (s .machine) (task-of (s .machine) p))
-      (subst (λ (t : Task). Does (b .sim .rep) (m .0) (b .configuration .position p) (effect (s .machine) t)) (sym (m .1))
-      (does (b .sim .rep) (m .0) (b .configuration .position p) f))
-      (subst (λ (t : Task). all-held (s .machine) t ≡ false) (m .1) free)
-      )
+      subst (λ (t : Task). Does (b .sim .rep) (m .0) (b .configuration .position p) (effect (s .machine) t)) (sym (m .1))
+      (does (b .sim .rep) (m .0) (b .configuration .position p) f)
 
-  -- ---- every event
+  -- a step is refused, and not with 8, or its line is done
+  pub data StepView (p : ℕ) : Reply → Type 0 where
+    step-refused : (r : ℕ) → ¬ (r ≡ 8) → StepView p (refuse r (s .machine))
+    line-done : task-of (s .machine) p .running ≡ true → all-held (s .machine) (task-of (s .machine) p) ≡ false
+        → Does (b .sim .rep) (b .sim .images p .0) (b .configuration .position p) (effect (s .machine) (task-of (s .machine) p))
+        → StepView p (accept (s .machine) p (task-of (s .machine) p .own) (effect (s .machine) (task-of (s .machine) p)))
 
   never : (x : Bool) → x ≡ true → not x ≡ true → ⊥
   never x e f = tf e (not-true x f)
+
+  pub step-view : (p : ℕ) → StepView p (step (s .machine) p)
+  unfolding step step-running
+  step-view p =
+      choose (StepView p) (not (sound (s .machine))) _ _ (λ t. absurd (never (sound (s .machine)) (sound-now (b .sim) (inv .1)) t))
+      (λ t. choose (StepView p) (not (ltb p (s .machine .state .tasks))) _ _ (λ u. step-refused 4 (λ z. absurd (omega arith)))
+      (λ u. choose (StepView p) (not (task-of (s .machine) p .running)) _ _ (λ v. step-refused 6 (λ z. absurd (omega arith)))
+      (λ v. choose (StepView p) (unsound-step (s .machine) (task-of (s .machine) p)) _ _ (λ x. absurd (tf x (step-sound (b .sim) (inv .1) p)))
+      (λ x. choose (StepView p) (all-held (s .machine) (task-of (s .machine) p)) _ _ (λ h. step-refused 7 (λ z. absurd (omega arith)))
+      (λ h. let r = not-false (task-of (s .machine) p .running) v in line-done r h (line-does p r))))))
+
+  step-next : (p : ℕ) → After T n s (steps p) (step (s .machine) p)
+  step-next p = go (step-view p)
+    where
+      go : {m : Reply} → StepView p m → After T n s (steps p) m
+      go (step-refused r d) = refused-event (steps p) r d
+      go (line-done r free d) =
+          let m = b .sim .images p in
+          let c = runs-image T (b .sim .slot) (m .0) (b .configuration .position p) (sym (ap (λ (c : Task). c .running) (m .1)) ∙ r) in
+          stepped-next p _ (
+          step-simulated (b .sim) (inv .1) p (c .0) (c .1) (m .0) (task-of (s .machine) p .own) (b .configuration .position p) refl
+          (effect (s .machine) (task-of (s .machine) p)) d
+          (subst (λ (t : Task). all-held (s .machine) t ≡ false) (m .1) free)
+          )
+
+  -- ---- every event
 
   start-next : (p : ℕ) (call : Call) (i k : ℕ) → Agrees T (start (s .machine) p call i k .machine)
       → After T n s (starts p call i k) (start (s .machine) p call i k)
@@ -230,19 +257,6 @@ module _ {T : Operations} {n : ℕ} {s : History} (b : Before T n s) where
     where
       P : Reply → Type 0
       P m = Agrees T (m .machine) → After T n s (starts p call i k) m
-
-  step-next : (p : ℕ) → After T n s (steps p) (step (s .machine) p)
-  unfolding step step-running
-  step-next p =
-      choose P (not (sound (s .machine))) _ _ (λ t. absurd (never (sound (s .machine)) (sound-now (b .sim) (inv .1)) t))
-      (λ t. choose P (not (ltb p (s .machine .state .tasks))) _ _ (λ u. refused-event (steps p) 4 (λ z. absurd (omega arith)))
-      (λ u. choose P (not (task-of (s .machine) p .running)) _ _ (λ v. refused-event (steps p) 6 (λ z. absurd (omega arith)))
-      (λ v. choose P (unsound-step (s .machine) (task-of (s .machine) p)) _ _ (λ x. absurd (tf x (step-sound (b .sim) (inv .1) p)))
-      (λ x. choose P (all-held (s .machine) (task-of (s .machine) p)) _ _ (λ h. refused-event (steps p) 7 (λ z. absurd (omega arith)))
-      (λ h. accepted-step p (not-false (task-of (s .machine) p .running) v) h)))))
-    where
-      P : Reply → Type 0
-      P m = After T n s (steps p) m
 
   pub event-next : (e : Event) → Agrees T (event (s .machine) e .machine) → After T n s e (event (s .machine) e)
   unfolding event

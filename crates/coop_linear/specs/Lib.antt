@@ -18,3 +18,5 @@ pub mod Events
 pub mod Opening
 pub mod Schedules
 pub mod Theorems
+pub mod Returned
+pub mod FrozenBucket

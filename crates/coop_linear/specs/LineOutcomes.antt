@@ -12,7 +12,7 @@ use Rattle.spec.specs.Lists.{if_then_else_, member}
 use Rattle.spec.specs.Words.{filled, link, number}
 use Rattle.laws.specs.Links.{filled-true}
 use Rattle.laws.specs.Tests.{and-left, and-none, and-right, bool?, choose, tf}
-use Rattle.coop_spec.specs.Atomic.{AtomicCall, Operations, boolean, change, freeze, invoke, reply, tag-set}
+use Rattle.coop_spec.specs.Atomic.{AtomicCall, Operations, boolean, change, invoke, reply}
 use Rattle.coop_spec.specs.Held.{free-version}
 use Rattle.coop_spec.specs.Lines.{Effect, all-lines, answers, effect, ends, find-line, frozen, line-100, line-101, line-102, line-107, line-109}
 use Rattle.coop_spec.specs.Lines.{line-112, line-113, line-117, line-120, line-121, line-122, line-123, line-127, line-129, line-130, line-138}
@@ -26,7 +26,7 @@ use Rattle.coop_spec.specs.declared.Operation.{Operation}
 use Rattle.coop_spec.specs.declared.Task.{Task}
 use Rattle.coop_model.specs.Heap.{Heap, advance, mark-returned, nil, op, raise}
 use Rattle.coop_model.specs.HeapInvariant.{same-op-number}
-use Rattle.coop_model.specs.Lines.{End, Line, e107-no, e107-yes, e113-op, e113-set, e117, e127, e130, e140, e140-lost, l100-nil, l100-op, l101-done}
+use Rattle.coop_model.specs.Lines.{End, Line, e107-no, e107-yes, e113-op, e113-set, e117, e130, e140, e140-lost, l100-nil, l100-op, l101-done}
 use Rattle.coop_model.specs.Lines.{l101-on, l102-lost, l109, l112, l120-frozen, l120-on, l121, l122-nil, l122-op, l123-lost, l127, l129, l130-106}
 use Rattle.coop_model.specs.Lines.{l130-126, l130-op, l140-106, l140-106-lost, l140-126, l140-126-lost, l95-done, l95-frozen, l95-on, l96-down}
 use Rattle.coop_model.specs.Lines.{l96-up, l99}
@@ -57,7 +57,7 @@ module _ {T : Operations} {y : Machine} {h : Heap} {K : ℕ → Type 0} {slot : 
         → Does own l (record { next = ends Yes; writes = install (number (free-version y)) (change T m (h .set o)) ∷ set-returned n ∷ [] })
     says-no : {l : Position} {c : AtomicCall} → End T h l h c (boolean false) → Does own l (answers No)
     says-yes : {l : Position} {c : AtomicCall} → End T h l h c (boolean true) → Does own l (answers Yes)
-    gives-set : {l : Position} → End T h l h freeze (tag-set (h .set (h .current))) → Does own l (answers (Version (slot (h .current))))
+    gives-version : Does own (running freezer at127) (answers (Version (slot (h .current))))
     returns-only : {l : Position} {n : ℕ} → End T h l (mark-returned n h) (invoke n) (boolean true)
         → Does own l (record { next = ends Yes; writes = set-returned n ∷ [] })
 
@@ -160,7 +160,7 @@ module _ {T : Operations} {y : Machine} {h : Heap} {K : ℕ → Type 0} {slot : 
 
     pub does-127-freeze : Right (running freezer at127)
     unfolding effect find-line all-lines line-127
-    does-127-freeze = at-node (λ (x : ℕ). Does own (running freezer at127) (answers (Version x))) (gives-set e127)
+    does-127-freeze = at-node (λ (x : ℕ). Does own (running freezer at127) (answers (Version x))) gives-version
 
     module _ (o : ℕ) (k : K o) where
       pub does-100 : (n : ℕ) → Right (running (invoker n) (at100 o))

@@ -41,7 +41,7 @@ module _ (T : Operations) (t v : ℕ) (T-low : 1 ≤ t) (T-high : t ≤ 8) (v-lo
 
   zero-kind : (n : ℕ) → operation-of (fresh-machine t v) n .kind ≡ 0
   unfolding never-invoked
-  zero-kind n = ap (λ (o : Operation). o .kind) (no-operation-yet n)
+  zero-kind n = ap (λ (q : Operation). q .kind) (no-operation-yet n)
 
   zero-word : (i : ℕ) → getD (fresh-machine t v .versions) i 0 ≡ 0
   unfolding fresh-machine
@@ -64,15 +64,15 @@ module _ (T : Operations) (t v : ℕ) (T-low : 1 ≤ t) (T-high : t ≤ 8) (v-lo
   fresh-represented = record {
     same-node = refl;
     same-flag = refl;
-    same-resp = λ n. ap (λ (o : Operation). o .resp) (no-operation-yet n);
-    same-done = λ n. ap (λ (o : Operation). o .done) (no-operation-yet n);
+    same-resp = λ n. ap (λ (q : Operation). q .resp) (no-operation-yet n);
+    same-done = λ n. ap (λ (q : Operation). q .done) (no-operation-yet n);
     types = λ n d. absurd (d (zero-kind n));
     in-use = λ u m e. absurd (nil-not-op refl e);
     same-op = λ u k. zero-word (66 * 0);
     same-set = λ u k. no-tags 0;
     apart = λ u x k l e. first u k ∙ sym (first x l);
     has-current = inl refl;
-    same-returned = λ n. ap (λ (o : Operation). o .returned) (no-operation-yet n);
+    same-returned = λ n. ap (λ (q : Operation). q .returned) (no-operation-yet n);
     below = λ u k. v-low;
     few-in = λ u k. let z = zero-count 0 in omega arith;
     length-right = long;

@@ -91,22 +91,22 @@ module _ {T : Operations} {y : Machine} {h : Heap} {K : ℕ → Type 0} {slot : 
 
   pub typed-kind : operation-of (set-operation n (with-type kind tag (operation-of y n)) y) n .kind ≡ kind
   unfolding with-type
-  typed-kind = ap (λ (o : Operation). o .kind) (at-hit refl (operation-after y n (with-type kind tag (operation-of y n)) in-table n))
+  typed-kind = ap (λ (q : Operation). q .kind) (at-hit refl (operation-after y n (with-type kind tag (operation-of y n)) in-table n))
 
   pub typed-represented : Represents T (set-operation n (with-type kind tag (operation-of y n)) y) h K slot
   unfolding set-operation with-operations with-state with-type op-word tags-of
   typed-represented = record {
     same-node = rep .same-node;
     same-flag = rep .same-flag;
-    same-resp = λ m. same-part (λ o. o .resp) refl m ∙ rep .same-resp m;
-    same-done = λ m. same-part (λ o. o .done) refl m ∙ rep .same-done m;
+    same-resp = λ m. same-part (λ q. q .resp) refl m ∙ rep .same-resp m;
+    same-done = λ m. same-part (λ q. q .done) refl m ∙ rep .same-done m;
     types = agrees;
     in-use = λ v m e. typed-still m (rep .in-use v m e);
     same-op = rep .same-op;
     same-set = rep .same-set;
     apart = rep .apart;
     has-current = rep .has-current;
-    same-returned = λ m. same-part (λ o. o .returned) refl m ∙ rep .same-returned m;
+    same-returned = λ m. same-part (λ q. q .returned) refl m ∙ rep .same-returned m;
     below = rep .below;
     few-in = rep .few-in;
     length-right = rep .length-right;

@@ -24,9 +24,9 @@ use Rattle.coop_laws.specs.FactsKept.{StillInvoked, operation-kept, operation-s
 use Rattle.coop_model.specs.Functions.{changed-at}
 use Rattle.coop_model.specs.Heap.{Heap, advance, mark-returned, op}
 use Rattle.coop_model.specs.Invariant.{Invariant}
-use Rattle.coop_linear.specs.LineOutcomes.{Does, advances, gives-set, goes, marks-done, puts-bottom, puts-op, raises, responds}
+use Rattle.coop_linear.specs.LineOutcomes.{Does, advances, gives-version, goes, marks-done, puts-bottom, puts-op, raises, responds}
 use Rattle.coop_linear.specs.LineOutcomes.{returns-advancing, returns-only, says-no, says-yes}
-use Rattle.coop_model.specs.Lines.{End}
+use Rattle.coop_model.specs.Lines.{End, e127}
 use Rattle.coop_linear.specs.Named.{Known}
 use Rattle.coop_model.specs.Positions.{Position, call-at, no-call, runs}
 use Rattle.coop_linear.specs.Represents.{Represents}
@@ -146,5 +146,5 @@ module _ {T : Operations} {y : Machine} {w : Configuration} (sim : Simulates T y
     step-simulated l e E (returns-advancing {n = n} {o = o} {m = m} q x f t) free = case-returns-advancing e q x (f free) t
     step-simulated l e E (says-no t) free = case-answers e t No refl
     step-simulated l e E (says-yes t) free = case-answers e t Yes refl
-    step-simulated l e E (gives-set t) free = case-answers e t (Version (sim .slot (w .heap .current))) frozen-set
+    step-simulated l e E gives-version free = case-answers e e127 (Version (sim .slot (w .heap .current))) frozen-set
     step-simulated l e E (returns-only t) free = case-returns-only e t
