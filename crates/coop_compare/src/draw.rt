@@ -3,6 +3,7 @@ use crate::both;
 use crate::report;
 use crate::vars::EXCURSION;
 use crate::vars::FREEZES;
+use crate::vars::GETS;
 use crate::vars::KEPT;
 use crate::vars::LEFT;
 use crate::vars::OPERATIONS_DRAWN;
@@ -14,7 +15,7 @@ use coop_reference::slices::copy;
 use coop_reference::slices::get;
 use coop_reference::slices::put;
 use coop_reference::slices::put_words;
-use coop_reference::words::STATE_END;
+use coop_reference::words::OPERATIONS;
 use coop_reference::words::TASKS;
 use coop_reference::words::VERSION_WORDS;
 use coop_reference::words::VERSIONS;
@@ -30,31 +31,37 @@ fn next(x: u32) -> u32 {
     ((x as u64) * 48271 % 2147483647) as u32
 }
 
+// So far on that what is drawn from either number is drawn apart.
+fn later(x: u32) -> u32 {
+    next(next(next(next(x))))
+}
+
 // A number below n, 0 where n is 0.
 fn below(x: u32, n: u32) -> u32 {
     rest(x / 8, n)
 }
 
-// A word to be spoilt: a version's first word, any of its words, one of the state, of its first five, or of a task.
+// A word to be spoilt: a version's first word, any of its words, one of the drawn operations, of the state's first five, or of a task.
 fn odd_word(m: &[u32], x: u32) -> usize {
     let lent = get(m, VERSION_WORDS);
     let y = next(x);
     match x / 8 % 8 {
         0 | 1 => VERSIONS + below(y, lent / 66) as usize * 66,
         2 | 3 => VERSIONS + below(y, lent) as usize,
-        4 => y as usize % STATE_END,
+        4 => OPERATIONS + below(y, get(m, OPERATIONS_DRAWN) % 65 * 5) as usize,
         5 => y as usize % 5,
         _ => TASKS + y as usize % 72,
     }
 }
 
-// A value that it may get: a small number, a line of the figure, a bound, anything.
+// A value that it may get: a small number, a line of the figure, a bound, 0, anything.
 fn odd_value(x: u32) -> u32 {
     let y = next(x);
-    match x / 8 % 4 {
+    match x / 8 % 5 {
         0 => y % 5,
         1 => 94 + y % 48,
         2 => 62 + y % 6,
+        3 => 0,
         _ => y,
     }
 }
@@ -89,7 +96,7 @@ fn spoil(m: &mut [u32], x: u32, opens: bool) {
         } else {
             NOWHERE
         },
-        odd_value(next(next(x))),
+        odd_value(next(next(next(x)))),
     );
 }
 
@@ -97,7 +104,8 @@ fn spoil(m: &mut [u32], x: u32, opens: bool) {
 fn what_for(m: &[u32], k: u32, n: u32, x: u32) -> u32 {
     let runs = get(m, TASKS + (k % 8) as usize * 9) != 0;
     let d = below(next(x), 100);
-    let call = either(d < 30, 4, either(d < 45, 5, 1 + n % 2));
+    let get_or_invoke = either(d < plus(45, get(m, GETS)), 5, 1 + n % 2);
+    let call = either(d < 30, 4, get_or_invoke);
     either(
         runs == (x / 8 % 16 != 0),
         0,
@@ -120,9 +128,9 @@ fn event(m: &mut [u32], x: u32) {
 // A schedule begins with an opening.
 fn draw(m: &mut [u32], opens: bool) {
     let x = next(get(m, SEED));
-    put(m, SEED, next(next(next(x))));
+    put(m, SEED, later(later(x)));
     spoil(m, x, opens);
-    event(m, next(next(x)));
+    event(m, later(x));
     put_words(
         m,
         if opens { WHAT } else { NOWHERE },

@@ -8,11 +8,13 @@
 //   g K N        task K starts a get response of operation N
 //   s K          a step of task K
 //   = AT VALUE   word AT of memory gets this value (coop_reference::words: 404 is how many words of versions are lent, which begin at 420)
+//   z AT END     the words from AT to before END become 0
 //   k            memory is kept
 //   p            memory is put back as it was kept
 //   # ..         a comment
-//   x CALLS SEED T N TAGS F W
-//                random calls (draw.rt): schedules of W calls for T tasks, N operations and so many tags; of 100 starts F are freezes
+//   x CALLS SEED T N TAGS F W G
+//                random calls (draw.rt): schedules of W calls for T tasks, N operations and so many tags; of 100 starts F are freezes, and G more get
+//                responses than 15
 use crate::both;
 use crate::draw;
 use crate::report;
@@ -68,7 +70,12 @@ fn order(m: &mut [u32], letter: u32) {
         },
         get(m, ASKED_N),
     );
-    copy(m, ASKED_K, LEFT, if letter == 120 { 7 } else { 0 });
+    clear(
+        m,
+        get(m, ASKED_K) as usize,
+        either(letter == 122, get(m, ASKED_N), 0) as usize,
+    );
+    copy(m, ASKED_K, LEFT, if letter == 120 { 8 } else { 0 });
     draw::calls(m);
 }
 

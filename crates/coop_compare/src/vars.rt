@@ -8,8 +8,8 @@ pub const KEPT: usize = 210000;
 pub const LETTER: usize = 280000;
 
 pub const ARGUMENT: usize = 280001;
-// Of random schedules: calls left, the last pseudo-random number, tasks, operations, tags, of 100 starts the freezes, calls of a schedule; calls left of an
-// excursion into spoilt memory.
+// Of random schedules: calls left, the last pseudo-random number, tasks, operations, tags, of 100 starts the freezes, calls of a schedule, of 100 starts the
+// get responses past 15; calls left of an excursion into spoilt memory.
 pub const LEFT: usize = 280010;
 
 pub const SEED: usize = 280011;
@@ -24,7 +24,9 @@ pub const FREEZES: usize = 280015;
 
 pub const SCHEDULE: usize = 280016;
 
-pub const EXCURSION: usize = 280017;
+pub const GETS: usize = 280017;
+
+pub const EXCURSION: usize = 280018;
 // The call that the task asked for ran before; whether some word differed; how many random calls there were, and with how many of them some word differed.
 pub const RAN: usize = 280019;
 

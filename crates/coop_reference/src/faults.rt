@@ -5,6 +5,7 @@ use crate::lines::entry;
 use crate::lines::is_strange;
 use crate::words::FLAG;
 use crate::words::OPERATIONS;
+use crate::words::OWN;
 use crate::words::STATE_END;
 use crate::words::T;
 use crate::words::TASKS;
@@ -38,15 +39,16 @@ fn bad_back(call: u32, line: u32, back: u32) -> bool {
 }
 
 // Word j of task k. "a record number is past its pool; .. a running task's line is not one of its call's, .. or a resize has a tag; a task from T on
-// runs; an idle task's record is not zeros and empty places". An invoke has an operation of its type, a get response one that was invoked, others none.
+// runs; an idle task's record is not zeros and empty places". An invoke has an operation of its type; "A get response is started only
+// after an invoke of that operation has ended true"; others have none. Own steps are 16 bits of their word.
 fn bad_task_word(w: &[u32], k: usize, j: usize, x: u32) -> bool {
     let first = TASKS + k % 8 * 9;
     let call = get(w, first + 1);
     let kind = operation(w, x, 0);
     let bad_invoke = (call < 3) & (kind != call);
-    let bad_get = (call == 5) & (kind == 0);
+    let bad_get = (call == 5) & (operation(w, x, 4) == 0);
     if get(w, first) == 0 {
-        return x != 0;
+        return (x != 0) & ((j != OWN) | (x % 65536 != 0));
     }
     match j {
         0 => (get(w, T) as usize) <= k,

@@ -1,6 +1,7 @@
 // Figure 6 as a table. A row: a line; the first and the last of the calls that come there; "o" and "p" where it goes through o and through op of
-// HELPFINISH, "k" where o is needed later, "n" for "o ← b.node"; what it tests, or "x" for a line that "belongs to the line before", "h" if it calls HELPFINISH; the line after it where that
-// holds, and where not. 000 ends the call and 001 HELPFINISH; where a line calls HELPFINISH the last number is the line after that has ended.
+// HELPFINISH, "k" where o is needed later, "n" for "o ← b.node"; what it tests, or "x" for a line that "belongs to the line before", "h" if it calls
+// HELPFINISH; the line after it where that holds, and where not. 000 ends the call and 001 HELPFINISH; where a line calls HELPFINISH the last number is the
+// line after that has ended.
 // Tests: 1 "b.node.op ≠ ⊥ ∧ op.prio ≠ ∞", 2 "b.flag", 3 "o.op = nil" (in a CAS too), 4 op.prio ≠ ∞, 5 "b.node.op ≠ ⊥", 6 "op ≠ nil ∧ op ≠ ⊥" of
 // o.op, 7 whether an invoke has called DOFREEZE, 0 nothing.
 use super::slices::get;
@@ -132,9 +133,9 @@ pub fn step_after(to: u32) -> u32 {
     to
 }
 
-// Whether a call does not come to a line.
+// Whether a call does not come to a line. One past 5 comes to none; a row's dots would read as 14.
 pub fn is_strange(call: u32, line: u32) -> bool {
     let first = (entry(line, CALLS) % 16) as u32;
     let last = (entry(line, CALLS + 1) % 16) as u32;
-    (call < first) | (last < call)
+    (call < first) | (last < call) | (5 < call)
 }

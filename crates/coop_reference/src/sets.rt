@@ -5,7 +5,6 @@ use crate::words::LAST;
 use crate::words::LINE;
 use crate::words::O;
 use crate::words::TASKS;
-use crate::words::V;
 use crate::words::mine;
 use crate::words::node;
 use crate::words::operation;
