@@ -8,28 +8,101 @@
 --   first-lane-where-it-can   where the order given takes the second lane's call, no right order takes the first's after the same calls
 --
 -- They hold because the search tries both choices, the first lane's first, with every call that is left (Search). Assumes nothing.
-use Prim.Native.Nat.{ℕ, _+_}
+use Prim.Native.Nat.{ℕ, _+_, _<_}
 use native.Mathlib.Omega.{arith}
+use borrow.Author.Tests.{ltb-true, lt-ltb, not-true}
 use mathlib.Core.Path.{_≡_, refl, ap, _∙_}
 use mathlib.Core.Logic.{_⊎_, inl, inr, _↔_}
 use mathlib.Core.List.{List, [], _∷_, _++_}
-use mathlib.Core.Bool.{true, false, _||_}
+use mathlib.Core.Bool.{Bool, true, false, not, _||_}
+use lib.Dec.{ltb}
 use lib.ListN.{length}
-use Rattle.laws.specs.Tests.{bool?}
+use Rattle.spec.specs.declared.Call.{Call}
+use Rattle.spec.specs.declared.Call.the-variants.{Insert, Remove, Contains, Grow, Shrink}
+use Rattle.spec.specs.Lists.{every}
+use Rattle.spec.specs.History.{set-call}
+use Rattle.laws.specs.Tests.{bool?, tf, and-never, or-e, or-l, or-r}
 use Rattle.notes.specs.declared.Note.{Note}
 use Rattle.notes.specs.Orders.{Lane, first, second, Sooner, there, RightOrder, FirstRight}
 use Rattle.notes.specs.Merge.{Found, order, none, search-all, searched, refused, unfit, merge}
 use Rattle.notes.specs.Search.{found-iff, none-iff}
 
+-- "a resize in one"
+pub data HasResize : List Note → Type 0 where
+  here : {x : Note} {xs : List Note} → (x .call ≡ Grow) ⊎ (x .call ≡ Shrink) → HasResize (x ∷ xs)
+  later : {x : Note} {xs : List Note} → HasResize xs → HasResize (x ∷ xs)
+
+-- "a longer list or a resize in one"
+abbrev pub Unfit : List Note → Type 0
+Unfit xs = (6 < length xs) ⊎ HasResize xs
+
+resize? : (c : Call) → (set-call c ≡ true) ⊎ ((c ≡ Grow) ⊎ (c ≡ Shrink))
+unfolding set-call
+resize? Insert = inl refl
+resize? Remove = inl refl
+resize? Contains = inl refl
+resize? Grow = inr (inl refl)
+resize? Shrink = inr (inr refl)
+
+resize-not : (c : Call) → (c ≡ Grow) ⊎ (c ≡ Shrink) → set-call c ≡ false
+unfolding set-call
+resize-not c (inl e) = rw e
+resize-not c (inr e) = rw e
+
+has-resize : (xs : List Note) → every (λ (x : Note). set-call (x .call)) xs ≡ false → HasResize xs
+unfolding every
+has-resize [] e = absurd (tf refl e)
+has-resize (x ∷ xs) e = go (resize? (x .call)) (has-resize xs)
+  where
+    go : (set-call (x .call) ≡ true) ⊎ ((x .call ≡ Grow) ⊎ (x .call ≡ Shrink)) → (every (λ (y : Note). set-call (y .call)) xs ≡ false → HasResize xs)
+        → HasResize (x ∷ xs)
+    go (inl s) ih = later (ih (rw s at e))
+    go (inr r) ih = here r
+
+resize-fails : {xs : List Note} → HasResize xs → every (λ (x : Note). set-call (x .call)) xs ≡ false
+unfolding every
+resize-fails (here {x = x} r) = rw (resize-not (x .call) r)
+resize-fails (later {x = x} h) = and-never (set-call (x .call)) _ (λ s. resize-fails h)
+
+unfit-iff : (xs : List Note) → (unfit xs ≡ true) ↔ Unfit xs
+unfolding unfit
+unfit-iff xs = (λ e. to (or-e long (not whole) e), from)
+  where
+    long : Bool
+    long = ltb 6 (length xs)
+
+    whole : Bool
+    whole = every (λ (x : Note). set-call (x .call)) xs
+
+    to : (long ≡ true) ⊎ (not whole ≡ true) → Unfit xs
+    to (inl e) = inl (ltb-true _ _ e)
+    to (inr e) = inr (has-resize xs (not-true whole e))
+
+    from : Unfit xs → (long || not whole) ≡ true
+    from (inl h) = or-l long (not whole) (lt-ltb _ _ h)
+    from (inr r) = or-r long (not whole) (ap not (resize-fails r))
+
 module _ (xs ys : List Note) where
-  -- "Refused: 13, a longer list or a resize in one, before any search."
-  pub refused-13 : (merge xs ys ≡ refused 13) ↔ ((unfit xs || unfit ys) ≡ true)
+  pub unfit-refused : (unfit xs || unfit ys) ≡ true → merge xs ys ≡ refused 13
   unfolding merge
-  refused-13 = (to (bool? (unfit xs || unfit ys)), λ e. rw e)
+  unfit-refused e = rw e
+
+  -- "Refused: 13, a longer list or a resize in one, before any search."
+  pub refused-13 : (merge xs ys ≡ refused 13) ↔ (Unfit xs ⊎ Unfit ys)
+  unfolding merge
+  refused-13 = (to (bool? (unfit xs || unfit ys)), λ u. unfit-refused (from u))
     where
-      to : ((unfit xs || unfit ys) ≡ true) ⊎ ((unfit xs || unfit ys) ≡ false) → merge xs ys ≡ refused 13 → (unfit xs || unfit ys) ≡ true
-      to (inl h) e = h
+      one : (unfit xs ≡ true) ⊎ (unfit ys ≡ true) → Unfit xs ⊎ Unfit ys
+      one (inl e) = inl (unfit-iff xs .0 e)
+      one (inr e) = inr (unfit-iff ys .0 e)
+
+      to : ((unfit xs || unfit ys) ≡ true) ⊎ ((unfit xs || unfit ys) ≡ false) → merge xs ys ≡ refused 13 → Unfit xs ⊎ Unfit ys
+      to (inl h) e = one (or-e (unfit xs) (unfit ys) h)
       to (inr h) e = let f : merge xs ys ≡ searched (search-all xs ys) = rw h in let z : _≡_ {A = ℕ} 0 1 = cc in absurd (omega arith)
+
+      from : Unfit xs ⊎ Unfit ys → (unfit xs || unfit ys) ≡ true
+      from (inl u) = or-l (unfit xs) (unfit ys) (unfit-iff xs .1 u)
+      from (inr u) = or-r (unfit xs) (unfit ys) (unfit-iff ys .1 u)
 
   module _ (fit : (unfit xs || unfit ys) ≡ false) where
     goes-on : merge xs ys ≡ searched (search-all xs ys)

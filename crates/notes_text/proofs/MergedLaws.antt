@@ -13,7 +13,7 @@ use Rattle.notes.specs.declared.Merged.{Merged}
 use Rattle.notes.specs.declared.Verdict.{Verdict}
 use Rattle.notes.specs.declared.Verdict.the-variants.{Order, NoOrder, Refused}
 use Rattle.notes.specs.Merge.{order, none, Outcome, searched, refused, unfit, merge, list-of, merged}
-use Rattle.notes.specs.Theorems.{refused-13, order-iff}
+use Rattle.notes.specs.Theorems.{unfit-refused, order-iff}
 use Rattle.notes.specs.Text.{none-line, outcome-lines, merge-lines}
 use Rattle.merge.specs.Trying.{first-six}
 use Rattle.merge.proofs.Laws.{list-short}
@@ -62,7 +62,7 @@ module _ (a b : Notes) (m : Merged) (e : m ≡ merged (merge (list-of a) (list-o
     fits = go (bool? (unfit xs || unfit ys))
       where
         go : ((unfit xs || unfit ys) ≡ true) ⊎ ((unfit xs || unfit ys) ≡ false) → (unfit xs || unfit ys) ≡ false
-        go (inl u) = absurd (apart (says-as h) (ap (λ (o : Outcome). merged o .says) (refused-13 xs ys .1 u)))
+        go (inl u) = absurd (apart (says-as h) (ap (λ (o : Outcome). merged o .says) (unfit-refused xs ys u)))
         go (inr u) = u
 
     pub short-a : a .count ≤ 6

@@ -22,7 +22,7 @@ use Rattle.notes.specs.declared.Note.{Note}
 use Rattle.notes.specs.Orders.{Lane, first, second}
 use Rattle.notes.specs.Merge.{order, none, Outcome, searched, refused, unfit, merge, list-of}
 use Rattle.notes.specs.Search.{order-length}
-use Rattle.notes.specs.Theorems.{refused-13, order-iff}
+use Rattle.notes.specs.Theorems.{unfit-refused, order-iff}
 use Rattle.notes.specs.Text.{call-field, note-line, order-lines, outcome-lines, merge-lines}
 use Rattle.notes_text.specs.declared.stream.Reading.{Reading}
 use Rattle.notes_text.specs.Reading.{end-lines}
@@ -80,7 +80,7 @@ module _ (xs ys : List Note) where
   merge-bound = go (bool? (unfit xs || unfit ys))
     where
       go : ((unfit xs || unfit ys) ≡ true) ⊎ ((unfit xs || unfit ys) ≡ false) → length (merge-lines xs ys) ≤ 744
-      go (inl u) = rw (refused-13 xs ys .1 u) (omega (arith, refusal-length 13))
+      go (inl u) = rw (unfit-refused xs ys u) (omega (arith, refusal-length 13))
       go (inr u) = outcome-bound (merge xs ys) refl u
 
 pub end-bound : (r : Reading) → length (end-lines r) ≤ 744

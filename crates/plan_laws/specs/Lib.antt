@@ -7,3 +7,4 @@ pub mod CallFigures
 pub mod CallRuns
 pub mod Theorems
 pub mod BucketOutputs
+pub mod Refusals

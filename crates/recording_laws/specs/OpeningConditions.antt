@@ -12,7 +12,7 @@ use lib.ListN.{length, replicate, length-replicate}
 use Rattle.spec.specs.Lists.{if_then_else_}
 use Rattle.spec.specs.Sound.{within}
 use Rattle.laws.specs.Tests.{and-left, and-right, and-i}
-use Rattle.corollaries.specs.Tables.{Within, Records}
+use Rattle.corollaries.specs.Tables.{Within, Records, OpeningRefused, is-1, is-2, is-3, is-11, opening-refused}
 use Rattle.corollaries.specs.Refusals.{refusal-1 as opening-1, refusal-2 as opening-2, refusal-3 as opening-3, refusal-11 as opening-11}
 use Rattle.session.specs.declared.Header.{Header}
 use Rattle.session.specs.Transcript.{pool-words, session-opening}
@@ -74,6 +74,34 @@ BucketsRight h = Within 1 200 (h .buckets)
 -- it is 1 where no line gives it
 abbrev pub VersionRight : Header → Type 0
 VersionRight h = Within 1 2 (h .config .version)
+
+-- the refusal of a header's opening, by its numbers: the four in their order
+pub data HeaderRefused (h : Header) (r : ℕ) : Type 0 where
+  header-1 : r ≡ 1 → ¬ TasksRight h → HeaderRefused h r
+  header-2 : r ≡ 2 → TasksRight h → ¬ NodesRight h → HeaderRefused h r
+  header-3 : r ≡ 3 → TasksRight h → NodesRight h → ¬ BucketsRight h → HeaderRefused h r
+  header-11 : r ≡ 11 → TasksRight h → NodesRight h → BucketsRight h → ¬ VersionRight h → HeaderRefused h r
+
+pub header-refused : (h : Header) (r : ℕ) → ¬ (r ≡ 0) → session-opening h .refusal ≡ r ↔ HeaderRefused h r
+unfolding session-opening
+header-refused h r d =
+    let o = opening-refused (h .config) (pool-words 34 64 (h .nodes)) (pool-words 66 200 (h .buckets)) r d in
+    (λ e. to (o .0 e), λ x. o .1 (from x))
+  where
+    Table : Type 0
+    Table = OpeningRefused (h .config) (pool-words 34 64 (h .nodes)) (pool-words 66 200 (h .buckets)) r
+
+    to : Table → HeaderRefused h r
+    to (is-1 e n) = header-1 e n
+    to (is-2 e t n) = header-2 e t (λ w. n (within-nodes h w))
+    to (is-3 e t s n) = header-3 e t (nodes-within h s) (λ w. n (within-buckets h w))
+    to (is-11 e t s b n) = header-11 e t (nodes-within h s) (buckets-within h b) n
+
+    from : HeaderRefused h r → Table
+    from (header-1 e n) = is-1 e n
+    from (header-2 e t n) = is-2 e t (λ w. n (nodes-within h w))
+    from (header-3 e t s n) = is-3 e t (within-nodes h s) (λ w. n (buckets-within h w))
+    from (header-11 e t s b n) = is-11 e t (within-nodes h s) (within-buckets h b) n
 
 module _ (input : List ℕ) where
   -- 1: tasks are not 1 to 8
