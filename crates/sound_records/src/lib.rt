@@ -1,13 +1,13 @@
 // The records of both pools, tested for soundness: a node, a bucket, and a scan of each pool, which ends with the first record that
 // is not sound.
 ghost use mathlib.Core.Path.{_≡_};
-ghost use mathlib.Core.Bool.{_&&_, _||_};
-ghost use Prim.Native.Nat.{_+_, _*_, _≤_};
-ghost use lib.ListN.{length, drop};
-ghost use lib.Dec.{leb, eqb};
+ghost use mathlib.Core.Bool.{_&&_};
+ghost use Prim.Native.Nat.{_+_, _-_, _*_, _≤_};
+ghost use lib.ListN.{length, take, drop};
+ghost use lib.Dec.{leb};
 ghost use Rattle.spec.specs.Lists.{member, all-true, every, ascending};
 ghost use Rattle.spec.specs.Machine.{Machine};
-ghost use Rattle.spec.specs.Sound.{within, zeros, listed-size, node-link, count-in-bounds, tags-ascend, zeros-after-tags};
+ghost use Rattle.spec.specs.Sound.{within, zeros, listed-size, size-known, none-past-size, node-link, count-in-bounds, tags-ascend, zeros-after-tags};
 ghost use Rattle.spec.specs.Sound.{sound-node, sound-nodes, sound-bucket, sound-buckets};
 
 const NODE_WORDS: usize = pool::NODE_WORDS;
@@ -77,15 +77,6 @@ pub fn is_listed_size(n: u32) -> bool
     among(n, &w)
 }
 
-fn size_ok(n: u32) -> bool
-    ensures { λ r. ⌜ r ≡ (eqb n 0 || listed-size n) ⌝ }
-{
-    if n == 0 {
-        return true;
-    }
-    is_listed_size(n)
-}
-
 // None, or a node of the pool of h nodes that has a size.
 pub fn link_ok(ns: &[u32], h: u32, l: u32) -> bool
     ensures { λ r. ⌜ ((y : Machine) → y .nodes ≡ now (ns .entry) → y .state .nodes ≡ h → r ≡ node-link y l) ⌝ }
@@ -132,28 +123,47 @@ fn is_ascending(s: &[u32]) -> bool
     bad == 0
 }
 
-// The node whose first word is the part's.
-fn node_ok(w: &[u32], ns: &[u32], h: u32, b: u32) -> bool
-    requires { ⌜ 34 ≤ length (now w) ⌝ }
-    ensures { λ r. ⌜ ((y : Machine) → y .nodes ≡ now (ns .entry) → y .state .nodes ≡ h → y .state .buckets ≡ b → r ≡ sound-node y (now (w .entry))) ⌝ }
+// ---- nodes: a node's first word is the part's
+
+// The places of a node of size n: each a bucket of the pool or none, and none past the size.
+fn places_ok(w: &[u32], b: u32, n: usize) -> bool
+    requires { ⌜ (34 ≤ length (now w)) × (n ≤ 32) ⌝ }
+    ensures { λ r. ⌜ r ≡ (every (λ l. leb l b) (take 32 (drop 2 (now (w .entry)))) && zeros (32 - n) (drop (2 + n) (now (w .entry)))) ⌝ }
 {
-    let z = w[0];
-    if !size_ok(z) {
-        return false;
-    }
-    let p = w[1];
-    if !link_ok(ns, h, p) {
-        return false;
-    }
-    if pool::PLACES < z {
-        return false;
-    }
-    let n = z as usize;
     let e = 2 + n;
     if !all_within(&w[2..e], b) {
         return false;
     }
     zero_words(w, e, PLACES - n)
+}
+
+// The size and the places. Each size has a call of its own, so that the compiler knows how many places it tests and how many must be 0.
+fn sized_ok(w: &[u32], b: u32) -> bool
+    requires { ⌜ 34 ≤ length (now w) ⌝ }
+    ensures { λ r. ⌜ r ≡ (size-known (now (w .entry)) && (every (λ l. leb l b) (take 32 (drop 2 (now (w .entry)))) && none-past-size (now (w .entry)))) ⌝ }
+{
+    let z = w[0];
+    match z {
+        0 => places_ok(w, b, 0),
+        1 => places_ok(w, b, 1),
+        2 => places_ok(w, b, 2),
+        4 => places_ok(w, b, 4),
+        8 => places_ok(w, b, 8),
+        16 => places_ok(w, b, 16),
+        32 => places_ok(w, b, 32),
+        _ => false,
+    }
+}
+
+fn node_ok(w: &[u32], ns: &[u32], h: u32, b: u32) -> bool
+    requires { ⌜ 34 ≤ length (now w) ⌝ }
+    ensures { λ r. ⌜ ((y : Machine) → y .nodes ≡ now (ns .entry) → y .state .nodes ≡ h → y .state .buckets ≡ b → r ≡ sound-node y (now (w .entry))) ⌝ }
+{
+    let p = w[1];
+    if !link_ok(ns, h, p) {
+        return false;
+    }
+    sized_ok(w, b)
 }
 
 pub fn nodes_ok(ns: &[u32], h: u32, b: u32) -> bool
@@ -172,12 +182,17 @@ pub fn nodes_ok(ns: &[u32], h: u32, b: u32) -> bool
     true
 }
 
-// The count, the tags and the words after them, of the bucket whose first word is the part's.
+// ---- buckets: a bucket's first word is the part's
+
+// The count, the tags and the words after them. Of an empty bucket the words are tested by one loop of a fixed length.
 pub fn tags_ok(w: &[u32]) -> bool
     requires { ⌜ 66 ≤ length (now w) ⌝ }
     ensures { λ r. ⌜ r ≡ (count-in-bounds (now (w .entry)) && tags-ascend (now (w .entry)) && zeros-after-tags (now (w .entry))) ⌝ }
 {
     let c = w[1];
+    if c == 0 {
+        return zero_words(w, 2, MOST_TAGS);
+    }
     if MOST_COUNT < c {
         return false;
     }
@@ -189,7 +204,6 @@ pub fn tags_ok(w: &[u32]) -> bool
     zero_words(w, e, MOST_TAGS - n)
 }
 
-// The bucket whose first word is the part's.
 fn bucket_ok(w: &[u32]) -> bool
     requires { ⌜ 66 ≤ length (now w) ⌝ }
     ensures { λ r. ⌜ r ≡ sound-bucket (now (w .entry)) ⌝ }
