@@ -1,121 +1,97 @@
--- `bucket_copies::union` meets its contract: the bucket so far has b's tags with those of a from i on, and what is too much for it is too much
--- for the whole. Assumes nothing.
-use mathlib.Core.Path.{_≡_, sym, ap, _∙_}
-use mathlib.Core.List.{List}
-use Prim.Native.Nat.{ℕ, _≤_, _<_, _-_, _+_}
-use lib.ListN.{length, getD}
-use Rattle.spec.specs.Lists.{add-tag}
-use Rattle.spec.specs.Words.{bucket-of}
-use Rattle.bucket.specs.declared.Changed.{Changed}
-use Rattle.bucket.specs.Bucket.{tags-in}
-use Rattle.bucket.proofs.Laws.{tag-at}
-use Rattle.bucket.proofs.Fill.{adds, not-full}
-use Rattle.bucket_copies.proofs.Laws.{tail-union, union-start, union-more, length-tail-union, tags-size, is-full, is-joined}
+-- `bucket_copies::union` meets its contract: the tags so far, and after them the union of those that are left, are the whole union; the count goes in
+-- last. Assumes nothing.
+use mathlib.Core.Path.{_≡_, refl, sym, ap, _∙_}
+use mathlib.Core.List.{List, [], _∷_, _++_}
+use Prim.Native.Nat.{ℕ, _≤_, _-_, _+_}
 use native.Mathlib.Omega.{arith}
+use lib.ListN.{length, length-append, set, drop}
+use Rattle.spec.specs.Lists.{union}
+use Rattle.bucket.specs.Bucket.{tags-in}
+use Rattle.bucket.proofs.Pad.{padded, pad-push}
+use Rattle.bucket_copies.proofs.Laws.{counted, is-full, is-union}
+use Rattle.bucket_copies.proofs.Walking.{Goes, walk, walk-more, walk-end}
 use borrow.Author.Needs.{needs}
 use Rattle.bucket_copies.proofs.union.Statement.{statement}
 use Rattle.bucket_copies.proofs.union.Tie as tie
 
 abbrev Inv-loop : tie.InvT-loop
-Inv-loop b w out₀ i₀ out i =
-    (i ≤ length (tags-in w)) × (i ≤ 64) × (length (tail-union i (tags-in w) (tags-in (b .words))) ≤ 64)
-    × (out .words ≡ bucket-of 1 (tail-union i (tags-in w) (tags-in (b .words))))
+Inv-loop b n m w v out₀ len₀ i₀ j₀ out len i j =
+    (acc : List ℕ) × (i ≤ n) × (j ≤ m) × (len ≤ 64) × (out ≡ padded (1 ∷ 0 ∷ acc)) × (length acc ≡ len) ×
+    (acc ++ union (drop i (tags-in w)) (drop j (tags-in v)) ≡ union (tags-in w) (tags-in v))
 
 abbrev μ-loop : tie.MeasureT-loop
-μ-loop b w out₀ i₀ out i = i
-
-len : (c : tie.Start Inv-loop μ-loop) → length (c .args .b .words) ≡ 66
-len c = search needs
-
-next : (ws ys : List ℕ) (i : ℕ) → 0 < i → i ≤ length (tags-in ws) → tail-union (i - 1) (tags-in ws) ys
-    ≡ add-tag (getD ws (1 + i) 0) (tail-union i (tags-in ws) ys)
-next ws ys i z h =
-    let l : i - 1 < length (tags-in ws) = omega arith in
-    let e : 2 + (i - 1) ≡ 1 + i = omega arith in
-    union-more (tags-in ws) ys i z h ∙ ap (λ (x : ℕ). add-tag x (tail-union i (tags-in ws) ys)) (tag-at ws (i - 1) l ∙ ap (λ (n : ℕ). getD ws n 0) e)
-
-opened-requires : tie.Need-opened-requires Inv-loop μ-loop
-opened-requires c κs = search needs
-
-count-requires : tie.Need-count-requires Inv-loop μ-loop
-count-requires c κs = search needs
+μ-loop b n m w v out₀ len₀ i₀ j₀ out len i j = n + m - (i + j)
 
 loop-holds : tie.Need-loop-holds Inv-loop μ-loop
-loop-holds c =
-    let xs = tags-in (c .before .before .before .args .a .words) in
-    let ys = tags-in (c .before .before .before .args .b .words) in
-    let u : tail-union (c .count .result) xs ys ≡ ys = union-start xs ys (c .count .result) (omega arith) in (
-      omega arith,
-      omega arith,
-      rw u (tags-size (c .before .before .before .args .b .words) (len (c .before .before .before))),
-      rw u (c .before .opened .ensures),
-    )
+unfolding padded
+loop-holds c = ([], omega arith, omega arith, omega arith, refl, refl, refl)
 
-add-add : tie.Need-add-add Inv-loop μ-loop
-add-add c = search needs
+-- in the loop: both lists, how far the walk is, and that it is not at their end
+module _ (p : tie.In-loop Inv-loop μ-loop) where
+  abbrev start : tie.Start Inv-loop μ-loop
+  start = p .before .before .before .before .before .before
 
-mul-add : tie.Need-mul-add Inv-loop μ-loop
-mul-add c = search needs
+  abbrev xs : List ℕ
+  xs = tags-in (start .args .a .words)
 
-array-read-add : tie.Need-array-read-add Inv-loop μ-loop
-array-read-add c = search needs
-
-add-requires : tie.Need-add-requires Inv-loop μ-loop
-add-requires c κs = search needs
-
-enum-told : tie.Need-enum-told Inv-loop μ-loop
-enum-told c = search needs
-
-answered-requires : tie.Need-answered-requires Inv-loop μ-loop
-answered-requires c κs = search needs
+  abbrev ys : List ℕ
+  ys = tags-in (start .args .b .words)
 
 returns : tie.Need-returns Inv-loop μ-loop
 returns c =
-    let told = c .before in
-    let asked = told .before .before in
-    let turn = asked .before .before in
-    let l = turn .loop in
-    let a = turn .before .before .before .before .args in
-    let xs = tags-in (a .a .words) in
-    let ys = tags-in (a .b .words) in
-    let u = tail-union (l .i) xs ys in
-    let x = getD (a .a .words) (1 + l .i) 0 in
-    let full = ap (λ (d : Changed). d .answer) (sym (asked .add .ensures)) ∙ told .enum-told .given .1 in
-    let f = adds u x (l .inv .2) (l .out) (l .inv .3) .full full in
-    let m : tail-union (l .i - 1) xs ys ≡ add-tag x u = next (a .a .words) ys (l .i) (omega arith) (l .inv .0) in
-    let f′ : 64 < length (tail-union (l .i - 1) xs ys) = rw m f in
-    c .answered .ensures ∙ is-full (a .a) (a .b) (omega (arith, length-tail-union (l .i - 1) xs ys))
+    let p = c .before .before in
+    let l = p .before .loop in
+    let a = start p .args in
+    let more = walk-more (xs p) (ys p) (start p .pre) (l .i) (l .j) (omega arith) (omega arith) (omega arith) (l .inv .0) (l .inv .6) in
+    c .answered .ensures ∙ is-full (a .a) (a .b) (omega arith)
 
-sub-i : tie.Need-sub-i Inv-loop μ-loop
-sub-i c = search needs
+module _ (c : tie.After-next Inv-loop μ-loop) where
+  abbrev looping : tie.In-loop Inv-loop μ-loop
+  looping = c .before .before .before .before
+
+  abbrev l : tie.At-loop Inv-loop μ-loop
+  l = looping .before
+
+  walked : Goes (xs looping) (ys looping) (l .loop .i) (l .loop .j) (l .loop .inv .0) (c .next .result)
+  walked =
+      walk (xs looping) (ys looping) (start looping .pre) (l .loop .i) (l .loop .j) (omega arith) (omega arith) (omega arith) (l .loop .inv .0)
+      (c .next .result) (c .next .ensures)
+
+add-i : tie.Need-add-i Inv-loop μ-loop
+add-i c = let w = walked (c .before) in omega arith
+
+add-j : tie.Need-add-j Inv-loop μ-loop
+add-j c = let w = walked (c .before .before) in omega arith
 
 loop-less : tie.Need-loop-less Inv-loop μ-loop
-loop-less c = search needs
+loop-less c = let w = walked (c .before .before) in omega arith
 
 loop-again : tie.Need-loop-again Inv-loop μ-loop
 loop-again c =
-    let asked = c .before .before in
-    let turn = asked .before .before in
-    let l = turn .loop in
-    let a = turn .before .before .before .before .args in
-    let xs = tags-in (a .a .words) in
-    let ys = tags-in (a .b .words) in
-    let u = tail-union (l .i) xs ys in
-    let x = getD (a .a .words) (1 + l .i) 0 in
-    let answer = ap (λ (d : Changed). d .answer) (asked .add .ensures) in
-    let f = adds u x (l .inv .2) (l .out) (l .inv .3) .more (λ e. not-full (asked .add .result .answer) (c .before .match .keys2) (answer ∙ e)) in
-    let m : tail-union (l .i - 1) xs ys ≡ add-tag x u = next (a .a .words) ys (l .i) (omega arith) (l .inv .0) in
-    (omega arith, omega arith, rw m (f .0), rw m (ap (λ (d : Changed). d .bucket .words) (asked .add .ensures) ∙ f .1))
-
-answered-requires-2 : tie.Need-answered-requires-2 Inv-loop μ-loop
-answered-requires-2 c κs = search needs
+    let p = c .before .before in
+    let v = l p .loop in
+    let acc = v .inv .0 in
+    let tag = p .next .result .tag in
+    let w = walked p in
+    let n : length (acc ++ (tag ∷ [])) ≡ v .len + 1 = rw (length-append acc (tag ∷ [])) (omega arith) in (
+      acc ++ (tag ∷ []),
+      omega arith,
+      omega arith,
+      omega arith,
+      ap (λ (o : List ℕ). set o (2 + v .len) tag) (v .inv .4) ∙ pad-push (1 ∷ 0 ∷ acc) tag (2 + v .len) (omega arith) (omega arith),
+      n,
+      sym (w .0) ∙ v .inv .6,
+    )
 
 returns-2 : tie.Need-returns-2 Inv-loop μ-loop
 returns-2 c =
-    let turn = c .before .before in
-    let l = turn .loop in
-    let a = turn .before .before .before .before .args in
-    c .answered2 .ensures ∙ is-joined (a .a) (a .b) (l .out) (l .i) (omega arith) (l .inv .2) (l .inv .3)
+    let at-loop = c .before .before in
+    let start = at-loop .before .before .before .before .before in
+    let l = at-loop .loop in
+    let a = start .args in
+    let acc = l .inv .0 in
+    let all = sym (walk-end (tags-in (a .a .words)) (tags-in (a .b .words)) acc (l .i) (l .j) (omega arith) (omega arith)) ∙ l .inv .6 in
+    c .answered2 .ensures ∙ is-union (a .a) (a .b) _ acc (omega arith) all (counted acc (l .out) (l .len) (l .inv .4) (l .inv .5))
 
 pub union-spec : {M : Type 1} → statement M
 union-spec =
@@ -123,18 +99,24 @@ union-spec =
     (tie.spec
     Inv-loop
     μ-loop
-    opened-requires
-    count-requires
+    (λ c κs. search needs)
+    (λ c κs. search needs)
+    (λ c. search needs)
     loop-holds
-    add-add
-    mul-add
-    array-read-add
-    add-requires
-    enum-told
-    answered-requires
+    (λ c. search needs)
+    (λ c. search needs)
+    (λ c κs. search needs)
     returns
-    sub-i
+    (λ c κs. search needs)
+    (λ c. search needs)
+    (λ c. search needs)
+    (λ c. search needs)
+    (λ c. search needs)
+    add-i
+    add-j
     loop-less
     loop-again
-    answered-requires-2
+    (λ c. search needs)
+    (λ c. search needs)
+    (λ c κs. search needs)
     returns-2)

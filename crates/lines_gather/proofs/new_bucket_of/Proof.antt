@@ -1,21 +1,22 @@
 -- `lines_gather::new_bucket_of` meets its contract: the tags of m that belong to place i, or the union of m and n, in a fresh bucket.
 -- Assumes nothing.
 use mathlib.Core.Path.{_≡_, ap, _∙_}
-use mathlib.Core.Bool.{Bool}
-use Prim.Native.Nat.{ℕ, _≤_}
+use mathlib.Core.Bool.{Bool, true}
+use Prim.Native.Nat.{ℕ, _*_, _≤_}
 use native.Mathlib.Omega.{arith}
 use denote.Ref.{now}
 use lib.Dec.{eqb}
-use lib.ListN.{length}
+use lib.ListN.{length, drop}
 use borrow.Author.Tests.{ne-eqb}
 use Rattle.spec.specs.Lists.{filter, union}
 use Rattle.spec.specs.Words.{number, tags}
+use Rattle.spec.specs.Sound.{sound-bucket}
 use Rattle.spec.specs.Listed.{slot, size-of, tags-of}
 use Rattle.spec.specs.Lines.{gathered}
 use Rattle.bucket.specs.declared.Bucket.{Bucket}
 use Rattle.bucket.specs.Bucket.{tags-in}
 use Rattle.bucket_copies.specs.Copies.{split-of}
-use Rattle.pool.proofs.At.{tags-here}
+use Rattle.pool.proofs.At.{tags-here, ascends}
 use Rattle.lines_gather.proofs.Gathering.{length-filter, few-tags, makes-one, makes-two}
 use borrow.Author.Needs.{needs}
 use Rattle.lines_gather.proofs.new_bucket_of.Statement.{statement}
@@ -30,6 +31,20 @@ module _ (p : tie.After-load) where
   tags-m =
       let m = number (start .args .c .m) in
       ap (λ (b : Bucket). tags-in (b .words)) (p .load .ensures) ∙ tags-here (now (start .args .bs)) m (start .pre .5) (omega arith)
+
+-- and n's
+module _ (p : tie.After-load2) where
+  abbrev start-n : tie.Start
+  start-n = start (p .before .before)
+
+  there : sound-bucket (drop (66 * number (start-n .args .c .n)) (now (start-n .args .bs))) ≡ true
+  there = start-n .pre .6 (omega (arith, p .before .if1 .left))
+
+  tags-n : tags-in (p .load2 .result .words) ≡ tags (now (start-n .args .bs)) (number (start-n .args .c .n))
+  tags-n =
+      let n = number (start-n .args .c .n) in
+      let some = p .before .if1 .left in
+      ap (λ (b : Bucket). tags-in (b .words)) (p .load2 .ensures) ∙ tags-here (now (start-n .args .bs)) n there (omega (arith, some))
 
 cast-load : tie.Need-cast-load
 cast-load c = search needs
@@ -75,19 +90,19 @@ load-requires-2 : tie.Need-load-requires-2
 load-requires-2 c κs = search needs
 
 union-requires : tie.Need-union-requires
-union-requires c κs = search needs
+union-requires c κs =
+    let loaded = c .before .before in
+    let p = start loaded in
+    let w = now (p .args .bs) in
+    (rw (tags-m loaded) (ascends w (number (p .args .c .m)) (p .pre .5)), rw (tags-n c) (ascends w (number (p .args .c .n)) (there c)))
 
 returns-2 : tie.Need-returns-2
 unfolding gathered tags-of
 returns-2 c =
     let loaded = c .before .before .before in
-    let p = start loaded in
-    let w = now (p .args .bs) in
-    let n = p .args .c .n in
-    let there = c .before .before .if1 .left in
-    let tags-n : tags-in (c .before .load2 .result .words) ≡ tags w (number n) =
-    ap (λ (b : Bucket). tags-in (b .words)) (c .before .load2 .ensures) ∙ tags-here w (number n) (p .pre .6 (omega (arith, there))) (omega (arith, there)) in
-    λ s same. rw (ne-eqb _ _ there, ← tags-m loaded, ← tags-n, c .union .ensures) (makes-two (loaded .load .result) (c .before .load2 .result))
+    λ s same.
+    rw (ne-eqb _ _ (c .before .before .if1 .left), ← tags-m loaded, ← tags-n (c .before), c .union .ensures)
+    (makes-two (loaded .load .result) (c .before .load2 .result))
 
 pub new-bucket-of-spec : {M : Type 1} → statement M
 new-bucket-of-spec =
