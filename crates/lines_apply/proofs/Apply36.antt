@@ -25,7 +25,7 @@ use Rattle.spec.specs.Entries.{refuse, accept, step-running}
 use Rattle.bucket.specs.declared.Response.{Response}
 use Rattle.bucket.specs.declared.Response.the-variants.{Yes, No, Frozen, Full}
 use Rattle.bucket.proofs.Response.{the-type}
-use Rattle.pool.specs.Pool.{add-answer, add-words, remove-answer, remove-words}
+use Rattle.pool.specs.Pool.{add-words, remove-answer, remove-words}
 
 -- the answer is not Yes
 pub not-yes : (d : Response) → OneOf (1 ∷ 2 ∷ 3 ∷ []) (tagOf the-type d) → d ≡ Yes → ⊥
@@ -36,20 +36,15 @@ not-yes Full k e = let z : _≡_ {A = ℕ} 0 1 = cc in omega arith
 
 -- ---- what a bucket that is not frozen answers, and what it leaves
 
-module _ (w : List ℕ) (k x : ℕ) (nf : changeable w k ≡ 0 → ⊥) where
-  -- an absent tag is added if there is room
-  pub data Adds : Response → List ℕ → Type 0 where
-    gains : leb 64 (length (tags w k)) ≡ false → Adds Yes (overwrite w (66 * k) (bucket-of 1 (add-tag x (tags w k))))
-    over : leb 64 (length (tags w k)) ≡ true → Adds Full w
+-- the pool in which bucket k has gained a tag
+abbrev pub gained : List ℕ → ℕ → ℕ → List ℕ
+gained w k x = overwrite w (66 * k) (bucket-of 1 (add-tag x (tags w k)))
 
-  pub adds : member x (tags w k) ≡ false → Adds (add-answer w k x) (add-words w k x)
-  unfolding add-answer add-words
-  adds m = rw (ne-eqb _ _ nf, m) (go (leb 64 (length (tags w k))) refl)
-    where
-      go : (b : Bool) → leb 64 (length (tags w k)) ≡ b
-          → Adds (if b then Full else Yes) (if b then w else overwrite w (66 * k) (bucket-of 1 (add-tag x (tags w k))))
-      go true e = over e
-      go false e = gains e
+module _ (w : List ℕ) (k x : ℕ) (nf : changeable w k ≡ 0 → ⊥) where
+  -- an absent tag is added where there is room
+  pub adds : member x (tags w k) ≡ false → leb 64 (length (tags w k)) ≡ false → add-words w k x ≡ gained w k x
+  unfolding add-words
+  adds m l = rw (ne-eqb _ _ nf, m, l)
 
   pub data Removes : Response → List ℕ → Type 0 where
     loses : member x (tags w k) ≡ true → Removes Yes (overwrite w (66 * k) (bucket-of 1 (remove-tag x (tags w k))))

@@ -28,7 +28,7 @@ pub fn line33(s: State, k: usize, c: Task, ns: &[u32]) -> Moved
 }
 
 // INVOKE(b, op) of an insert, with b not frozen: the bucket is searched first, and the listed tags are counted for an absent tag alone.
-// Each answer goes with how many tags b then holds.
+// Each answer goes with how many tags b then holds. A bucket that has no room is refused before anything is stored.
 fn insert36(s: State, k: usize, c: Task, ns: &[u32], bs: &mut [u32]) -> Moved
     requires { ⌜ Invokes k c (now bs) × (c .call ≡ 1) × (sound (machine-of s (now ns) (now bs)) ≡ true) ⌝ }
     ensures { λ r. ⌜ Gives s k r (now (ns .entry)) (now (bs .exit)) (step-running (machine-of s (now (ns .entry)) (now (bs .entry))) k c) ⌝ }
@@ -42,12 +42,11 @@ fn insert36(s: State, k: usize, c: Task, ns: &[u32], bs: &mut [u32]) -> Moved
     if 64 <= listed {
         return lines::end_counted(s, k, c, Answer::Full, n);
     }
-    let d = pool::buckets::add_at(bs, j, c.tag);
-    let r = d.response;
-    if let Response::Yes = r {
-        return lines::end_counted(s, k, c, Answer::Yes, d.count);
+    if 64 <= n {
+        return lines::refused(s, 8);
     }
-    lines::refused(s, 8)
+    let d = pool::buckets::add_at(bs, j, c.tag);
+    lines::end_counted(s, k, c, Answer::Yes, d.count)
 }
 
 // INVOKE(b, op) of a remove, with b not frozen

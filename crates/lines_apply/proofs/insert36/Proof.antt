@@ -1,11 +1,13 @@
--- `lines_apply::insert36` meets its contract: the tag is there, or 64 are listed, or the bucket gains it or has no room. The number that is
+-- `lines_apply::insert36` meets its contract: the tag is there, or 64 are listed, or the bucket has no room, or it gains the tag. The number that is
 -- handed on is the record's count afterwards. Assumes nothing.
-use mathlib.Core.Path.{_≡_, refl, sym, ap, _∙_, subst}
+use mathlib.Core.Path.{_≡_, sym, ap, _∙_}
 use mathlib.Core.List.{List}
 use mathlib.Core.Bool.{false}
 use Prim.Native.Nat.{ℕ, _+_, _*_, _<_, _≤_}
 use native.Mathlib.Omega.{arith}
+use borrow.Author.Tests.{le-leb, lt-leb}
 use denote.Ref.{now}
+use lib.Dec.{leb}
 use lib.ListN.{length}
 use Rattle.spec.specs.declared.Task.{Task}
 use Rattle.spec.specs.declared.Answer.the-variants as ans
@@ -14,15 +16,13 @@ use Rattle.spec.specs.Machine.{Machine, with-buckets, machine-of}
 use Rattle.spec.specs.Words.{number, changeable, count, tags, nothing, apply}
 use Rattle.spec.specs.Listed.{listed}
 use Rattle.spec.specs.Lines.{answers-of}
-use Rattle.spec.specs.Entries.{refuse, accept, step-running}
-use Rattle.bucket.specs.declared.Response.{Response}
-use Rattle.bucket.specs.declared.Response.the-variants.{Yes}
+use Rattle.spec.specs.Entries.{accept, step-running}
+use Rattle.laws.specs.Soundness.{sound-facts}
 use Rattle.pool.specs.declared.buckets.Answered.{Answered}
-use Rattle.pool.specs.Pool.{add-answer, add-words}
 use Rattle.pool.proofs.At.{found-here, add-here}
 use Rattle.listing.proofs.Sound.{counted}
 use Rattle.lines.proofs.Giving.{refusing, going}
-use Rattle.lines_apply.proofs.Apply36.{not-yes, Adds, gains, over, adds, no-36, full-36, yes-36, over-36}
+use Rattle.lines_apply.proofs.Apply36.{gained, adds, no-36, full-36, yes-36, over-36}
 use borrow.Author.Needs.{needs}
 use Rattle.lines_apply.proofs.insert36.Statement.{statement}
 use Rattle.lines_apply.proofs.insert36.Tie as tie
@@ -69,11 +69,11 @@ number-is p = p .word .ensures
 listed-is : (p : tie.After-count) → p .count .result ≡ length (listed (machine (at-start (p .before .before .before))))
 listed-is p = let q = at-start (p .before .before .before) in p .count .ensures ∙ counted (machine q) (q .pre .2)
 
--- ---- the bucket has been asked
+-- ---- the tag is absent, and fewer than 64 are listed
 
-module _ (p : tie.After-add-at) where
+module _ (p : tie.Else2) where
   abbrev looked : tie.Else1
-  looked = p .before .before .before .before .before
+  looked = p .before .before .before
 
   abbrev q : tie.Start
   q = at-start (looked .before)
@@ -82,43 +82,44 @@ module _ (p : tie.After-add-at) where
   absent = sym (has (looked .before)) ∙ looked .if1 .left
 
   room : length (listed (machine q)) < 64
-  room = let tested = p .before .before in rw (listed-is (tested .before)) at (tested .if2 .left)
+  room = rw (listed-is (p .before)) at (p .if2 .left)
 
   nf : changeable (words q) (place q) ≡ 0 → ⊥
   nf = q .pre .0 .may-change
 
-  abbrev answer : Response
-  answer = add-answer (words q) (place q) (task q .tag)
+  -- the bucket has as many tags as its second word says
+  long : length (tags (words q) (place q)) ≡ looked .before .before .before .word .result
+  long =
+      let f = sound-facts (machine q) (q .pre .2) in
+      f .bucket (place q) (omega (arith, f .buckets-length, fits q)) .long ∙ sym (number-is (looked .before .before .before))
 
-  abbrev after : List ℕ
-  after = add-words (words q) (place q) (task q .tag)
+-- ---- the bucket has room, and has been asked
 
-  here : (p .add-at .result ≡ record { response = answer; count = count after (place q) }) × (p .add-at .last .0 ≡ after)
-  here =
-      let d = add-here (words q) (place q) (q .pre .0 .good) (fits q) (task q .tag) in
-      (p .add-at .ensures .0 ∙ d .0, p .add-at .ensures .1 ∙ d .1)
+module _ (p : tie.After-add-at) where
+  abbrev tested : tie.Else3
+  tested = p .before .before
 
-  asked : Adds (words q) (place q) (task q .tag) nf (p .add-at .result .response) (p .add-at .last .0)
+  abbrev at : tie.Start
+  at = q (tested .before)
+
+  has-room : leb 64 (length (tags (words at) (place at))) ≡ false
+  has-room = lt-leb 64 (length (tags (words at) (place at))) (rw (long (tested .before)) (tested .if3 .left))
+
+  asked : (p .add-at .result .count ≡ count (p .add-at .last .0) (place at)) × (p .add-at .last .0 ≡ gained (words at) (place at) (task at .tag))
   asked =
-      subst (λ (d : Response). Adds (words q) (place q) (task q .tag) nf d (p .add-at .last .0)) (sym (ap (λ (a : Answered). a .response) (here .0)))
-      (subst (λ (w : List ℕ). Adds (words q) (place q) (task q .tag) nf answer w) (sym (here .1)) (adds (words q) (place q) (task q .tag) nf absent))
+      let d = add-here (words at) (place at) (at .pre .0 .good) (fits at) (task at .tag) in
+      let e = p .add-at .ensures .1 ∙ d .1 in (
+        ap (λ (a : Answered). a .count) (p .add-at .ensures .0 ∙ d .0) ∙ ap (λ (w : List ℕ). count w (place at)) (sym e),
+        e ∙ adds (words at) (place at) (task at .tag) (nf (tested .before)) (absent (tested .before)) has-room,
+      )
 
-  count-is : p .add-at .result .count ≡ count (p .add-at .last .0) (place q)
-  count-is = ap (λ (a : Answered). a .count) (here .0) ∙ ap (λ (w : List ℕ). count w (place q)) (sym (here .1))
-
-  abbrev left : List ℕ → Machine
-  left w = machine-of (q .args .s) (now (q .args .ns)) w
-
-  on-yes : {d : Response} {w : List ℕ} → Adds (words q) (place q) (task q .tag) nf d w → d ≡ Yes
-      → accept (left w) (q .args .k) (task q .own) (answers-of (task q .b) nothing ans.Yes) ≡ step-running (machine q) (q .args .k) (task q)
+  ends-yes : {w : List ℕ} → w ≡ gained (words at) (place at) (task at .tag)
+      → accept (machine-of (at .args .s) (now (at .args .ns)) w) (at .args .k) (task at .own) (answers-of (task at .b) nothing ans.Yes)
+      ≡ step-running (machine at) (at .args .k) (task at)
   unfolding accept apply with-buckets
-  on-yes (gains l) e = sym (yes-36 (machine q) _ (task q) (q .pre .0 .line) (filled q) nf (q .pre .1) absent room l)
-  on-yes (over l) e = let z : _≡_ {A = ℕ} 0 1 = cc in absurd (omega arith)
-
-  on-other : {d : Response} {w : List ℕ} → Adds (words q) (place q) (task q .tag) nf d w → (d ≡ Yes → ⊥)
-      → step-running (machine q) (q .args .k) (task q) ≡ refuse 8 (left w)
-  on-other (gains l) n = absurd (n refl)
-  on-other (over l) n = over-36 (machine q) _ (task q) (q .pre .0 .line) (filled q) nf (q .pre .1) absent room l
+  ends-yes e =
+      let t = tested .before in
+      rw e (sym (yes-36 (machine at) _ (task at) (at .pre .0 .line) (filled at) (nf t) (at .pre .1) (absent t) (room t) has-room))
 
 -- ---- the needs
 
@@ -174,33 +175,32 @@ returns-2 c =
     (c .end-counted2 .ensures .0 _ _ (number-is (found .before .before))
     ∙ sym (full-36 (machine q) _ (task q) (q .pre .0 .line) (filled q) (q .pre .0 .may-change) (q .pre .1) (sym (has found) ∙ looked .if1 .left) full))
 
-add-at-requires : tie.Need-add-at-requires
-add-at-requires c κs = search needs
-
-enum-told : tie.Need-enum-told
-enum-told c = search needs
-
-end-counted-requires-3 : tie.Need-end-counted-requires-3
-end-counted-requires-3 c κs = search needs
+refused-requires : tie.Need-refused-requires
+refused-requires c κs = search needs
 
 same-length-3 : tie.Need-same-length-3
 same-length-3 c = search needs
 
 returns-3 : tie.Need-returns-3
 returns-3 c =
-    let p = c .before .before .before .before .before in
-    going (c .end-counted3 .ensures .1) (c .end-counted3 .ensures .0 _ _ (count-is p) ∙ on-yes p (asked p) (c .before .enum-told .given .1))
+    let t = c .before .before in
+    let over = le-leb 64 (length (tags (words (q t)) (place (q t)))) (rw (long t) (c .before .if3 .taken)) in
+    refusing 8 (c .refused .ensures) (over-36 (machine (q t)) _ (task (q t)) (q t .pre .0 .line) (filled (q t)) (nf t) (q t .pre .1) (absent t) (room t)
+    over)
 
-refused-requires : tie.Need-refused-requires
-refused-requires c κs = search needs
+add-at-requires : tie.Need-add-at-requires
+add-at-requires c κs = search needs
+
+end-counted-requires-3 : tie.Need-end-counted-requires-3
+end-counted-requires-3 c κs = search needs
 
 same-length-4 : tie.Need-same-length-4
 same-length-4 c = search needs
 
 returns-4 : tie.Need-returns-4
 returns-4 c =
-    let p = c .before .before .before .before in
-    refusing 8 (c .refused .ensures) (on-other p (asked p) (not-yes _ (c .before .match .keys2)))
+    let p = c .before .before .before in
+    going (c .end-counted3 .ensures .1) (c .end-counted3 .ensures .0 _ _ (asked p .0) ∙ ends-yes p (asked p .1))
 
 pub insert36-spec : {M : Type 1} → statement M
 insert36-spec =
@@ -219,11 +219,10 @@ insert36-spec =
     end-counted-requires-2
     same-length-2
     returns-2
-    add-at-requires
-    enum-told
-    end-counted-requires-3
+    refused-requires
     same-length-3
     returns-3
-    refused-requires
+    add-at-requires
+    end-counted-requires-3
     same-length-4
     returns-4)
