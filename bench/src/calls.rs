@@ -1,5 +1,5 @@
-//! One call at a time over lent words, as include/yard.h has it: the form in which two implementations of the machine
-//! are compared call by call.
+//! The calls over lent words, as include/yard.h has them: the form in which two implementations of the machine are compared
+//! call by call.
 
 use crate::machine::{Call, MAX_TASKS};
 use crate::schedule::{Opening, OUTPUT_WORDS};
@@ -8,6 +8,8 @@ const FIRST_WORDS: usize = 9;
 const TASK_WORDS: usize = 13;
 pub const STATE_WORDS: usize = FIRST_WORDS + MAX_TASKS * TASK_WORDS;
 pub const TURN_WORDS: usize = 1 + OUTPUT_WORDS;
+/// The most turns of one call.
+pub const MAX_TURNS: usize = 255;
 
 /// The word at which a task's words begin.
 pub fn task_word(task: usize) -> usize {
@@ -36,4 +38,10 @@ pub trait Calls {
 
     /// `number` is a task's, or a bucket's for `Show`; `tag` is of an insert, a remove or a contains.
     fn call(entry: Entry, number: u32, tag: u32, lent: Lent, out: &mut [u32]) -> u32;
+
+    /// Many events in one call.
+    fn run(lent: Lent, events: &[u32], outputs: &mut [u32]) -> u32;
+
+    /// Many turns in one call.
+    fn turns(lent: Lent, out: &mut [u32]) -> u32;
 }

@@ -229,10 +229,15 @@ fn check_calls(events: u64) -> Result<(), String> {
     }
     crate::one_by_one::check(events / 4, &mut counts)?;
     println!(
-        "one call at a time: {} calls, {} of them on spoilt memory, {} of these not refused with 8",
+        "call by call: {} calls, {} of them on spoilt memory, {} of these not refused with 8",
         counts.calls, counts.spoilt, counts.taken
     );
     println!("refusals:{}", counts_of(&counts.refusals));
+    println!(
+        "of them calls of many: {} events and turns, refused:{}",
+        counts.batched,
+        counts_of(&counts.batch_refusals)
+    );
     Ok(())
 }
 

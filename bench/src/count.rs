@@ -4,24 +4,22 @@
 
 use crate::machine::MAX_TAGS;
 use crate::rows::{IMPLEMENTATIONS, ROWS};
-use crate::schedule::{EVENT_WORDS, OUTPUT_WORDS};
+use crate::schedule::OUTPUT_WORDS;
 use std::hint::black_box;
 
 /// The row by its number, from 1. Prints how many events were run: at most so many.
 pub fn count(row: &str, implementation: &str, at_most: &str) -> Option<()> {
     let row = ROWS.get(row.parse::<usize>().ok()?.checked_sub(1)?)?;
-    let (_, run) = IMPLEMENTATIONS
-        .into_iter()
-        .find(|&(name, _)| name == implementation)?;
-    let count = row.events.min(at_most.parse().ok()?);
+    let implementation = IMPLEMENTATIONS.iter().find(|i| i.name == implementation)?;
     let shape = row.shape();
-    let schedule = row.schedule(row.events);
-    black_box(run(
+    let made = row.made(implementation.form);
+    let (events, count) = made.first(at_most.parse().ok()?);
+    black_box((implementation.run)(
         shape.opening,
         &mut vec![0; shape.node_words()],
         &mut vec![0; shape.bucket_words()],
-        &schedule[..count * EVENT_WORDS],
-        &mut vec![0; row.events * OUTPUT_WORDS],
+        events,
+        &mut vec![0; made.all().1 * OUTPUT_WORDS],
         &mut [0; MAX_TAGS],
     ));
     println!("{count}");

@@ -3,11 +3,13 @@
 use crate::calls::{task_word, Calls};
 use crate::machine::{Call, Output, BUCKET_WORDS, NODE_WORDS};
 use crate::schedule::{Opening, REFUSED};
-use crate::yard::{Refused, Turn, Yard};
+use crate::yard::{Refused, Turned, Yard};
 use Call::{Contains, Grow, Insert, Remove, Shrink};
 
 const NODES: usize = 6;
 const BUCKETS: usize = 32;
+/// The most turns of one call.
+const TURNS: usize = 16;
 
 type Calling = (Call, u32);
 
@@ -71,28 +73,40 @@ fn line(task: u32, (call, tag): Calling, given: Result<Output, Refused>) -> Opti
     ))
 }
 
-/// One round; false once nothing runs and nothing is left to start.
-fn round<C: Calls>(yard: &mut Yard<C>, begun: &mut [usize; TASKS.len()]) -> bool {
+/// Starts the next call of every task that runs none; whether calls are left to start.
+fn start_next<C: Calls>(yard: &mut Yard<C>, begun: &mut [usize; TASKS.len()]) -> bool {
+    let mut left = false;
     for ((task, (_, calls)), begun) in (0..).zip(TASKS).zip(begun.iter_mut()) {
         // 5, the task still runs a call, is no fault here
         if let Some(&(call, tag)) = calls.get(*begun) {
             *begun += usize::from(yard.start(task, call, tag).is_ok());
         }
+        left |= *begun < calls.len();
     }
-    match yard.turn() {
-        Ok(Turn::Idle) => false,
-        Ok(Turn::Of(task, given)) => {
-            let calling = TASKS[task as usize].1[begun[task as usize] - 1];
-            line(task, calling, given)
-                .iter()
-                .for_each(|line| println!("{line}"));
-            true
-        }
+    left
+}
+
+/// One round: a turn, or many once nothing is left to start. False once nothing runs any more; also after a step's 8, when the next
+/// turn would go to the same task.
+fn round<C: Calls>(yard: &mut Yard<C>, begun: &mut [usize; TASKS.len()]) -> bool {
+    let most = if start_next(yard, begun) { 1 } else { TURNS };
+    let turns = match yard.turns(most) {
+        Ok(turns) => turns,
         Err(Refused(number)) => {
-            println!("turn refused: {number}");
-            false
+            println!("turns refused: {number}");
+            return false;
+        }
+    };
+    for &(task, given) in &turns {
+        let calling = TASKS[task as usize].1[begun[task as usize] - 1];
+        line(task, calling, given)
+            .iter()
+            .for_each(|line| println!("{line}"));
+        if given == Err(Refused(8)) {
+            return false;
         }
     }
+    turns.len() == most
 }
 
 fn joined(tags: &[u32]) -> String {
@@ -112,11 +126,11 @@ fn print_set<C: Calls>(yard: &mut Yard<C>) -> Result<(), Refused> {
     Ok(())
 }
 
-/// What `yard_turn` gives where the turn goes to nobody.
-fn number(turn: Result<Turn, Refused>) -> u32 {
+/// What `yard_turn` gives.
+fn number(turn: Result<Option<Turned>, Refused>) -> u32 {
     match turn {
-        Ok(Turn::Idle) => 0,
-        Ok(Turn::Of(..)) => 1,
+        Ok(None) => 0,
+        Ok(Some(_)) => 1,
         Err(Refused(number)) => REFUSED + number,
     }
 }

@@ -272,7 +272,7 @@ pub fn turn(state: &mut State, nodes: &mut [u32], buckets: &mut [u32]) -> Result
     let Some(task) = order.find(|&task| state.task[task as usize].running) else {
         return Ok(Turn::Idle);
     };
-    let given = step(state, nodes, buckets, task);
+    let given = step_unscanned(state, nodes, buckets, task);
     if given != Err(Refusal::Corrupt) {
         state.chosen = task;
     }

@@ -1,11 +1,15 @@
 //! Compares and times implementations of a resizable hash set moved one line at a time.
 //!
 //! `bench check [events]` runs random schedules, plans and single calls, `bench time` measures, `bench count` is one run to be
-//! measured, `bench example` prints what examples/c prints. With the feature `proved` all run the proved implementation from
+//! measured, `bench example` prints what examples/c prints. With the feature `coop`, `bench coop CALLS` compares the proved
+//! cooperative bucket from `libcoop_c.a` with one in plain Rust. With the feature `proved` all run the proved implementation from
 //! `libyard_c.a`; where the variable YARDPLAN names the proved program, the plans are compared with what it prints.
 
+mod by_calls;
 mod calls;
 mod check;
+#[cfg(feature = "coop")]
+mod coop;
 mod count;
 mod example;
 mod machine;
@@ -33,7 +37,7 @@ use std::env;
 use std::process::ExitCode;
 
 const DEFAULT_EVENTS: u64 = 4_000_000;
-const USAGE: &str = "usage: bench check [events] | bench time | bench count ROW plain|unscanned|schedule|calls EVENTS | bench example";
+const USAGE: &str = "usage: bench check [events] | bench time | bench count ROW IMPLEMENTATION EVENTS | bench example | bench coop CALLS";
 
 fn command(arguments: &[&str]) -> Result<(), String> {
     match arguments {
@@ -49,6 +53,8 @@ fn command(arguments: &[&str]) -> Result<(), String> {
         ["example"] => {
             example::example::<Implementation>().map_err(|refused| format!("{refused:?}"))
         }
+        #[cfg(feature = "coop")]
+        ["coop", calls] => coop::check(calls.parse().map_err(|_| USAGE.to_string())?),
         _ => Err(USAGE.into()),
     }
 }

@@ -1,12 +1,12 @@
-//! The proved implementation against the plain one, call by call: after each call the number given and every word lent are
-//! compared. Words are spoilt on the way, and slices have other lengths.
+//! The proved implementation against the plain one, call by call, a call of many events or turns among them: after each call the
+//! number given and every word lent are compared. Words are spoilt on the way, and slices have other lengths.
 
-use crate::calls::{task_word, Calls, Entry, Lent, STATE_WORDS, TURN_WORDS};
+use crate::calls::{task_word, Calls, Entry, Lent, MAX_TURNS, STATE_WORDS, TURN_WORDS};
 use crate::machine::{Call, BUCKET_WORDS, MAX_TAGS, NODE_WORDS};
 use crate::plain::Plain;
 use crate::proved::Proved;
 use crate::random::{Random, Shape};
-use crate::schedule::{Opening, OUTPUT_WORDS, REFUSED};
+use crate::schedule::{Opening, EVENT_WORDS, OUTPUT_WORDS, REFUSED};
 
 const CALLS_OF_A_SET: u64 = 2000;
 const CORRUPT: u32 = REFUSED + 8;
@@ -25,12 +25,17 @@ pub struct Counts {
     /// Calls on memory just spoilt, and those of them that were not refused with 8.
     pub spoilt: u64,
     pub taken: u64,
+    /// Events and turns of calls of many, and those of them that were refused, by the refusal's number.
+    pub batched: u64,
+    pub batch_refusals: [u64; 15],
 }
 
 #[derive(Clone, Copy, Debug)]
 enum Asked {
     Open(Opening),
     Call(Entry, u32, u32),
+    Run,
+    Turns,
 }
 
 /// All that is lent to a call, and what it gave.
@@ -39,11 +44,24 @@ struct Memory {
     state: Vec<u32>,
     nodes: Vec<u32>,
     buckets: Vec<u32>,
+    events: Vec<u32>,
     out: Vec<u32>,
     given: u32,
 }
 
 impl Memory {
+    /// Memory before an opening.
+    fn new(state: Vec<u32>, nodes: Vec<u32>, buckets: Vec<u32>) -> Memory {
+        Memory {
+            state,
+            nodes,
+            buckets,
+            events: Vec::new(),
+            out: Vec::new(),
+            given: 0,
+        }
+    }
+
     fn run<C: Calls>(&mut self, asked: Asked) {
         let lent = Lent {
             state: &mut self.state,
@@ -53,6 +71,8 @@ impl Memory {
         self.given = match asked {
             Asked::Open(opening) => C::open(opening, lent),
             Asked::Call(entry, number, tag) => C::call(entry, number, tag, lent, &mut self.out),
+            Asked::Run => C::run(lent, &self.events, &mut self.out),
+            Asked::Turns => C::turns(lent, &mut self.out),
         };
     }
 
@@ -117,11 +137,11 @@ impl Memory {
 
     /// One slice with another length.
     fn spoil_length(&mut self, random: &mut Random) {
-        let slice = random.below(4);
-        let slice = match slice {
+        let slice = match random.below(5) {
             0 => &mut self.state,
             1 => &mut self.nodes,
             2 => &mut self.buckets,
+            3 => &mut self.events,
             _ => &mut self.out,
         };
         let length = random.pick(&[
@@ -178,19 +198,63 @@ impl Pair {
         let given = self.plain.given;
         if given >= REFUSED {
             counts.refusals[(given - REFUSED) as usize] += 1;
+        } else {
+            counts.add_batch(asked, &self.plain);
         }
         Ok(given)
     }
 }
 
-fn call_of(shape: &Shape, random: &mut Random) -> Asked {
+impl Counts {
+    /// What a call of many events or turns wrote.
+    fn add_batch(&mut self, asked: Asked, after: &Memory) {
+        let (outputs, words) = match asked {
+            Asked::Run => (after.events.len() / EVENT_WORDS, OUTPUT_WORDS),
+            Asked::Turns => (after.given as usize, TURN_WORDS),
+            _ => return,
+        };
+        for output in after.out.chunks_exact(words).take(outputs) {
+            self.batched += 1;
+            if let [2, refusal, ..] = output[words - OUTPUT_WORDS..] {
+                self.batch_refusals[refusal as usize] += 1;
+            }
+        }
+    }
+}
+
+/// Any events, most of them for tasks that there are; some are not whole.
+fn events_of(shape: &Shape, random: &mut Random) -> Vec<u32> {
+    let count = random.below(24);
+    let mut words = Vec::new();
+    for _ in 0..count {
+        let kind = match random.below(100) {
+            0..=69 => 0,
+            70..=91 => 1 + random.below(3),
+            92..=97 => random.pick(&[4, 4, 5]),
+            _ => random.pick(&[6, 255, u32::MAX]),
+        };
+        words.extend([
+            kind,
+            task_of(shape, random),
+            shape.tag(random),
+            random.word(),
+        ]);
+    }
+    words.truncate(words.len().saturating_sub(random.pick(&[0, 0, 0, 1, 3])));
+    words
+}
+
+fn task_of(shape: &Shape, random: &mut Random) -> u32 {
     let tasks = shape.opening.tasks;
-    let any = [tasks, 8, u32::MAX];
-    let task = if random.percent(97) {
+    if random.percent(97) {
         random.below(tasks)
     } else {
-        random.pick(&any)
-    };
+        random.pick(&[tasks, 8, u32::MAX])
+    }
+}
+
+fn call_of(shape: &Shape, random: &mut Random) -> Asked {
+    let task = task_of(shape, random);
     let calls = [
         Call::Insert,
         Call::Insert,
@@ -205,22 +269,30 @@ fn call_of(shape: &Shape, random: &mut Random) -> Asked {
             task,
         ),
         5..=24 => (Entry::Start(random.pick(&calls)), task),
-        25..=59 => (Entry::Step, task),
-        60..=91 => (Entry::Turn, 0),
+        25..=55 => (Entry::Step, task),
+        56..=83 => (Entry::Turn, 0),
+        84..=87 => return Asked::Run,
+        88..=91 => return Asked::Turns,
         92..=95 => (Entry::List, 0),
         _ => (Entry::Show, random.below(shape.buckets as u32 + 2)),
     };
     Asked::Call(entry, number, shape.tag(random))
 }
 
-/// As many words of answer as the call has, with any contents.
-fn out_for(asked: Asked, random: &mut Random) -> Vec<u32> {
+/// As many words of answer as the call has, with any contents; of many events or turns about as many.
+fn out_for(asked: Asked, events: usize, random: &mut Random) -> Vec<u32> {
     let room = match asked {
         Asked::Open(_) => 0,
         Asked::Call(Entry::Start(_) | Entry::Step, ..) => OUTPUT_WORDS,
         Asked::Call(Entry::Turn, ..) => TURN_WORDS,
         Asked::Call(Entry::List, ..) => MAX_TAGS,
         Asked::Call(Entry::Show, ..) => 1,
+        Asked::Run => (events + 4).saturating_sub(random.pick(&[0, 4, 4, 5, 12])),
+        Asked::Turns => {
+            let many = (MAX_TURNS + 1) * TURN_WORDS;
+            let most = random.pick(&[30, 150, many]);
+            random.below(most as u32 + 1) as usize
+        }
     };
     random.words(room)
 }
@@ -245,7 +317,7 @@ fn spoilt_call(
     counts.taken += u64::from(given != CORRUPT);
     let moves = matches!(
         asked,
-        Asked::Call(Entry::Start(_) | Entry::Step | Entry::Turn, ..)
+        Asked::Call(Entry::Start(_) | Entry::Step | Entry::Turn, ..) | Asked::Run | Asked::Turns
     );
     if !moves || given >= REFUSED || random.percent(50) {
         *pair = Pair::new(before);
@@ -258,20 +330,23 @@ fn check_set(seed: u64, counts: &mut Counts) -> Result<(), String> {
     let (version, new_rule) = (1 + random.below(2), random.percent(50));
     let shape = Shape::random(&mut random, version, new_rule);
     let opening = Asked::Open(shape.opening);
-    let mut pair = Pair::new(Memory {
-        state: random.words(STATE_WORDS),
-        nodes: random.words(shape.node_words()),
-        buckets: random.words(shape.bucket_words()),
-        out: Vec::new(),
-        given: 0,
-    });
+    let state = random.words(STATE_WORDS);
+    let nodes = random.words(shape.node_words());
+    let buckets = random.words(shape.bucket_words());
+    let mut pair = Pair::new(Memory::new(state, nodes, buckets));
     let failure = |failure| format!("seed {seed}, {shape:?}: {failure}");
     pair.run(opening, counts).map_err(failure)?;
     for _ in 0..CALLS_OF_A_SET {
         let asked = call_of(&shape, &mut random);
-        let out = out_for(asked, &mut random);
-        pair.proved.out.clone_from(&out);
-        pair.plain.out = out;
+        let events = match asked {
+            Asked::Run => events_of(&shape, &mut random),
+            _ => Vec::new(),
+        };
+        let out = out_for(asked, events.len(), &mut random);
+        for memory in [&mut pair.proved, &mut pair.plain] {
+            memory.events.clone_from(&events);
+            memory.out.clone_from(&out);
+        }
         if random.percent(10) {
             spoilt_call(&mut pair, asked, &mut random, counts)
         } else {
@@ -291,13 +366,10 @@ pub fn check_opening(
 ) -> Result<(), String> {
     let mut random = Random::new(3);
     for state_words in [STATE_WORDS, 0, STATE_WORDS - 1, STATE_WORDS + 1] {
-        let mut pair = Pair::new(Memory {
-            state: random.words(state_words),
-            nodes: random.words(node_words),
-            buckets: random.words(bucket_words),
-            out: Vec::new(),
-            given: 0,
-        });
+        let state = random.words(state_words);
+        let nodes = random.words(node_words);
+        let buckets = random.words(bucket_words);
+        let mut pair = Pair::new(Memory::new(state, nodes, buckets));
         pair.run(Asked::Open(opening), counts)?;
     }
     Ok(())

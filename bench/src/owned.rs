@@ -1,6 +1,6 @@
 //! A machine together with its pools.
 
-use crate::machine::{Output, Refusal, State, BUCKET_WORDS, NODE_WORDS};
+use crate::machine::{self, Output, Refusal, State, Turn, BUCKET_WORDS, NODE_WORDS};
 use crate::schedule::{self, Event, Opening};
 
 pub struct Owned {
@@ -25,6 +25,10 @@ impl Owned {
 
     pub fn apply(&mut self, event: Event) -> Result<Output, Refusal> {
         schedule::apply(&mut self.state, &mut self.nodes, &mut self.buckets, event)
+    }
+
+    pub fn turn(&mut self) -> Result<Turn, Refusal> {
+        machine::turn(&mut self.state, &mut self.nodes, &mut self.buckets)
     }
 
     pub fn runs(&self, task: u32) -> bool {

@@ -1,8 +1,8 @@
-//! The plain machine, one call at a time: its state to words and back.
+//! The plain machine behind the calls of include/yard.h: its state to words and back.
 
-use crate::calls::{task_word, Calls, Entry, Lent, STATE_WORDS, TURN_WORDS};
+use crate::calls::{task_word, Calls, Entry, Lent, MAX_TURNS, STATE_WORDS, TURN_WORDS};
 use crate::machine::{self, Output, Refusal, State, Task, Turn};
-use crate::schedule::{encode_output, Opening, OUTPUT_WORDS, REFUSED};
+use crate::schedule::{apply, asked_event, encode_output, Opening, OUTPUT_WORDS, REFUSED};
 
 const CORRUPT: u32 = REFUSED + Refusal::Corrupt as u32;
 
@@ -26,6 +26,7 @@ fn task_words(task: &Task) -> [u32; 13] {
     ]
 }
 
+#[inline(always)]
 fn put_state(state: &State, words: &mut [u32]) {
     let first = [
         state.tasks,
@@ -74,6 +75,7 @@ fn task_of(words: &[u32]) -> Option<Task> {
 }
 
 /// The state that these words are, if a state has them.
+#[inline(always)]
 fn state_of(words: &[u32]) -> Option<State> {
     let &[tasks, version, zero_withdrawn, nodes, buckets, head, last_node, last_bucket, chosen] =
         words.get(..task_word(0))?
@@ -99,6 +101,11 @@ fn state_of(words: &[u32]) -> Option<State> {
         *task = task_of(&words[task_word(k)..task_word(k + 1)])?;
     }
     Some(state)
+}
+
+/// The same, if memory is sound.
+fn sound_state_of(lent: &Lent) -> Option<State> {
+    state_of(lent.state).filter(|state| machine::sound(state, lent.nodes, lent.buckets))
 }
 
 /// 0 and the output's words, or a refusal, which leaves `out`.
@@ -166,5 +173,41 @@ impl Calls for Plain {
         };
         put_state(&state, lent.state);
         given
+    }
+
+    /// Every event scans memory.
+    fn run(lent: Lent, events: &[u32], outputs: &mut [u32]) -> u32 {
+        let Some(mut state) = sound_state_of(&lent) else {
+            return CORRUPT;
+        };
+        let (events, outputs) = (events.as_chunks().0, outputs.as_chunks_mut().0);
+        for (event, output) in events.iter().zip(outputs) {
+            let given = apply(&mut state, lent.nodes, lent.buckets, asked_event(event));
+            *output = encode_output(given);
+        }
+        put_state(&state, lent.state);
+        0
+    }
+
+    /// Every turn scans memory.
+    fn turns(lent: Lent, out: &mut [u32]) -> u32 {
+        let Some(mut state) = sound_state_of(&lent) else {
+            return CORRUPT;
+        };
+        let mut count = 0;
+        for out in out
+            .as_chunks_mut::<TURN_WORDS>()
+            .0
+            .iter_mut()
+            .take(MAX_TURNS)
+        {
+            let turn = machine::turn(&mut state, lent.nodes, lent.buckets);
+            if answer_turn(turn, out) != 1 {
+                break;
+            }
+            count += 1;
+        }
+        put_state(&state, lent.state);
+        count
     }
 }

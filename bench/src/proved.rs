@@ -4,9 +4,9 @@
 //! Numbers pass as themselves, a slice as a pointer and then a length in words. Every function takes any numbers and any
 //! words; that slices do not overlap is what Rust's references say.
 
-use crate::calls::{Calls, Entry, Lent, STATE_WORDS};
+use crate::calls::{Calls, Entry, Lent};
 use crate::machine::Call;
-use crate::schedule::{decode_event, Event, Opening, REFUSED};
+use crate::schedule::Opening;
 
 #[link(name = "yard_c", kind = "static")]
 extern "C" {
@@ -131,6 +131,33 @@ extern "C" {
         out_len: usize,
     ) -> u32;
 
+    fn yard_turns(
+        state: *mut u32,
+        state_len: usize,
+        nodes: *mut u32,
+        nodes_len: usize,
+        buckets: *mut u32,
+        buckets_len: usize,
+        out: *mut u32,
+        out_len: usize,
+    ) -> u32;
+}
+
+#[link(name = "schedule_c", kind = "static")]
+extern "C" {
+    fn yard_run(
+        state: *mut u32,
+        state_len: usize,
+        nodes: *mut u32,
+        nodes_len: usize,
+        buckets: *mut u32,
+        buckets_len: usize,
+        events: *const u32,
+        events_len: usize,
+        outputs: *mut u32,
+        outputs_len: usize,
+    ) -> u32;
+
     fn schedule_run(
         tasks: u32,
         version: u32,
@@ -202,6 +229,36 @@ impl Calls for Proved {
             }
         }
     }
+
+    fn run(lent: Lent, events: &[u32], outputs: &mut [u32]) -> u32 {
+        let (s, sl) = (lent.state.as_mut_ptr(), lent.state.len());
+        let (n, nl) = (lent.nodes.as_mut_ptr(), lent.nodes.len());
+        let (b, bl) = (lent.buckets.as_mut_ptr(), lent.buckets.len());
+        let (e, el) = (events.as_ptr(), events.len());
+        // SAFETY: the pointers and lengths come from live slices that do not overlap.
+        unsafe {
+            yard_run(
+                s,
+                sl,
+                n,
+                nl,
+                b,
+                bl,
+                e,
+                el,
+                outputs.as_mut_ptr(),
+                outputs.len(),
+            )
+        }
+    }
+
+    fn turns(lent: Lent, out: &mut [u32]) -> u32 {
+        let (s, sl) = (lent.state.as_mut_ptr(), lent.state.len());
+        let (n, nl) = (lent.nodes.as_mut_ptr(), lent.nodes.len());
+        let (b, bl) = (lent.buckets.as_mut_ptr(), lent.buckets.len());
+        // SAFETY: the pointers and lengths come from live slices that do not overlap.
+        unsafe { yard_turns(s, sl, n, nl, b, bl, out.as_mut_ptr(), out.len()) }
+    }
 }
 
 /// The same as `schedule::run`, in meaning and encoding. The proved `schedule_run` is total: an event of a kind above 5 is
@@ -232,42 +289,4 @@ pub fn run(
             tags.len(),
         )
     }
-}
-
-/// The same, one call at a time.
-pub fn run_by_calls(
-    opening: Opening,
-    nodes: &mut [u32],
-    buckets: &mut [u32],
-    events: &[u32],
-    outputs: &mut [u32],
-    tags: &mut [u32],
-) -> u32 {
-    let mut state = [0; STATE_WORDS];
-    let mut call = |entry, number, tag, out: &mut [u32]| {
-        let lent = Lent {
-            state: &mut state,
-            nodes: &mut *nodes,
-            buckets: &mut *buckets,
-        };
-        match entry {
-            Some(entry) => Proved::call(entry, number, tag, lent, out),
-            None => Proved::open(opening, lent),
-        }
-    };
-    let opened = call(None, 0, 0, &mut []);
-    if opened >= REFUSED {
-        return opened;
-    }
-    for (event, output) in events.as_chunks().0.iter().zip(outputs.as_chunks_mut().0) {
-        let output: &mut [u32; 4] = output;
-        let given = match decode_event(event) {
-            Event::Start(task, kind, tag) => call(Some(Entry::Start(kind)), task, tag, output),
-            Event::Step(task) => call(Some(Entry::Step), task, 0, output),
-        };
-        if given >= REFUSED {
-            *output = [2, given - REFUSED, 0, 0];
-        }
-    }
-    call(Some(Entry::List), 0, 0, tags)
 }

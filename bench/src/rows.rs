@@ -1,23 +1,82 @@
 //! The rows of the tables of speed: pools, and the schedule that is run over them.
 
-use crate::machine::{Call, MAX_BUCKETS, MAX_NODES};
+use crate::by_calls::{self, BATCH, TURNS};
+use crate::machine::{Call, Turn, MAX_BUCKETS, MAX_NODES};
 use crate::owned::Owned;
+use crate::plain::Plain;
+#[cfg(feature = "proved")]
+use crate::proved::Proved;
 use crate::random::{Random, Shape};
 use crate::schedule::{self, encode_event, Event, Opening, Run, EVENT_WORDS};
 
-/// The implementations by name, the plain one first, then the plain one without its scans.
-#[cfg(not(feature = "proved"))]
-pub const IMPLEMENTATIONS: [(&str, Run); 2] = [
-    ("plain", schedule::run::<true>),
-    ("unscanned", schedule::run::<false>),
+/// What a row's schedule is made of: events, or starts and turns.
+#[derive(Clone, Copy, PartialEq, Eq)]
+pub enum Form {
+    Events,
+    Turns,
+}
+
+pub struct Implementation {
+    pub name: &'static str,
+    pub form: Form,
+    pub run: Run,
+}
+
+const fn events(name: &'static str, run: Run) -> Implementation {
+    Implementation {
+        name,
+        form: Form::Events,
+        run,
+    }
+}
+
+const fn turns(name: &'static str, run: Run) -> Implementation {
+    Implementation {
+        name,
+        form: Form::Turns,
+        run,
+    }
+}
+
+/// The plain machine, then the same without its scans, then the same behind the calls of include/yard.h: with the state in words,
+/// which each call reads and writes, and a scan before each event and turn. Beside them the proved ones.
+pub const IMPLEMENTATIONS: &[Implementation] = &[
+    events("plain", schedule::run::<true>),
+    events("unscanned", schedule::run::<false>),
+    events("words", by_calls::one_by_one::<Plain>),
+    events("words-run", by_calls::batches::<Plain>),
+    #[cfg(feature = "proved")]
+    events("schedule", crate::proved::run),
+    #[cfg(feature = "proved")]
+    events("calls", by_calls::one_by_one::<Proved>),
+    #[cfg(feature = "proved")]
+    events("run", by_calls::batches::<Proved>),
+    turns("words-turn", by_calls::turns::<Plain, false>),
+    #[cfg(feature = "proved")]
+    turns("turn", by_calls::turns::<Proved, false>),
+    #[cfg(feature = "proved")]
+    turns("turns", by_calls::turns::<Proved, true>),
 ];
-#[cfg(feature = "proved")]
-pub const IMPLEMENTATIONS: [(&str, Run); 4] = [
-    ("plain", schedule::run::<true>),
-    ("unscanned", schedule::run::<false>),
-    ("schedule", crate::proved::run),
-    ("calls", crate::proved::run_by_calls),
-];
+
+/// A schedule in words.
+pub struct Made {
+    words: Vec<u32>,
+    /// Where it may be cut: so many words, with so many events and turns.
+    ends: Vec<(usize, usize)>,
+}
+
+impl Made {
+    /// The first events, at most so many, and how many they are.
+    pub fn first(&self, at_most: usize) -> (&[u32], usize) {
+        let end = |&&(_, events): &&(usize, usize)| events <= at_most;
+        let (words, events) = self.ends.iter().rfind(end).copied().unwrap_or_default();
+        (&self.words[..words], events)
+    }
+
+    pub fn all(&self) -> (&[u32], usize) {
+        self.first(usize::MAX)
+    }
+}
 
 pub struct Row {
     pub tasks: u32,
@@ -102,14 +161,9 @@ impl Row {
         }
     }
 
-    /// An event for a random task: a step if it runs, else a start.
-    fn event(&self, shape: &Shape, machine: &Owned, random: &mut Random) -> Event {
-        let task = random.below(self.tasks);
-        if machine.runs(task) {
-            return Event::Step(task);
-        }
+    fn call(&self, machine: &Owned, random: &mut Random) -> Call {
         let size = machine.size();
-        let call = if random.percent(self.resize_percent) {
+        if random.percent(self.resize_percent) {
             let grows = size == 1 || size < self.max_size && random.percent(50);
             if grows {
                 Call::Grow
@@ -118,8 +172,28 @@ impl Row {
             }
         } else {
             random.pick(&[Call::Insert, Call::Insert, Call::Remove, Call::Contains])
-        };
+        }
+    }
+
+    /// An event for a random task: a step if it runs, else a start.
+    fn event(&self, shape: &Shape, machine: &Owned, random: &mut Random) -> Event {
+        let task = random.below(self.tasks);
+        if machine.runs(task) {
+            return Event::Step(task);
+        }
+        let call = self.call(machine, random);
         Event::Start(task, call, shape.tag(random))
+    }
+
+    /// The row's schedule, of that form.
+    pub fn made(&self, form: Form) -> Made {
+        match form {
+            Form::Events => Made {
+                words: self.schedule(self.events),
+                ends: (1..=self.events).map(|k| (k * EVENT_WORDS, k)).collect(),
+            },
+            Form::Turns => self.turns(self.events),
+        }
     }
 
     /// A schedule of `count` accepted events, in words. A longer one begins with a shorter one.
@@ -140,5 +214,36 @@ impl Row {
             }
         }
         words
+    }
+
+    /// At least `count` events: a start for every task that runs none, then a call's turns, and so on.
+    fn turns(&self, count: usize) -> Made {
+        let shape = self.shape();
+        let mut random = Random::new(7);
+        let mut machine = Owned::open(shape.opening, shape.nodes, shape.buckets);
+        let (mut words, mut ends) = (Vec::new(), Vec::new());
+        let (mut events, mut refused) = (0, 0);
+        while events < count {
+            for task in 0..self.tasks {
+                if !machine.runs(task) {
+                    let call = self.call(&machine, &mut random);
+                    let start = Event::Start(task, call, shape.tag(&mut random));
+                    machine.apply(start).expect("the task runs no call");
+                    words.extend(encode_event(start));
+                    events += 1;
+                }
+            }
+            for _ in 0..BATCH {
+                match machine.turn().expect("sound memory") {
+                    Turn::Idle => break,
+                    Turn::Of(_, given) => refused += usize::from(given.is_err()),
+                }
+                events += 1;
+            }
+            words.extend([TURNS, 0, 0, 0]);
+            ends.push((words.len(), events));
+        }
+        assert!(refused * 4 < events, "tasks wait for records");
+        Made { words, ends }
     }
 }

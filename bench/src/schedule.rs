@@ -74,12 +74,24 @@ pub fn decode_event(&[kind, task, tag, _]: &EventWords) -> Event {
     Event::Start(task, call, tag)
 }
 
+/// The event that any words are: a kind above 5 is a step.
+pub fn asked_event(words: &EventWords) -> Event {
+    match *words {
+        [kind, task, ..] if kind > Call::Shrink as u32 => Event::Step(task),
+        _ => decode_event(words),
+    }
+}
+
 pub fn encode_output(output: Result<Output, Refusal>) -> OutputWords {
     match output {
         Ok(Output::At(line)) => [AT, line, 0, 0],
         Ok(Output::End(answer, own, tags)) => [END, answer as u32, own.into(), tags],
-        Err(refusal) => [REFUSE, refusal as u32, 0, 0],
+        Err(refusal) => encode_refusal(refusal as u32),
     }
+}
+
+pub fn encode_refusal(number: u32) -> OutputWords {
+    [REFUSE, number, 0, 0]
 }
 
 pub fn decode_output(&[kind, value, own, tags]: &OutputWords) -> Option<Result<Output, Refusal>> {

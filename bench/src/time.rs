@@ -1,10 +1,11 @@
-//! `bench time`: nanoseconds for each event and the ratio to the plain machine; the soundness scan against a plain read.
+//! `bench time`: nanoseconds for each event and the ratio to the plain machine behind the same calls; the soundness scan against a
+//! plain read.
 
 use crate::calls::Calls;
 use crate::machine::MAX_TAGS;
-use crate::rows::{Row, IMPLEMENTATIONS, ROWS};
+use crate::rows::{Form, Made, Row, IMPLEMENTATIONS, ROWS};
 use crate::scan::print_scan;
-use crate::schedule::{Run, EVENT_WORDS, OUTPUT_WORDS};
+use crate::schedule::{Run, OUTPUT_WORDS};
 use std::hint::black_box;
 use std::time::Instant;
 
@@ -24,14 +25,14 @@ pub fn fastest(mut work: impl FnMut()) -> f64 {
         .fold(f64::INFINITY, f64::min)
 }
 
-/// Nanoseconds of a whole run, the fastest of the rounds, for each implementation; their
-/// rounds alternate. Every run clears its pools by opening them, and all buffers are in use
-/// already, as one round goes before the timed ones.
-fn time_runs(row: &Row, events: &[u32]) -> [f64; IMPLEMENTATIONS.len()] {
+/// Nanoseconds of a whole run, the fastest of the rounds, for each implementation of this form; their rounds alternate. Every
+/// run clears its pools by opening them, and all buffers are in use already, as one round goes before the timed ones.
+fn time_runs(row: &Row, made: &Made, runs: &[Run]) -> Vec<f64> {
     let shape = row.shape();
     let mut nodes = vec![0; shape.node_words()];
     let mut buckets = vec![0; shape.bucket_words()];
-    let mut outputs = vec![0; events.len() / EVENT_WORDS * OUTPUT_WORDS];
+    let (events, count) = made.all();
+    let mut outputs = vec![0; count * OUTPUT_WORDS];
     let mut tags = [0; MAX_TAGS];
     let mut round = |run: Run| {
         black_box(run(
@@ -43,32 +44,33 @@ fn time_runs(row: &Row, events: &[u32]) -> [f64; IMPLEMENTATIONS.len()] {
             &mut tags,
         ));
     };
-    let mut best = [f64::INFINITY; IMPLEMENTATIONS.len()];
-    IMPLEMENTATIONS.iter().for_each(|&(_, run)| round(run));
+    let mut best = vec![f64::INFINITY; runs.len()];
+    runs.iter().for_each(|&run| round(run));
     for _ in 0..ROUNDS {
-        for (best, (_, run)) in best.iter_mut().zip(IMPLEMENTATIONS) {
+        for (best, &run) in best.iter_mut().zip(runs) {
             *best = best.min(nanoseconds(|| round(run)));
         }
     }
     best
 }
 
-/// How many events in a hundred are steps.
-fn step_share(events: &[u32]) -> usize {
-    let (events, _) = events.as_chunks::<EVENT_WORDS>();
-    100 * events.iter().filter(|event| event[0] == 0).count() / events.len()
-}
-
+/// The ratio is to the form's plain machine behind the same calls.
 fn print_events(row: &Row) {
-    let events = row.schedule(row.events);
-    let share = step_share(&events);
-    let (name, count) = (row.name(), row.events);
-    println!("{name}: {count} accepted events, {share}% of them steps");
-    let times = time_runs(row, &events);
-    for ((name, _), time) in IMPLEMENTATIONS.iter().zip(times) {
-        let each = time / row.events as f64;
-        let ratio = time / times[0];
-        println!("  {name:<20} {each:9.1} ns per event, {ratio:.2} times plain");
+    println!("{}", row.name());
+    for (form, base) in [(Form::Events, "words"), (Form::Turns, "words-turn")] {
+        let made = row.made(form);
+        let of_form = || IMPLEMENTATIONS.iter().filter(|i| i.form == form);
+        let runs: Vec<Run> = of_form().map(|i| i.run).collect();
+        let times = time_runs(row, &made, &runs);
+        let plain = of_form()
+            .position(|i| i.name == base)
+            .expect("an implementation");
+        for (implementation, time) in of_form().zip(&times) {
+            let each = time / made.all().1 as f64;
+            let ratio = time / times[plain];
+            let name = implementation.name;
+            println!("  {name:<12} {each:9.1} ns per event, {ratio:.2} times {base}");
+        }
     }
 }
 

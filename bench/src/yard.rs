@@ -10,11 +10,8 @@ use std::marker::PhantomData;
 #[derive(Clone, Copy, Debug, PartialEq, Eq)]
 pub struct Refused(pub u32);
 
-/// What a turn gave: nothing runs, or a task and what its step gave.
-pub enum Turn {
-    Idle,
-    Of(u32, Result<Output, Refused>),
-}
+/// A turn's task, and what its step gave.
+pub type Turned = (u32, Result<Output, Refused>);
 
 pub struct Yard<'a, C> {
     /// The state's words. What is changed here is spoilt memory.
@@ -36,6 +33,10 @@ fn output(words: &[u32; OUTPUT_WORDS]) -> Result<Output, Refused> {
     decode_output(words)
         .expect("an output's words")
         .map_err(|refusal| Refused(refusal as u32))
+}
+
+fn turned([task, words @ ..]: &[u32; TURN_WORDS]) -> Turned {
+    (*task, output(words))
 }
 
 impl<'a, C: Calls> Yard<'a, C> {
@@ -80,13 +81,19 @@ impl<'a, C: Calls> Yard<'a, C> {
         output(&out)
     }
 
-    pub fn turn(&mut self) -> Result<Turn, Refused> {
+    /// None: nothing runs.
+    pub fn turn(&mut self) -> Result<Option<Turned>, Refused> {
         let mut out = [0; TURN_WORDS];
-        if accepted(C::call(Entry::Turn, 0, 0, self.lend(), &mut out))? == 0 {
-            return Ok(Turn::Idle);
-        }
-        let [task, words @ ..] = &out;
-        Ok(Turn::Of(*task, output(words)))
+        let count = accepted(C::call(Entry::Turn, 0, 0, self.lend(), &mut out))?;
+        Ok((count == 1).then(|| turned(&out)))
+    }
+
+    /// At most so many turns, and at most 255, in one call: each a task and what its step gave. Fewer: nothing runs.
+    pub fn turns(&mut self, most: usize) -> Result<Vec<Turned>, Refused> {
+        let mut out = vec![0; most * TURN_WORDS];
+        let count = accepted(C::turns(self.lend(), &mut out))?;
+        let (turns, _) = out.as_chunks();
+        Ok(turns[..count as usize].iter().map(turned).collect())
     }
 
     /// The tags in the set, ascending.

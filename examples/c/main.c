@@ -1,12 +1,13 @@
 /* A terminal's main loop: two lanes put tags in, take them out and ask for them, an office resizes the set while they do. Each round starts the next
- * call of every task that runs none and gives one turn. Prints each call that ends, then the set; `stdout` has what it must print. */
+ * call of every task that runs none and gives one turn; once nothing is left to start, as many as there is room for. Prints each call that ends, then
+ * the set; `stdout` has what it must print. */
 #include <stdio.h>
 
 #include "yard.h"
 
 enum { LANE_0, LANE_1, OFFICE, TASKS };
 enum { INSERT, REMOVE, CONTAINS, GROW, SHRINK };
-enum { NODES = 6, BUCKETS = 32 };
+enum { NODES = 6, BUCKETS = 32, TURNS = 16 };
 
 static const char *const call_names[] = {"insert", "remove", "contains", "grow", "shrink"};
 static const char *const answer_names[] = {"", "yes", "no", "full", "done", "lost", "limit"};
@@ -69,24 +70,46 @@ static void print_end(uint32_t task, const uint32_t *output)
     printf("\n");
 }
 
-/* One round; gives 0 once nothing runs and nothing is left to start. */
-static int round_of_loop(void)
+/* Starts the next call of every task that runs none; gives how many calls are left to start. */
+static size_t start_next(void)
 {
-    uint32_t out[YARD_OUT_WORDS], turn[YARD_TURN_WORDS];
+    uint32_t out[YARD_OUT_WORDS];
+    size_t left = 0;
     for (uint32_t task = 0; task < TASKS; task++) {
         size_t next = begun[task];
         /* 5, the task still runs a call, is no fault here */
         if (next < tasks[task].count && start(task, tasks[task].calls[next], out, LENGTH(out)) == 0)
             begun[task] = next + 1;
+        left += tasks[task].count - begun[task];
     }
-    uint32_t given = yard_turn(STATE, POOLS, turn, LENGTH(turn));
-    if (given >= YARD_REFUSED)
-        printf("turn refused: %u\n", (unsigned)(given - YARD_REFUSED));
-    else if (given == 1 && turn[1] == YARD_END)
+    return left;
+}
+
+/* A turn gave these five words; gives whether the next one may go to another task: after a step's 8 it would go to the same. */
+static int turned(const uint32_t *turn)
+{
+    if (turn[1] == YARD_END)
         print_end(turn[0], turn + 1);
-    else if (given == 1 && turn[1] == YARD_REFUSE)
-        printf("%s: refused %u\n", tasks[turn[0]].name, (unsigned)turn[2]);
-    return given == 1;
+    if (turn[1] != YARD_REFUSE)
+        return 1;
+    printf("%s: refused %u\n", tasks[turn[0]].name, (unsigned)turn[2]);
+    return turn[2] != YARD_SPOILT;
+}
+
+/* One round; gives 0 once nothing runs and nothing is left to start. */
+static int round_of_loop(void)
+{
+    uint32_t turns[TURNS * YARD_TURN_WORDS];
+    uint32_t room = start_next() == 0 ? TURNS : 1;
+    uint32_t given = yard_turns(STATE, POOLS, turns, room * YARD_TURN_WORDS);
+    if (given >= YARD_REFUSED) {
+        printf("turns refused: %u\n", (unsigned)(given - YARD_REFUSED));
+        return 0;
+    }
+    for (uint32_t k = 0; k < given; k++)
+        if (!turned(turns + k * YARD_TURN_WORDS))
+            return 0;
+    return given == room;
 }
 
 /* The tags in the set, and the head's places with what their buckets hold. */

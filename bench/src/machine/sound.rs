@@ -1,6 +1,6 @@
 //! The check of state and pools that goes before every start, step and list.
 
-use super::node::{pred, size, PLACES, SIZE};
+use super::node::{pred, size, PLACES};
 use super::{bucket, is_version, record_count, Bucket, Call, Node, State, Task};
 use super::{BUCKET_WORDS, MAX_BUCKETS, MAX_NODES, MAX_SIZE, MAX_TAGS, MAX_TASKS, NODE_WORDS};
 
@@ -54,13 +54,24 @@ fn node_place_sound(nodes: &[Node], place: u32) -> bool {
             .is_some_and(|node| size(node) != 0)
 }
 
+/// The places of a node of size `SIZE`. A size known to the compiler makes loops of a fixed length.
+fn places_sound<const SIZE: usize>(state: &State, node: &Node) -> bool {
+    let (used, unused) = node[PLACES..].split_at(SIZE);
+    at_most(used, state.buckets) && all_zero(unused)
+}
+
 fn node_sound(state: &State, nodes: &[Node], node: &Node) -> bool {
-    let size = node[SIZE] as usize;
-    if size > MAX_SIZE || !(size == 0 || size.is_power_of_two()) {
-        return false;
-    }
-    let (used, unused) = node[PLACES..].split_at(size);
-    at_most(used, state.buckets) && all_zero(unused) && node_place_sound(nodes, pred(node))
+    let places = match size(node) {
+        0 => places_sound::<0>(state, node),
+        1 => places_sound::<1>(state, node),
+        2 => places_sound::<2>(state, node),
+        4 => places_sound::<4>(state, node),
+        8 => places_sound::<8>(state, node),
+        16 => places_sound::<16>(state, node),
+        32 => places_sound::<32>(state, node),
+        _ => false,
+    };
+    places && node_place_sound(nodes, pred(node))
 }
 
 fn bucket_sound(bucket: &Bucket) -> bool {
@@ -68,7 +79,12 @@ fn bucket_sound(bucket: &Bucket) -> bool {
     if bucket[bucket::CHANGEABLE] > 1 || count > MAX_TAGS {
         return false;
     }
-    let (tags, unused) = bucket[bucket::TAGS..].split_at(count);
+    let words = &bucket[bucket::TAGS..];
+    // most are empty: one loop of a fixed length
+    if count == 0 {
+        return all_zero(words);
+    }
+    let (tags, unused) = words.split_at(count);
     strictly_ascending(tags) && all_zero(unused)
 }
 

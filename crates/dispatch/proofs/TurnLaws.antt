@@ -27,7 +27,7 @@ use Rattle.lines.specs.declared.Stepped.{Stepped}
 use Rattle.lines.specs.Reply.{reply-of}
 use Rattle.turns.specs.declared.Turn.the-variants.{Idle, Of, Refused}
 use Rattle.turns.specs.Turn.{idle-tasks, next-task, gives, after-step, turn-to, turn}
-use Rattle.dispatch.specs.Turned.{turned-of, next-to-step, by-output, stepped-turn}
+use Rattle.dispatch.specs.Turned.{turned-of, next-to-step, uses-turn, chosen-after, by-output, stepped-turn}
 
 -- the links ls are those of the idle tasks among the first t of ts
 abbrev pub IdleLinks : List Task → ℕ → List ℕ → Type 0
@@ -80,6 +80,54 @@ module _ (y : Machine) where
     turn-steps s =
         let same : number (link k) ≡ k = omega arith in
         rw (s, sym (sound-next s) ∙ e, true-filled (link k) (λ z. omega arith), same)
+
+    -- by what its step answers and leaves
+    after-each : (o : Output) (z : Machine) → ((w : ℕ) → o ≡ Refuse w → z ≡ y)
+        → gives (Of k o) (with-chosen (chosen-after o k (z .state .chosen)) z) ≡ after-step y k o z
+    unfolding uses-turn after-step with-chosen with-state state-chosen
+    after-each (At line) z same = refl
+    after-each (End a own full) z same = refl
+    after-each (Refuse w) z same = rw (same w refl) (go (eqb w 7))
+      where
+        go : (b : Bool) → gives (Of k (Refuse w)) (with-chosen (if b then k else y .state .chosen) y) ≡ gives (Of k (Refuse w)) (if b then with-chosen k y else y)
+        go true = refl
+        go false = refl
+
+    module _ (o : Output) (z : Machine) (d : record { out = o; machine = z } ≡ step y k) where
+      refused-kept : (w : ℕ) → o ≡ Refuse w → z ≡ y
+      refused-kept w f = ap (λ (q : Reply). q .machine) d ∙ refused-step-changes-nothing y k w (sym (ap (λ (q : Reply). q .out) d) ∙ f)
+
+      -- in sound memory the turn names the task
+      pub names-its-step : sound y ≡ true → gives (Of k o) (with-chosen (chosen-after o k (z .state .chosen)) z) ≡ turn y
+      names-its-step s = after-each o z refused-kept ∙ ap (λ (q : Reply). after-step y k (q .out) (q .machine)) d ∙ sym (turn-steps s)
+
+      -- a step that does not use up its turn leaves all as it was; in spoilt memory no step uses up its turn
+      pub unused-kept : uses-turn o ≡ false → z ≡ y
+      unfolding uses-turn
+      unused-kept e = go o refl e
+        where
+          go : (a : Output) → o ≡ a → uses-turn a ≡ false → z ≡ y
+          go (At line) f e = absurd (let u : _≡_ {A = ℕ} 0 1 = cc in omega arith)
+          go (End a own full) f e = absurd (let u : _≡_ {A = ℕ} 0 1 = cc in omega arith)
+          go (Refuse w) f e = refused-kept w f
+
+      pub used-sound : uses-turn o ≡ true → sound y ≡ true
+      unfolding uses-turn step refuse
+      used-sound e = go (bool? (sound y))
+        where
+          go : (sound y ≡ true) ⊎ (sound y ≡ false) → sound y ≡ true
+          go (inl s) = s
+          go (inr s) =
+              let eight : o ≡ Refuse 8 = ap (λ (q : Reply). q .out) d ∙ rw s in
+              absurd (let v : uses-turn (Refuse 8) ≡ true = rw eight at e in let u : _≡_ {A = ℕ} 0 1 = cc in omega arith)
+
+      -- so a turn that is used up names its task, and one that is not does so in sound memory
+      pub used : uses-turn o ≡ true → gives (Of k o) (with-chosen k z) ≡ turn y
+      used e = rw e at (names-its-step (used-sound e))
+
+      pub unused : uses-turn o ≡ false → sound y ≡ true → gives (Of k o) y ≡ turn y
+      unfolding with-chosen with-state state-chosen
+      unused e s = ap (gives (Of k o)) (sym (unused-kept e)) ∙ (rw e at (names-its-step s))
 
     module _ (r : Stepped) (ns bs : List ℕ) (d : reply-of r ns bs ≡ step y k) where
       -- a refused step leaves the machine as it was

@@ -1,7 +1,7 @@
 -- What the dispatcher's code gives back, as the definitions say it. Assumes nothing.
 use Prim.Native.Nat.{ℕ}
 use mathlib.Core.List.{List}
-use mathlib.Core.Bool.{Bool, _&&_}
+use mathlib.Core.Bool.{Bool, true, _&&_}
 use lib.Dec.{ltb, leb, eqb}
 use Rattle.spec.specs.declared.State.{State}
 use Rattle.spec.specs.declared.Output.{Output}
@@ -21,6 +21,15 @@ turned-of r ns bs = gives (r .says) (machine-of (r .state) ns bs)
 -- the link of the task that is next, where T and the last one chosen are within their bounds
 unfoldable pub next-to-step : Machine → ℕ
 next-to-step y = if leb (task-count y) 8 && ltb (y .state .chosen) (task-count y) then next-task y else 0
+
+-- whether a step that answers so uses up its turn, and the task chosen last after a turn of task k
+unfoldable pub uses-turn : Output → Bool
+uses-turn (At line) = true
+uses-turn (End a own full) = true
+uses-turn (Refuse r) = eqb r 7
+
+abbrev pub chosen-after : Output → ℕ → ℕ → ℕ
+chosen-after o k last = if uses-turn o then k else last
 
 -- what a turn gives, by the state that its task's step left, whether memory is sound, and what the step answered
 unfoldable pub by-output : ℕ → State → Bool → Output → Turned

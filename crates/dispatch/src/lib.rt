@@ -1,5 +1,4 @@
-// The dispatcher (paper 02, U7), over the entries: a turn steps the running task that is next, going round from the last one chosen. `turn`
-// has the state by value, `turn_lent` moves a lent state on.
+// The dispatcher (paper 02, U7), over the entries: a turn steps the running task that is next, going round from the last one chosen.
 use lines::Stepped;
 use spec::Output;
 use spec::State;
@@ -8,8 +7,8 @@ ghost use mathlib.Core.Path.{_≡_};
 ghost use mathlib.Core.List.{List};
 ghost use Prim.Native.Nat.{ℕ};
 ghost use Rattle.spec.specs.Machine.{machine-of};
-ghost use Rattle.turns.specs.Turn.{gives, turn};
-ghost use Rattle.dispatch.specs.Turned.{turned-of, next-to-step, stepped-turn};
+ghost use Rattle.turns.specs.Turn.{turn};
+ghost use Rattle.dispatch.specs.Turned.{turned-of, next-to-step, uses-turn, chosen-after, stepped-turn};
 
 // What a turn answers, and the state that it leaves.
 pub struct Turned {
@@ -19,7 +18,7 @@ pub struct Turned {
 
 // The link of the first running task after the last one chosen, going round and trying the last one chosen itself at the end; 0 if nothing
 // runs, or if T or the last one chosen is out of bounds.
-fn next_task(s: State) -> u32
+pub fn next_task(s: State) -> u32
     ensures { λ r. ⌜ ((ns bs : List ℕ) → r ≡ next-to-step (machine-of s ns bs)) ⌝ }
 {
     let t = s.config.tasks;
@@ -42,6 +41,24 @@ fn next_task(s: State) -> u32
         j += 1;
     }
     0
+}
+
+// Whether a step that answers so uses up its turn: all but one that is refused with another number than 7.
+pub fn uses_turn(o: Output) -> bool
+    ensures { λ r. ⌜ r ≡ uses-turn o ⌝ }
+{
+    match o {
+        Output::At(_) => true,
+        Output::End(_, _, _) => true,
+        Output::Refuse(why) => why == 7,
+    }
+}
+
+// The task chosen last, after a turn of task k whose step answers so.
+pub fn chosen_after(o: Output, k: u32, last: u32) -> u32
+    ensures { λ r. ⌜ r ≡ chosen-after o k last ⌝ }
+{
+    if uses_turn(o) { k } else { last }
 }
 
 // What a turn gives that went to task k, whose step gave r and left these words. A step that is refused with 7 uses up its turn. With 8 memory
@@ -104,30 +121,4 @@ pub fn turn(s: State, ns: &mut [u32], bs: &mut [u32]) -> Turned
         says: Turn::Refused(8),
         state: s,
     }
-}
-
-// The parts of what `turn` gives: the walk of `turn_lent` takes no struct apart.
-fn says_of(d: Turned) -> Turn
-    ensures { λ r. ⌜ r ≡ d .says ⌝ }
-{
-    let r = d.says;
-    r
-}
-
-fn state_of(d: Turned) -> State
-    ensures { λ r. ⌜ r ≡ d .state ⌝ }
-{
-    d.state
-}
-
-// One turn on the lent state and the lent pools.
-pub fn turn_lent(s: &mut State, ns: &mut [u32], bs: &mut [u32]) -> Turn
-    ensures { λ r. ⌜ gives r (machine-of (now (s .exit)) (now (ns .exit)) (now (bs .exit)))
-        ≡ turn (machine-of (now (s .entry)) (now (ns .entry)) (now (bs .entry))) ⌝ }
-{
-    let old = *s;
-    let d = turn(old, ns, bs);
-    let new = state_of(d);
-    *s = new;
-    says_of(d)
 }

@@ -1,6 +1,7 @@
 -- A whole schedule as words, for callers outside Rattle: which of its events are run, and what is left of every slice.
 -- Assumes nothing.
 use Prim.Native.Nat.{ℕ, _/_, min}
+use mathlib.Core.Bool.{not}
 use mathlib.Core.List.{List}
 use lib.Dec.{eqb}
 use lib.ListN.{length}
@@ -9,12 +10,17 @@ use Rattle.spec.specs.declared.Listing.{Listing}
 use Rattle.spec.specs.declared.Listing.the-variants.{Refused}
 use Rattle.spec.specs.Lists.{if_then_else_, concat-map}
 use Rattle.spec.specs.Numbers.{output-words}
-use Rattle.spec.specs.Machine.{Machine, machine-of}
+use Rattle.spec.specs.Machine.{Machine, machine-of, config-of, with-version, with-zero-withdrawn}
 use Rattle.spec.specs.Words.{overwrite}
 use Rattle.spec.specs.Entries.{opening, Written, list}
 use Rattle.spec.specs.Schedule.{Event, schedule}
 use Rattle.schedule_events.specs.Events.{events-of}
 use Rattle.schedule.specs.declared.Outcome.{Outcome}
+
+-- ---- what an opening is given: T, the version, and the rule for tag 0: 0 the old one, any other number the new one
+
+abbrev pub c-config : ℕ → ℕ → ℕ → Config
+c-config t v z = with-zero-withdrawn (not (eqb z 0)) (with-version v (config-of t))
 
 -- ---- the events that are run
 

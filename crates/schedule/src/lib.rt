@@ -16,13 +16,13 @@ ghost use Rattle.spec.specs.Machine.{Machine, machine-of, task-of};
 ghost use Rattle.spec.specs.Words.{overwrite};
 ghost use Rattle.spec.specs.Sound.{sound};
 ghost use Rattle.spec.specs.Schedule.{event, run, schedule};
-ghost use Rattle.spec.specs.Linearizable.{Linearizable};
+ghost use Rattle.spec.specs.Linearizable.{Linearizable, NoEight};
 ghost use Rattle.spec.specs.ContainsSteps.{ContainsExact};
 ghost use Rattle.pace.specs.StepCounts.{none-begun, StepsWithin};
 ghost use Rattle.soundness.specs.Told.{told, checked-of};
 ghost use Rattle.lines.specs.Reply.{moved-reply};
 ghost use Rattle.schedule_events.specs.Events.{event-of, events-of};
-ghost use Rattle.schedule.specs.Encoding.{decoded, run-words, result-of};
+ghost use Rattle.schedule.specs.Encoding.{c-config, decoded, run-words, result-of};
 
 // What a run gives: the opening's refusal, or 0; the number of events run; the state; the list's answer, in whose place the refusal
 // of an opening stands.
@@ -33,8 +33,17 @@ pub struct Outcome {
     pub listing: Listing,
 }
 
+// What an opening is given, by three words.
+pub fn config(tasks: u32, version: u32, withdrawn: u32) -> Config
+    ensures { λ r. ⌜ r ≡ c-config tasks version withdrawn ⌝ }
+{
+    let g = state::config(tasks);
+    let h = state::with_version(g, version);
+    state::with_zero_withdrawn(h, withdrawn != 0)
+}
+
 // What a check of sound memory gives for task k, where c is record k mod 8: that record, or an idle one where there is no task k.
-fn known_sound(c: Task, k: u32) -> Checked
+pub fn known_sound(c: Task, k: u32) -> Checked
     ensures { λ r. ⌜ ((y : Machine) → length (y .state .task) ≡ 8 → c ≡ task-of y (k % 8) → r ≡ told true (task-of y k)) ⌝ }
 {
     if 8 <= k {
@@ -73,7 +82,7 @@ fn run_event(
 // Runs the first n events and writes their outputs. The state is changed in place, as `settle` of lines has it. Memory is sound before
 // the first event, and every event keeps it so: it is not scanned in between. A record is read from the state in place, which spares a copy
 // of all of them.
-fn run_events(
+pub fn run_events(
     s: State,
     n: usize,
     events: &[u32],
@@ -127,6 +136,8 @@ pub fn run(
         (schedule g (now (ns .entry)) (now (bs .entry)) (decoded (now (events .entry)) (now (outs .entry))) .outs)) ⌝ }
     ensures within { λ r. ⌜ (r .refusal ≡ 0 → StepsWithin none-begun (decoded (now (events .entry)) (now (outs .entry)))
         (schedule g (now (ns .entry)) (now (bs .entry)) (decoded (now (events .entry)) (now (outs .entry))) .outs)) ⌝ }
+    ensures never_8 { λ r. ⌜ (r .refusal ≡ 0
+        → NoEight (schedule g (now (ns .entry)) (now (bs .entry)) (decoded (now (events .entry)) (now (outs .entry))) .outs)) ⌝ }
 {
     let o = opening::open(g, ns, bs);
     let refusal = o.refusal;

@@ -2,7 +2,7 @@
 -- caller's words stay so from an opening on. Assumes nothing.
 use Prim.Native.Nat.{ℕ, zero, suc, _+_, _*_, _%_, min}
 use mathlib.Core.Path.{_≡_, refl, sym, ap, subst, _∙_}
-use mathlib.Core.Bool.{true, not}
+use mathlib.Core.Bool.{Bool, true, not}
 use mathlib.Core.List.{List, [], _∷_, map}
 use native.Mathlib.Nat.{mod-lt, min-le-right}
 use native.Mathlib.Omega.{arith}
@@ -27,31 +27,40 @@ use Rattle.laws.specs.AfterWrites.{Kept, apply-kept}
 use Rattle.state_words.specs.StateWords.{task-at, tasks-of-words, state-of-words, own-fits}
 use Rattle.state_words.specs.RoundTrip.{Stored}
 
--- ---- lists of tasks
+-- ---- lists of which every element passes a test, as what is past the end does
+
+module _ {A : Type 0} (test : A → Bool) (d : A) (past : test d ≡ true) where
+  abbrev pub Passes : List A → Type 0
+  Passes xs = (k : ℕ) → test (getD xs k d) ≡ true
+
+  pub passes-set : (xs : List A) (k : ℕ) (x : A) → test x ≡ true → Passes xs → Passes (set xs k x)
+  passes-set [] k x e h j = h j
+  passes-set (y ∷ ys) zero x e h zero = e
+  passes-set (y ∷ ys) zero x e h (suc j) = h (suc j)
+  passes-set (y ∷ ys) (suc k) x e h zero = h zero
+  passes-set (y ∷ ys) (suc k) x e h (suc j) = passes-set ys k x e (λ i. h (suc i)) j
+
+  pub passes-map : (f : ℕ → A) → ((i : ℕ) → test (f i) ≡ true) → (ks : List ℕ) → Passes (map f ks)
+  passes-map f h [] j = past
+  passes-map f h (k ∷ ks) zero = h k
+  passes-map f h (k ∷ ks) (suc j) = passes-map f h ks j
+
+  pub passes-copies : (n : ℕ) → Passes (replicate n d)
+  passes-copies zero j = past
+  passes-copies (suc n) zero = past
+  passes-copies (suc n) (suc j) = passes-copies n j
+
+-- ---- tasks
+
+abbrev own-test : Task → Bool
+own-test c = own-fits (c .own)
 
 abbrev OwnFit : List Task → Type 0
-OwnFit ts = (k : ℕ) → own-fits (getD ts k idle .own) ≡ true
+OwnFit ts = (k : ℕ) → own-test (getD ts k idle) ≡ true
 
-idle-own : own-fits (idle .own) ≡ true
+idle-own : own-test idle ≡ true
 unfolding own-fits idle
 idle-own = refl
-
-own-set : (ts : List Task) (k : ℕ) (c : Task) → own-fits (c .own) ≡ true → OwnFit ts → OwnFit (set ts k c)
-own-set [] k c e h j = h j
-own-set (x ∷ xs) zero c e h zero = e
-own-set (x ∷ xs) zero c e h (suc j) = h (suc j)
-own-set (x ∷ xs) (suc k) c e h zero = h zero
-own-set (x ∷ xs) (suc k) c e h (suc j) = own-set xs k c e (λ i. h (suc i)) j
-
-own-map : (f : ℕ → Task) → ((i : ℕ) → own-fits (f i .own) ≡ true) → (ks : List ℕ) → OwnFit (map f ks)
-own-map f h [] j = idle-own
-own-map f h (k ∷ ks) zero = h k
-own-map f h (k ∷ ks) (suc j) = own-map f h ks j
-
-own-idle : (n : ℕ) → OwnFit (replicate n idle)
-own-idle zero j = idle-own
-own-idle (suc n) zero = idle-own
-own-idle (suc n) (suc j) = own-idle n j
 
 -- ---- states
 
@@ -62,7 +71,7 @@ same-tasks e h =
       own-steps = subst OwnFit (sym e) (h .own-steps);
     }
 
-wraps : (n : ℕ) → own-fits (n % 65536) ≡ true
+pub wraps : (n : ℕ) → own-fits (n % 65536) ≡ true
 unfolding own-fits
 wraps n = let below = mod-lt n {m = 65536} (omega arith) in le-leb (n % 65536) 65535 (omega arith)
 
@@ -70,11 +79,11 @@ wraps n = let below = mod-lt n {m = 65536} (omega arith) in le-leb (n % 65536) 6
 pub words-stored : (w : List ℕ) → Stored (state-of-words w)
 unfolding state-of-words tasks-of-words task-at range
 words-stored w =
-    record { eight = refl; own-steps = own-map (λ k. task-at w (9 + 13 * k)) (λ k. wraps (getD w (9 + 13 * k + 5) 0)) (range 0 8) }
+    record { eight = refl; own-steps = passes-map own-test idle idle-own (λ k. task-at w (9 + 13 * k)) (λ k. wraps (getD w (9 + 13 * k + 5) 0)) (range 0 8) }
 
 pub opened-stored : (g : Config) (h b : ℕ) → Stored (state-of g h b)
 unfolding state-of
-opened-stored g h b = record { eight = refl; own-steps = own-idle 8 }
+opened-stored g h b = record { eight = refl; own-steps = passes-copies own-test idle idle-own 8 }
 
 pub opening-stored : (g : Config) (ns bs : List ℕ) → Stored (opening g ns bs .machine .state)
 unfolding opening not-opened fresh-machine
@@ -89,7 +98,11 @@ opening-stored g ns bs =
 
 put-stored : (y : Machine) (k : ℕ) (c : Task) → own-fits (c .own) ≡ true → Stored (y .state) → Stored (set-task k c y .state)
 unfolding set-task with-task with-state state-task
-put-stored y k c e h = record { eight = length-set (y .state .task) k c ∙ h .eight; own-steps = own-set (y .state .task) k c e (h .own-steps) }
+put-stored y k c e h =
+    record {
+      eight = length-set (y .state .task) k c ∙ h .eight;
+      own-steps = passes-set own-test idle idle-own (y .state .task) k c e (h .own-steps);
+    }
 
 started-own : (call : Call) (tag : ℕ) → own-fits (started call tag .own) ≡ true
 unfolding started fresh-task own-fits

@@ -30,27 +30,27 @@ module _ {A : Type 0} (d : A) where
   each [] = refl
   each (x ∷ xs) = ap (λ (r : List A). x ∷ r) (shifted x xs 0 (length xs) ∙ each xs)
 
-  each-of : (n : ℕ) (xs : List A) → length xs ≡ n → map (λ k. getD xs k d) (range 0 n) ≡ xs
+  pub each-of : (n : ℕ) (xs : List A) → length xs ≡ n → map (λ k. getD xs k d) (range 0 n) ≡ xs
   each-of n xs e = subst (λ (m : ℕ). map (λ k. getD xs k d) (range 0 m) ≡ xs) e (each xs)
 
 -- ---- truth values and own steps
 
-bit-truth : (n : ℕ) → bit-fits n ≡ true → bit (truth n) ≡ n
+pub bit-truth : (n : ℕ) → bit-fits n ≡ true → bit (truth n) ≡ n
 unfolding bit-fits
 bit-truth zero h = refl
 bit-truth (suc zero) h = refl
 bit-truth (suc (suc n)) h = let few = leb-true (suc (suc n)) _ h in absurd (omega arith)
 
-truth-bit : (b : Bool) → truth (bit b) ≡ b
+pub truth-bit : (b : Bool) → truth (bit b) ≡ b
 truth-bit true = refl
 truth-bit false = refl
 
-bit-small : (b : Bool) → bit-fits (bit b) ≡ true
+pub bit-small : (b : Bool) → bit-fits (bit b) ≡ true
 unfolding bit-fits
 bit-small true = refl
 bit-small false = refl
 
-own-again : (n : ℕ) → own-fits n ≡ true → n % 65536 ≡ n
+pub own-again : (n : ℕ) → own-fits n ≡ true → n % 65536 ≡ n
 unfolding own-fits
 own-again n h = let few = leb-true n _ h in mod-eq-of-lt (omega arith)
 
@@ -74,7 +74,7 @@ task-again w a h =
     let owns = own-again y (and-right (bit-fits x) (own-fits y) h) in
     ap (λ (n : ℕ). thirteen n (y % 65536) w a) runs ∙ ap (λ (n : ℕ). thirteen x n w a) owns
 
-same-joined : (f g : ℕ → List ℕ) (t : ℕ → Bool) → ((k : ℕ) → t k ≡ true → f k ≡ g k) → (ks : List ℕ) → every t ks ≡ true → concat-map f ks ≡ concat-map g ks
+pub same-joined : (f g : ℕ → List ℕ) (t : ℕ → Bool) → ((k : ℕ) → t k ≡ true → f k ≡ g k) → (ks : List ℕ) → every t ks ≡ true → concat-map f ks ≡ concat-map g ks
 unfolding concat-map every
 same-joined f g t h [] e = refl
 same-joined f g t h (k ∷ ks) e =
@@ -133,7 +133,7 @@ from-words c = rebuilt (truth (bit (c .running))) (c .own % 65536) c
 from-words-same : (c : Task) → own-fits (c .own) ≡ true → from-words c ≡ c
 from-words-same c h = ap (λ (r : Bool). rebuilt r (c .own % 65536) c) (truth-bit (c .running)) ∙ ap (λ (n : ℕ). rebuilt (c .running) n c) (own-again (c .own) h)
 
-map-same : {A : Type 0} (f g : ℕ → A) → ((k : ℕ) → f k ≡ g k) → (ks : List ℕ) → map f ks ≡ map g ks
+pub map-same : {A : Type 0} (f g : ℕ → A) → ((k : ℕ) → f k ≡ g k) → (ks : List ℕ) → map f ks ≡ map g ks
 map-same f g h [] = refl
 map-same {A} f g h (k ∷ ks) = ap (λ (x : A). x ∷ map f ks) (h k) ∙ ap (λ (r : List A). g k ∷ r) (map-same f g h ks)
 
@@ -160,7 +160,7 @@ state-again s h =
     ap (λ (b : Bool). state-with b (map f (range 0 8)) s) (truth-bit (s .config .«zero_withdrawn»))
     ∙ ap (λ (ts : List Task). state-with (s .config .«zero_withdrawn») ts s) tasks
 
-every-of : (f : ℕ → Bool) → ((k : ℕ) → f k ≡ true) → (ks : List ℕ) → every f ks ≡ true
+pub every-of : (f : ℕ → Bool) → ((k : ℕ) → f k ≡ true) → (ks : List ℕ) → every f ks ≡ true
 unfolding every
 every-of f h [] = refl
 every-of f h (k ∷ ks) = and-i (f k) (every f ks) (h k) (every-of f h ks)

@@ -2,16 +2,17 @@
 // has the numbers and the words.
 use lines::Moved;
 use spec::Output;
-use turns::Turn;
 ghost use mathlib.Core.Path.{_≡_};
 ghost use mathlib.Core.Bool.{true};
 ghost use mathlib.Core.List.{_∷_};
-ghost use Prim.Native.Nat.{_≤_};
+ghost use Prim.Native.Nat.{_+_, _*_, _≤_};
 ghost use lib.ListN.{length};
 ghost use Rattle.spec.specs.Numbers.{output-words};
+ghost use Rattle.spec.specs.Machine.{state-chosen};
+ghost use Rattle.spec.specs.Words.{overwrite};
 ghost use Rattle.lines.specs.Reply.{settled};
 ghost use Rattle.state_words.specs.StateWords.{state-words, state-of-words, state-fits};
-ghost use Rattle.yard_answers.specs.Answers.{open-number, out-number, out-left, turn-number, turn-left};
+ghost use Rattle.yard_answers.specs.Answers.{open-number, out-number, out-left};
 
 // An opening's number: 0, or 256 and the refusal's.
 pub fn open_number(why: u32) -> u32
@@ -45,28 +46,15 @@ pub fn put_output(out: &mut [u32], o: Output) -> u32
     n
 }
 
-// A task's number and its step's output.
-fn put_named(out: &mut [u32], k: u32, o: Output)
-    requires { ⌜ length (now out) ≡ 5 ⌝ }
-    ensures { λ _. ⌜ now (out .exit) ≡ k ∷ output-words o ⌝ }
+// A turn that named task k, the turn number i: the task's number and its step's output.
+pub fn put_named(out: &mut [u32], i: usize, k: u32, o: Output)
+    requires { ⌜ 5 * i + 5 ≤ length (now out) ⌝ }
+    ensures { λ _. ⌜ now (out .exit) ≡ overwrite (now (out .entry)) (5 * i) (k ∷ output-words o) ⌝ }
 {
-    schedule_words::write_output(&mut out[1..], 0, o);
-    out[0] = k;
-}
-
-// A turn's number, and its words if it names a task.
-pub fn put_turn(out: &mut [u32], x: Turn) -> u32
-    requires { ⌜ (length (now out) ≡ 5) × (turn-number x ≤ 511) ⌝ }
-    ensures { λ r. ⌜ (r ≡ turn-number x) × (now (out .exit) ≡ turn-left x (now (out .entry))) ⌝ }
-{
-    match x {
-        Turn::Idle => 0,
-        Turn::Of(k, o) => {
-            put_named(out, k, o);
-            1
-        }
-        Turn::Refused(why) => 256 + why,
-    }
+    let at = 5 * i;
+    let next = at + 1;
+    schedule_words::write_output(&mut out[next..], 0, o);
+    out[at] = k;
 }
 
 // The state's words after task k has moved so.
@@ -79,4 +67,13 @@ pub fn put_moved(w: &mut [u32], k: u32, m: Moved)
         let c = m.task;
         yard_words::put_changes(w, k, m.head, m.last_node, m.last_bucket, c);
     }
+}
+
+// The state's words after a turn in which task k has moved so.
+pub fn put_turned(w: &mut [u32], k: u32, m: Moved)
+    requires { ⌜ state-fits (now w) ≡ true ⌝ }
+    ensures { λ _. ⌜ now (w .exit) ≡ state-words (state-chosen k (settled (state-of-words (now (w .entry))) k m)) ⌝ }
+{
+    put_moved(w, k, m);
+    w[8] = k;
 }

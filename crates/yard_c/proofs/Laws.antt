@@ -1,10 +1,10 @@
 -- Laws of the calls for C: the numbers are small, and what an entry gave put together as the call's definition has it. Assumes nothing.
-use Prim.Native.Nat.{ℕ, _+_, _*_, _≤_, _<_}
+use Prim.Native.Nat.{ℕ, _+_, _*_, _/_, _≤_, _<_, min}
 use mathlib.Core.Path.{_≡_, refl, sym, ap, subst, _∙_}
-use mathlib.Core.Bool.{Bool, true, false, _&&_}
+use mathlib.Core.Bool.{true, false, _&&_}
 use mathlib.Core.List.{List, [], _∷_}
 use native.Mathlib.Omega.{arith}
-use borrow.Author.Tests.{eqb-true, eq-eqb, ne-eqb, ltb-true}
+use borrow.Author.Tests.{eq-eqb, ne-eqb, ltb-true}
 use lib.Dec.{eqb, ltb}
 use lib.ListN.{length, set}
 use Rattle.spec.specs.declared.Call.{Call}
@@ -13,24 +13,32 @@ use Rattle.spec.specs.declared.State.{State}
 use Rattle.spec.specs.declared.Listing.{Listing}
 use Rattle.spec.specs.declared.Output.{Output}
 use Rattle.spec.specs.declared.Output.the-variants.{At, End, Refuse}
-use Rattle.spec.specs.Machine.{Machine, machine-of}
+use Rattle.spec.specs.Machine.{Machine, machine-of, state-chosen}
 use Rattle.spec.specs.Sound.{bucket-count, sound}
-use Rattle.spec.specs.Words.{tags}
+use Rattle.spec.specs.Lists.{concat-map}
+use Rattle.spec.specs.Numbers.{output-words}
+use Rattle.spec.specs.Words.{tags, overwrite}
+use Rattle.spec.specs.Schedule.{run}
 use Rattle.spec.specs.Entries.{opening, Reply, start, step, list, show}
-use Rattle.laws.specs.Tests.{and2, and-i, choose}
+use Rattle.laws.specs.Tests.{and2, choose}
 use Rattle.laws.specs.Soundness.{sound-facts}
 use Rattle.turns.specs.declared.Turn.{Turn}
 use Rattle.turns.specs.declared.Turn.the-variants.{Idle, Of, Refused}
-use Rattle.turns.specs.Turn.{turn}
+use Rattle.turns.specs.Turn.{gives, turn}
 use Rattle.corollaries.specs.Tables.{StartRefused, is-8, is-4, is-5, is-14, start-refused, StepRefused, is-6, is-8-step, is-7, step-refused}
-use Rattle.corollaries.specs.Turns.{turn-names-none}
 use Rattle.line_moves.specs.declared.Moved.{Moved}
 use Rattle.lines.specs.Reply.{settled, moved-reply}
-use Rattle.schedule_events.specs.Events.{listing-number}
+use Rattle.schedule_events.specs.Events.{listing-number, events-of}
+use Rattle.schedule.specs.Encoding.{decoded, room-for}
 use Rattle.state_words.specs.StateWords.{state-words, state-of-words, state-fits}
+use Rattle.state_words.specs.RoundTrip.{words-again}
+use Rattle.yard_answers.proofs.Laws.{over-five}
 use Rattle.yard_answers.specs.Answers.{open-number, out-number, out-left, turn-number, turn-left}
+use Rattle.yard_answers.specs.CallLaws.{Ready, ready-test, one-word}
+use Rattle.dispatch_turns.specs.Turns.{written, turns-written}
 use Rattle.yard_c.specs.Calls.{called, c-reply, machine-in}
 use Rattle.yard_c.specs.Calls.{c-open, c-start, c-step, c-turn, c-list, c-show}
+use Rattle.yard_c.specs.Runs.{c-run, c-turns}
 
 -- ---- refusals have small numbers
 
@@ -58,31 +66,6 @@ start-small y k call tag = small-out (start y k call tag .out) (λ r e. start-le
 
 pub step-small : (y : Machine) (k : ℕ) → out-number (step y k .out) ≤ 511
 step-small y k = small-out (step y k .out) (λ r e. step-least (step-refused y k r .0 e))
-
-pub turn-small : (y : Machine) → turn-number (turn y .says) ≤ 511
-unfolding turn-number
-turn-small y = go (turn y .says) (λ r e. turn-names-none y r .0 e .0)
-  where
-    go : (x : Turn) → ((r : ℕ) → x ≡ Refused r → r ≡ 8) → turn-number x ≤ 511
-    go Idle h = omega arith
-    go (Of k o) h = omega arith
-    go (Refused r) h = let e = h r refl in omega arith
-
--- ---- words that a call may go by: a state's, and as many for the answer as it has
-
-pub record Ready (w out : List ℕ) (n : ℕ) : Type 0 where
-  pub fits : state-fits w ≡ true
-  pub room : length out ≡ n
-
-module _ (w out : List ℕ) (n : ℕ) (b : Bool) (e : b ≡ state-fits w) where
-  pub tested : {t : Bool} → (b && eqb (length out) n) ≡ t → (state-fits w && eqb (length out) n) ≡ t
-  tested h = ap (λ (x : Bool). x && eqb (length out) n) (sym e) ∙ h
-
-  pub ready : (b && eqb (length out) n) ≡ true → Ready w out n
-  ready h = let p = and2 (state-fits w) (eqb (length out) n) (tested h) in record { fits = p .0; room = eqb-true (length out) n (p .1) }
-
-ready-test : {w out : List ℕ} {n : ℕ} → Ready w out n → (state-fits w && eqb (length out) n) ≡ true
-ready-test {w} {out} {n} h = and-i (state-fits w) (eqb (length out) n) (h .fits) (eq-eqb (length out) n (h .room))
 
 -- ---- the calls
 
@@ -114,7 +97,7 @@ module _ (w out ns bs : List ℕ) where
   unfolding c-start
   start-spoilt call k tag h = rw h
 
-  pub start-called : (call : Call) (k tag : ℕ) → Ready w out 4 → c-reply (start y k call tag) out ≡ c-start call w k tag ns bs out
+  pub start-called : (call : Call) (k tag : ℕ) → Ready state-fits w out 4 → c-reply (start y k call tag) out ≡ c-start call w k tag ns bs out
   unfolding c-start
   start-called call k tag h = rw (ready-test h)
 
@@ -122,7 +105,7 @@ module _ (w out ns bs : List ℕ) where
   unfolding c-step
   step-spoilt k h = rw h
 
-  pub step-called : (k : ℕ) → Ready w out 4 → c-reply (step y k) out ≡ c-step w k ns bs out
+  pub step-called : (k : ℕ) → Ready state-fits w out 4 → c-reply (step y k) out ≡ c-step w k ns bs out
   unfolding c-step
   step-called k h = rw (ready-test h)
 
@@ -130,11 +113,42 @@ module _ (w out ns bs : List ℕ) where
   unfolding c-turn
   turn-spoilt h = rw h
 
-  pub turn-called : Ready w out 5 → (x : Turn) (s : State) (ns′ bs′ : List ℕ) → record { says = x; machine = machine-of s ns′ bs′ } ≡ turn y
+  turn-called : Ready state-fits w out 5 → (x : Turn) (s : State) (ns′ bs′ : List ℕ) → record { says = x; machine = machine-of s ns′ bs′ } ≡ turn y
       → (r : ℕ) → r ≡ turn-number x → (w′ : List ℕ) → w′ ≡ state-words s → (out′ : List ℕ) → out′ ≡ turn-left x out
       → called r w′ ns′ bs′ out′ ≡ c-turn w ns bs out
   unfolding c-turn
   turn-called h x s ns′ bs′ gave r number w′ words out′ answer = rw (ready-test h, ← gave, number, words, answer)
+
+  -- by what the turn says on the state s that the words are: nothing runs, or memory is spoilt, or a task is named
+  module _ (h : Ready state-fits w out 5) (s : State) (is : s ≡ state-of-words w) where
+    turn-keeps : (ns′ bs′ : List ℕ) (x : Turn) → gives x (machine-of s ns′ bs′) ≡ turn (machine-of s ns bs)
+        → (out′ : List ℕ) → out′ ≡ turn-left x out → called (turn-number x) w ns′ bs′ out′ ≡ c-turn w ns bs out
+    turn-keeps ns′ bs′ x gave out′ answer =
+        let words = sym (words-again w (h .is-state)) ∙ ap state-words (sym is) in
+        turn-called h x s ns′ bs′ (gave ∙ ap (λ (z : State). turn (machine-of z ns bs)) is) (turn-number x) refl w words out′ answer
+
+    pub turn-idle : gives Idle (machine-of s ns bs) ≡ turn (machine-of s ns bs) → called 0 w ns bs out ≡ c-turn w ns bs out
+    unfolding turn-number turn-left
+    turn-idle gave = turn-keeps ns bs Idle gave out refl
+
+    pub turn-eight : (ns′ bs′ : List ℕ) → gives (Refused 8) (machine-of s ns′ bs′) ≡ turn (machine-of s ns bs) → called 264 w ns′ bs′ out ≡ c-turn w ns bs out
+    unfolding turn-number turn-left
+    turn-eight ns′ bs′ gave = turn-keeps ns′ bs′ (Refused 8) gave out refl
+
+    pub turn-unused : (ns′ bs′ : List ℕ) (k : ℕ) (o : Output) → gives (Of k o) (machine-of s ns′ bs′) ≡ turn (machine-of s ns bs)
+        → (out′ : List ℕ) → out′ ≡ overwrite out 0 (k ∷ output-words o) → called 1 w ns′ bs′ out′ ≡ c-turn w ns bs out
+    unfolding turn-number turn-left
+    turn-unused ns′ bs′ k o gave out′ answer = turn-keeps ns′ bs′ (Of k o) gave out′ (answer ∙ over-five out k o (h .room))
+
+    pub turn-used : (ns′ bs′ : List ℕ) (k : ℕ) (m : Moved)
+        → gives (Of k (m .out)) (machine-of (state-chosen k (settled s k m)) ns′ bs′) ≡ turn (machine-of s ns bs)
+        → (w′ : List ℕ) → w′ ≡ state-words (state-chosen k (settled (state-of-words w) k m))
+        → (out′ : List ℕ) → out′ ≡ overwrite out 0 (k ∷ output-words (m .out)) → called 1 w′ ns′ bs′ out′ ≡ c-turn w ns bs out
+    unfolding turn-number turn-left
+    turn-used ns′ bs′ k m gave w′ words out′ answer =
+        let Gave : State → Type 0 = λ z. gives (Of k (m .out)) (machine-of (state-chosen k (settled z k m)) ns′ bs′) ≡ turn (machine-of z ns bs) in
+        turn-called h (Of k (m .out)) (state-chosen k (settled (state-of-words w) k m)) ns′ bs′ (subst Gave is gave) 1 refl w′ words out′
+        (answer ∙ over-five out k (m .out) (h .room))
 
   pub list-spoilt : state-fits w ≡ false → called 264 w ns bs out ≡ c-list w ns bs out
   unfolding c-list
@@ -145,22 +159,50 @@ module _ (w out ns bs : List ℕ) where
   unfolding c-list
   list-called h l says out′ words r number = rw (h, number, says, words)
 
+  -- ---- many events, many turns
+
+  pub run-spoilt : (events : List ℕ) → state-fits w ≡ false → called 264 w ns bs out ≡ c-run w ns bs events out
+  unfolding c-run
+  run-spoilt events h = rw h
+
+  pub run-unsound : (events : List ℕ) → state-fits w ≡ true → sound y ≡ false → called 264 w ns bs out ≡ c-run w ns bs events out
+  unfolding c-run
+  run-unsound events h g = rw (h, g)
+
+  pub run-called : (events : List ℕ) → state-fits w ≡ true → sound y ≡ true → (n : ℕ) → n ≡ min (length events / 4) (length out / 4)
+      → (t : State) (ns′ bs′ out′ : List ℕ) → machine-of t ns′ bs′ ≡ run y (events-of n events) .machine
+      → out′ ≡ overwrite out 0 (concat-map output-words (run y (events-of n events) .outs))
+      → (w′ : List ℕ) → w′ ≡ state-words t → called 0 w′ ns′ bs′ out′ ≡ c-run w ns bs events out
+  unfolding c-run decoded room-for
+  run-called events h g n m t ns′ bs′ out′ e o w′ words = rw (h, g, ← m, ← e, o, words)
+
+  pub turns-spoilt : state-fits w ≡ false → called 264 w ns bs out ≡ c-turns w ns bs out
+  unfolding c-turns
+  turns-spoilt h = rw h
+
+  pub turns-unsound : state-fits w ≡ true → sound y ≡ false → called 264 w ns bs out ≡ c-turns w ns bs out
+  unfolding c-turns
+  turns-unsound h g = rw (h, g)
+
+  pub turns-called : state-fits w ≡ true → sound y ≡ true → (n : ℕ) → n ≡ min 255 (length out / 5)
+      → (m : ℕ) (t : State) (ns′ bs′ out′ : List ℕ) → written m (machine-of t ns′ bs′) out′ ≡ turns-written n y out
+      → (w′ : List ℕ) → w′ ≡ state-words t → called m w′ ns′ bs′ out′ ≡ c-turns w ns bs out
+  unfolding c-turns
+  turns-called h g n e m t ns′ bs′ out′ gave w′ words = rw (h, g, ← e, ← gave, words)
+
+  -- ---- show
+
   pub show-spoilt : (k : ℕ) → (state-fits w && eqb (length out) 1) ≡ false → called 0 w ns bs out ≡ c-show w k ns bs out
   unfolding c-show
   show-spoilt k h = rw h
 
-  pub show-none : (k : ℕ) → Ready w out 1 → length (show y k) ≡ 0 → called 0 w ns bs out ≡ c-show w k ns bs out
+  pub show-none : (k : ℕ) → Ready state-fits w out 1 → length (show y k) ≡ 0 → called 0 w ns bs out ≡ c-show w k ns bs out
   unfolding c-show
   show-none k h e = rw (ready-test h, e)
 
-  pub show-some : (k : ℕ) → Ready w out 1 → ¬ (length (show y k) ≡ 0) → called (length (show y k)) w ns bs (set out 0 (66 * k + 2)) ≡ c-show w k ns bs out
+  pub show-some : (k : ℕ) → Ready state-fits w out 1 → ¬ (length (show y k) ≡ 0) → called (length (show y k)) w ns bs (set out 0 (66 * k + 2)) ≡ c-show w k ns bs out
   unfolding c-show
   show-some k h d = rw (ready-test h, ne-eqb _ 0 d) (ap (λ (v : List ℕ). called (length (show y k)) w ns bs v) (one-word out (66 * k + 2) (h .room)))
-    where
-      one-word : (v : List ℕ) (n : ℕ) → length v ≡ 1 → set v 0 n ≡ n ∷ []
-      one-word [] n e = absurd (omega arith)
-      one-word (x ∷ []) n e = refl
-      one-word (x ∷ (z ∷ zs)) n e = absurd (omega arith)
 
 -- a bucket that has tags to show is one of the pool, and has at most 64
 pub shown-few : (y : Machine) (k : ℕ) → ¬ (length (show y k) ≡ 0) → (k < 1024) × (length (show y k) ≤ 64)

@@ -9,7 +9,7 @@ use lib.ListN.{length}
 use Rattle.spec.specs.declared.Call.{Call}
 use Rattle.spec.specs.declared.Config.{Config}
 use Rattle.spec.specs.Lists.{if_then_else_}
-use Rattle.spec.specs.Machine.{Machine, machine-of, config-of, with-version, with-zero-withdrawn}
+use Rattle.spec.specs.Machine.{Machine, machine-of}
 use Rattle.spec.specs.Entries.{opening, Reply, start, step, list, show}
 use Rattle.turns.specs.Turn.{turn}
 use Rattle.schedule_events.specs.Events.{listing-number}
@@ -32,10 +32,6 @@ abbrev pub machine-in : List ℕ → List ℕ → List ℕ → Machine
 machine-in w ns bs = machine-of (state-of-words w) ns bs
 
 -- ---- opening: the state's words need not have been a state's
-
--- T, the version, and the rule for tag 0: 0 the old one, any other number the new one
-abbrev pub c-config : ℕ → ℕ → ℕ → Config
-c-config t v z = with-zero-withdrawn (not (eqb z 0)) (with-version v (config-of t))
 
 unfoldable pub c-open : Config → List ℕ → List ℕ → List ℕ → Called
 c-open g w ns bs =

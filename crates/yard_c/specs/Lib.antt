@@ -1,4 +1,7 @@
 pub mod Calls
-pub mod Whole
+pub mod Runs
 pub mod Unchanged
 pub mod Fits
+pub mod OneByOne
+pub mod RefusedTurns
+pub mod Numbers

@@ -1,7 +1,7 @@
 -- "A refusal gives only its number; state and slices keep every word", for the calls of C: a number of 256 or more leaves the words of the state, of both
 -- pools and of the answer as they were. "A refused opening gives a state of all zeros." A list and a show change no word of the state and the pools.
 -- Assumes nothing.
-use Prim.Native.Nat.{ℕ, _+_, _≤_}
+use Prim.Native.Nat.{ℕ, _+_, _/_, _≤_, min}
 use mathlib.Core.Path.{_≡_, refl, ap, _∙_}
 use mathlib.Core.Bool.{true, not, _&&_, _||_}
 use mathlib.Core.List.{List, []}
@@ -28,7 +28,10 @@ use Rattle.schedule_events.specs.Events.{listing-number}
 use Rattle.state_words.specs.StateWords.{state-words, state-fits}
 use Rattle.state_words.specs.RoundTrip.{words-again}
 use Rattle.yard_answers.specs.Answers.{open-number, out-number, out-left, turn-number, turn-left}
+use Rattle.yard_answers.specs.CallLaws.{opens-with-0}
+use Rattle.dispatch_turns.specs.Turns.{turns-most, turns-written}
 use Rattle.yard_c.specs.Calls.{Called, called, machine-in, c-open, c-reply, c-start, c-step, c-turn, c-list, c-show}
+use Rattle.yard_c.specs.Runs.{c-run, c-turns}
 
 -- ---- start, step and turn
 
@@ -85,6 +88,19 @@ module _ (w ns bs out : List ℕ) where
       go fits (Of k o) z same h = absurd (omega arith)
       go fits (Refused r) z same h = same-machine fits (256 + r) z (same r refl)
 
+  -- ---- many events: where they are run the number is 0, and each refusal among the outputs changed nothing but its four words
+
+  pub refused-run-keeps : (events : List ℕ) → 256 ≤ c-run w ns bs events out .number → Kept (c-run w ns bs events out)
+  unfolding c-run
+  refused-run-keeps events =
+      choose KeptIfRefused (not (state-fits w && sound y)) _ _ (λ p h. refl) (λ p h. absurd (omega arith))
+
+  pub refused-turns-keep : 256 ≤ c-turns w ns bs out .number → Kept (c-turns w ns bs out)
+  unfolding c-turns turns-written
+  refused-turns-keep =
+      choose KeptIfRefused (not (state-fits w && sound y)) _ _ (λ p h. refl) (λ p h.
+      let n = min 255 (length out / 5) in let most = turns-most n y in absurd (omega arith))
+
   -- ---- list and show
 
   refused-list : 256 ≤ listing-number (list y out .says) → list y out .words ≡ out
@@ -117,10 +133,6 @@ module _ (w ns bs out : List ℕ) where
 zero-words : state-words (state-of zero-config 0 0) ≡ replicate 113 0
 unfolding state-words state-of idle concat-map range
 zero-words = refl
-
-opens-with-0 : (r : ℕ) → 256 ≤ open-number r → ¬ (r ≡ 0)
-unfolding open-number
-opens-with-0 r h e = let z : 256 ≤ 0 = rw e at h in omega arith
 
 module _ (g : Config) (w ns bs : List ℕ) where
   abbrev o : Opened

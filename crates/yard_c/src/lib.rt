@@ -1,27 +1,18 @@
-// The yard set for C: one call at a time, and a whole schedule, over words that the caller lends: the state's 113 words, both pools, and the answer's
-// words. include/yard.h has the layout and the numbers, specs/Calls and specs/Whole what each call gives and leaves.
+// The yard set for C: one call at a time, and many turns in one call, over words that the caller lends: the state's 113 words, both
+// pools, and the answer's words. include/yard.h has the layout and the numbers, specs/Calls and specs/Runs what each call gives and leaves.
 use spec::Call;
-use spec::Config;
 ghost use mathlib.Core.Path.{_≡_};
 ghost use mathlib.Core.List.{[]};
+ghost use Prim.Native.Nat.{_/_, min};
 ghost use Rattle.spec.specs.declared.Call.the-variants.{Insert, Remove, Contains, Grow, Shrink};
-ghost use Rattle.schedule.specs.Encoding.{run-words};
-ghost use Rattle.yard_c.specs.Calls.{called, c-config, c-open, c-start, c-step, c-turn, c-list, c-show};
-ghost use Rattle.yard_c.specs.Whole.{c-result, c-result-of};
+ghost use Rattle.schedule.specs.Encoding.{c-config};
+ghost use Rattle.yard_c.specs.Calls.{called, c-open, c-start, c-step, c-turn, c-list, c-show};
+ghost use Rattle.yard_c.specs.Runs.{c-turns};
 
 // 256 and the number of refusal 8.
 const SPOILT: u32 = 264;
 
 // ---- opening
-
-// What an opening of C is given.
-pub fn config(tasks: u32, version: u32, withdrawn: u32) -> Config
-    ensures { λ r. ⌜ r ≡ c-config tasks version withdrawn ⌝ }
-{
-    let g = state::config(tasks);
-    let h = state::with_version(g, version);
-    state::with_zero_withdrawn(h, withdrawn != 0)
-}
 
 // Opens the set on both pools and writes the state's words.
 #[no_mangle]
@@ -39,7 +30,7 @@ pub extern "C" fn yard_open(
     if w.len() != yard_words::STATE_WORDS {
         return SPOILT;
     }
-    let g = config(tasks, version, withdrawn);
+    let g = schedule::config(tasks, version, withdrawn);
     let o = opening::open(g, ns, bs);
     let s = o.state;
     yard_words::put_state(w, s);
@@ -170,7 +161,8 @@ pub extern "C" fn yard_step(
     yard_answers::put_output(out, o)
 }
 
-// One turn of the dispatcher.
+// One turn of the dispatcher, as `turn` of dispatch has it: memory is looked through a second time only after an 8, which is the step's in sound memory
+// and the turn's own in spoilt memory. Only the words that change are written.
 #[no_mangle]
 pub extern "C" fn yard_turn(w: &mut [u32], ns: &mut [u32], bs: &mut [u32], out: &mut [u32]) -> u32
     ensures { λ r. ⌜ called r (now (w .exit)) (now (ns .exit)) (now (bs .exit)) (now (out .exit))
@@ -181,11 +173,26 @@ pub extern "C" fn yard_turn(w: &mut [u32], ns: &mut [u32], bs: &mut [u32], out: 
         return SPOILT;
     }
     let s = yard_words::state_of_words(w);
-    let d = dispatch::turn(s, ns, bs);
-    let z = d.state;
-    yard_words::put_state(w, z);
-    let x = d.says;
-    yard_answers::put_turn(out, x)
+    let l = dispatch::next_task(s);
+    if l == 0 {
+        if soundness::sound(s, ns, bs) {
+            return 0;
+        }
+        return SPOILT;
+    }
+    let k = l - 1;
+    let m = hashset::moved_by_step(s, k, ns, bs);
+    let o = m.out;
+    if dispatch::uses_turn(o) {
+        yard_answers::put_turned(w, k, m);
+        yard_answers::put_named(out, 0, k, o);
+        return 1;
+    }
+    if !soundness::sound(s, ns, bs) {
+        return SPOILT;
+    }
+    yard_answers::put_named(out, 0, k, o);
+    1
 }
 
 // ---- list and show
@@ -224,26 +231,33 @@ pub extern "C" fn yard_show(w: &[u32], k: u32, ns: &[u32], bs: &[u32], out: &mut
     n as u32
 }
 
-// ---- a whole schedule
+// ---- many turns
 
-// Opens, runs the events that have room for their outputs, and lists. Gives the number of tags listed, or 256 and the refusal's number.
-#[no_mangle]
-pub extern "C" fn schedule_run(
-    tasks: u32,
-    version: u32,
-    withdrawn: u32,
-    ns: &mut [u32],
-    bs: &mut [u32],
-    events: &[u32],
-    outs: &mut [u32],
-    tags: &mut [u32],
-) -> u32
-    ensures { λ r. ⌜ c-result r (now (ns .exit)) (now (bs .exit)) (now (outs .exit)) (now (tags .exit))
-        ≡ c-result-of (run-words (c-config tasks version withdrawn) (now (ns .entry)) (now (bs .entry))
-        (now (events .entry)) (now (outs .entry)) (now (tags .entry))) ⌝ }
+// How many turns have room for their words; a number of turns is below that of every refusal.
+fn turns_room(n: usize) -> usize
+    ensures { λ r. ⌜ r ≡ min 255 (n / 5) ⌝ }
 {
-    let g = config(tasks, version, withdrawn);
-    let o = schedule::run(g, ns, bs, events, outs, tags);
-    let l = o.listing;
-    schedule_events::listing_number(l)
+    let most = n / 5;
+    if most < 255 { most } else { 255 }
+}
+
+// Takes the turns that have room for their words, up to the first that finds nothing to run. Memory is looked through once, before the first of them.
+#[no_mangle]
+pub extern "C" fn yard_turns(w: &mut [u32], ns: &mut [u32], bs: &mut [u32], outs: &mut [u32]) -> u32
+    ensures { λ r. ⌜ called r (now (w .exit)) (now (ns .exit)) (now (bs .exit)) (now (outs .exit))
+        ≡ c-turns (now (w .entry)) (now (ns .entry)) (now (bs .entry)) (now (outs .entry)) ⌝ }
+{
+    if !yard_words::state_fits(w) {
+        return SPOILT;
+    }
+    let s = yard_words::state_of_words(w);
+    if !soundness::sound(s, ns, bs) {
+        return SPOILT;
+    }
+    let n = turns_room(outs.len());
+    let r = dispatch_turns::run_turns(s, n, ns, bs, outs);
+    let t = r.state;
+    yard_words::put_state(w, t);
+    let m = r.turns;
+    m as u32
 }

@@ -101,7 +101,8 @@ pub fn state_fits(w: &[u32]) -> bool
     (w[2] <= 1) & a
 }
 
-fn bit(b: bool) -> u32
+// A truth value's word.
+pub fn bit(b: bool) -> u32
     ensures { λ r. ⌜ r ≡ bit b ⌝ }
 {
     if b { 1 } else { 0 }

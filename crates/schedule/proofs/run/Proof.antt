@@ -1,12 +1,11 @@
 -- `run` gives what `run-words` gives, by `not-run` after a refused opening and `all-run` after an accepted one; that the schedule which
--- it ran is linearizable, and its contains end with three or five own steps, are theorems of the crate linear, and that its calls make
--- no more steps than U12 allows is one of the crate pace.
--- Assumes nothing.
+-- it ran is linearizable, its contains end with three or five own steps, and none of it is refused with 8, are theorems of the crate linear,
+-- and that its calls make no more steps than U12 allows is one of the crate pace. Assumes nothing.
 use denote.Ref.{now}
 use Rattle.schedule.specs.Encoding.{room-for, decoded}
 use native.Mathlib.Omega.{arith}
 use Rattle.laws.specs.OpeningSound.{opening-sound}
-use Rattle.linear.specs.Theorems.{linearizable, contains-exact}
+use Rattle.linear.specs.Theorems.{linearizable, contains-exact, never-8}
 use Rattle.pace.specs.Theorems.{steps-within}
 use mathlib.Core.Path.{sym, _∙_}
 use Rattle.schedule.proofs.Laws.{not-run, all-run}
@@ -38,7 +37,7 @@ returns c =
     let o = at-open .«open» .ensures in
     let d = c .if1 .taken in (
       not-run (a .g) (now (a .ns)) (now (a .bs)) (now (a .events)) (now (a .outs)) (now (a .tags)) _ (o .0) _ (o .1) d,
-      (λ z. absurd (d z), (λ z. absurd (d z), λ z. absurd (d z))),
+      (λ z. absurd (d z), (λ z. absurd (d z), (λ z. absurd (d z), λ z. absurd (d z)))),
     )
 
 number-of-events-requires : tie.Need-number-of-events-requires
@@ -86,7 +85,10 @@ returns-2 c =
       all-run (a .g) (now (a .ns)) (now (a .bs)) (now (a .events)) (now (a .outs)) (now (a .tags)) _ (o .0) _ (o .1) z _ n _ (r .0) _ (r .1) _ (l .0) _ (l .1),
       (
         λ e. linearizable (a .g) (now (a .ns)) (now (a .bs)) ok es,
-        (λ e. contains-exact (a .g) (now (a .ns)) (now (a .bs)) ok es, λ e. steps-within (a .g) (now (a .ns)) (now (a .bs)) ok es),
+        (
+          λ e. contains-exact (a .g) (now (a .ns)) (now (a .bs)) ok es,
+          (λ e. steps-within (a .g) (now (a .ns)) (now (a .bs)) ok es, λ e. never-8 (a .g) (now (a .ns)) (now (a .bs)) ok es),
+        ),
       ),
     )
 

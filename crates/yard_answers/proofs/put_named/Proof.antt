@@ -1,16 +1,26 @@
 -- `put_named` meets its contract: four words from the second on, and the first. Assumes nothing.
-use Prim.Native.Nat.{ℕ}
-use mathlib.Core.Path.{ap, _∙_}
+use Prim.Native.Nat.{ℕ, suc, _+_, _*_}
+use mathlib.Core.Path.{_≡_, ap, _∙_}
 use mathlib.Core.List.{List}
 use denote.Ref.{now}
 use lib.ListN.{set}
 use Rattle.spec.specs.Numbers.{output-words}
 use Rattle.spec.specs.Words.{overwrite}
 use Rattle.pool.proofs.Part.{rest, back}
-use Rattle.yard_answers.proofs.Laws.{over-five}
+use Rattle.yard_answers.proofs.Laws.{over-next}
+use native.Mathlib.Omega.{arith}
 use borrow.Author.Needs.{needs}
 use Rattle.yard_answers.proofs.put_named.Statement.{statement}
 use Rattle.yard_answers.proofs.put_named.Tie as tie
+
+mul-at : tie.Need-mul-at
+mul-at c = search needs
+
+add-next : tie.Need-add-next
+add-next c = search needs
+
+mul-write-output : tie.Need-mul-write-output
+mul-write-output c = search needs
 
 sub-write-output : tie.Need-sub-write-output
 sub-write-output c = search needs
@@ -23,6 +33,9 @@ part-write-output-end c = search needs
 
 write-output-requires : tie.Need-write-output-requires
 write-output-requires c κs = search needs
+
+mul-out : tie.Need-mul-out
+mul-out c = search needs
 
 slice-write-out : tie.Need-slice-write-out
 slice-write-out c = search needs
@@ -37,17 +50,23 @@ returns c =
     let a = entry .args in
     let out = now (a .out) in
     let v = output-words (a .o) in
-    let e = at-write .write-output .ensures ∙ ap (λ (u : List ℕ). overwrite u 0 v) (rest out 1) in
-    ap (λ (u : List ℕ). set u 0 (a .k)) (back out 1 v (at-write .write-output .last .0) e) ∙ over-five out (a .k) (a .o) (entry .pre)
+    let e = at-write .write-output .ensures ∙ ap (λ (u : List ℕ). overwrite u 0 v) (rest out (5 * a .i + 1)) in
+    let at = 5 * a .i in
+    let n : at + 1 ≡ suc at = omega arith in
+    ap (λ (u : List ℕ). set u at (a .k)) (back out (at + 1) v (at-write .write-output .last .0) e) ∙ rw n (over-next out at (a .k) v (omega arith))
 
 pub put-named-spec : {M : Type 1} → statement M
 put-named-spec =
     tie.close
     (tie.spec
+    mul-at
+    add-next
+    mul-write-output
     sub-write-output
     part-write-output-start
     part-write-output-end
     write-output-requires
+    mul-out
     slice-write-out
     same-length
     returns)

@@ -8,7 +8,9 @@ use Rattle.spec.specs.Machine.{machine-of}
 use Rattle.spec.specs.Entries.{Reply, start}
 use Rattle.state_words.specs.RoundTrip.{fits-long}
 use Rattle.yard_answers.specs.Answers.{out-number}
-use Rattle.yard_c.proofs.Laws.{start-small, ready, tested, moved-called, start-called, start-spoilt}
+use Rattle.state_words.specs.StateWords.{state-fits}
+use Rattle.yard_answers.specs.CallLaws.{ready, tested}
+use Rattle.yard_c.proofs.Laws.{start-small, moved-called, start-called, start-spoilt}
 use borrow.Author.Needs.{needs}
 use Rattle.yard_c.proofs.started.Statement.{statement}
 use Rattle.yard_c.proofs.started.Tie as tie
@@ -28,15 +30,15 @@ returns c =
     let out = now (a .out) in
     let ns = now (a .ns) in
     let bs = now (a .bs) in
-    start-spoilt w out ns bs (a .call) (a .k) (a .tag) (tested w out 4 _ (at-fits .state-fits .ensures) (not-true _ (c .if1 .taken)))
+    start-spoilt w out ns bs (a .call) (a .k) (a .tag) (tested state-fits w out 4 _ (at-fits .state-fits .ensures) (not-true _ (c .if1 .taken)))
 
 state-of-words-requires : tie.Need-state-of-words-requires
 state-of-words-requires c κs =
     let at-if = c .before in
     let at-fits = at-if .before in
     let entry = at-fits .before .before .before .before .before .before in
-    let ready-now = ready (now (entry .args .w)) (now (entry .args .out)) 4 _ (at-fits .state-fits .ensures) (not-false _ (at-if .if1 .left)) in
-    fits-long _ (ready-now .fits)
+    let ready-now = ready state-fits (now (entry .args .w)) (now (entry .args .out)) 4 _ (at-fits .state-fits .ensures) (not-false _ (at-if .if1 .left)) in
+    fits-long _ (ready-now .is-state)
 
 moved-by-start-requires : tie.Need-moved-by-start-requires
 moved-by-start-requires c κs = search needs
@@ -46,8 +48,8 @@ put-moved-requires c κs =
     let at-if = c .before .before .before .before in
     let at-fits = at-if .before in
     let entry = at-fits .before .before .before .before .before .before in
-    let ready-now = ready (now (entry .args .w)) (now (entry .args .out)) 4 _ (at-fits .state-fits .ensures) (not-false _ (at-if .if1 .left)) in
-    ready-now .fits
+    let ready-now = ready state-fits (now (entry .args .w)) (now (entry .args .out)) 4 _ (at-fits .state-fits .ensures) (not-false _ (at-if .if1 .left)) in
+    ready-now .is-state
 
 put-output-requires : tie.Need-put-output-requires
 put-output-requires c κs =
@@ -56,7 +58,7 @@ put-output-requires c κs =
     let at-if = at-state .before .before in
     let at-fits = at-if .before in
     let entry = at-fits .before .before .before .before .before .before in
-    let ready-now = ready (now (entry .args .w)) (now (entry .args .out)) 4 _ (at-fits .state-fits .ensures) (not-false _ (at-if .if1 .left)) in
+    let ready-now = ready state-fits (now (entry .args .w)) (now (entry .args .out)) 4 _ (at-fits .state-fits .ensures) (not-false _ (at-if .if1 .left)) in
     let a = entry .args in
     let ns = now (a .ns) in
     let bs = now (a .bs) in
@@ -85,7 +87,7 @@ returns-2 c =
     let at-if = at-state .before .before in
     let at-fits = at-if .before in
     let entry = at-fits .before .before .before .before .before .before in
-    let ready-now = ready (now (entry .args .w)) (now (entry .args .out)) 4 _ (at-fits .state-fits .ensures) (not-false _ (at-if .if1 .left)) in
+    let ready-now = ready state-fits (now (entry .args .w)) (now (entry .args .out)) 4 _ (at-fits .state-fits .ensures) (not-false _ (at-if .if1 .left)) in
     let a = entry .args in
     let w = now (a .w) in
     let out = now (a .out) in

@@ -9,7 +9,9 @@ use Rattle.spec.specs.Machine.{machine-of}
 use Rattle.spec.specs.Entries.{show}
 use Rattle.state_words.specs.RoundTrip.{fits-long}
 use Rattle.yard_c.specs.Calls.{called, machine-in}
-use Rattle.yard_c.proofs.Laws.{ready, tested, show-spoilt, show-none, show-some, shown-few}
+use Rattle.state_words.specs.StateWords.{state-fits}
+use Rattle.yard_answers.specs.CallLaws.{ready, tested}
+use Rattle.yard_c.proofs.Laws.{show-spoilt, show-none, show-some, shown-few}
 use borrow.Author.Needs.{needs}
 use Rattle.yard_c.proofs.yard_show.Statement.{statement}
 use Rattle.yard_c.proofs.yard_show.Tie as tie
@@ -26,7 +28,7 @@ returns c =
     let out = now (a .out) in
     let ns = now (a .ns) in
     let bs = now (a .bs) in
-    show-spoilt w out ns bs (a .k) (tested w out 1 _ (at-fits .state-fits .ensures) (not-true _ (c .if1 .taken)))
+    show-spoilt w out ns bs (a .k) (tested state-fits w out 1 _ (at-fits .state-fits .ensures) (not-true _ (c .if1 .taken)))
 
 state-of-words-requires : tie.Need-state-of-words-requires
 state-of-words-requires c κs =
@@ -35,8 +37,8 @@ state-of-words-requires c κs =
     let entry = at-fits .before .before .before .before .before in
     let w = now (entry .args .w) in
     let out = now (entry .args .out) in
-    let ready-now = ready w out 1 _ (at-fits .state-fits .ensures) (not-false _ (at-if .if1 .left)) in
-    fits-long w (ready-now .fits)
+    let ready-now = ready state-fits w out 1 _ (at-fits .state-fits .ensures) (not-false _ (at-if .if1 .left)) in
+    fits-long w (ready-now .is-state)
 
 show-requires : tie.Need-show-requires
 show-requires c κs = search needs
@@ -54,7 +56,7 @@ returns-2 c =
     let ns = now (a .ns) in
     let bs = now (a .bs) in
     let shown = ap length (at-show .show .ensures) ∙ ap (λ (z : State). length (show (machine-of z ns bs) (a .k))) (at-state .state-of-words .ensures) in
-    let ready-now = ready w out 1 _ (at-fits .state-fits .ensures) (not-false _ (at-if .if1 .left)) in
+    let ready-now = ready state-fits w out 1 _ (at-fits .state-fits .ensures) (not-false _ (at-if .if1 .left)) in
     show-none w out ns bs (a .k) ready-now (sym shown ∙ c .if2 .taken)
 
 mul-out : tie.Need-mul-out
@@ -92,7 +94,7 @@ slice-write-out c =
     let entry = at-fits .before .before .before .before .before in
     let w = now (entry .args .w) in
     let out = now (entry .args .out) in
-    let ready-now = ready w out 1 _ (at-fits .state-fits .ensures) (not-false _ (at-if .if1 .left)) in
+    let ready-now = ready state-fits w out 1 _ (at-fits .state-fits .ensures) (not-false _ (at-if .if1 .left)) in
     let room = ready-now .room in
     search (needs, room)
 
@@ -126,7 +128,7 @@ returns-3 c =
     let ns = now (a .ns) in
     let bs = now (a .bs) in
     let shown = ap length (at-show .show .ensures) ∙ ap (λ (z : State). length (show (machine-of z ns bs) (a .k))) (at-state .state-of-words .ensures) in
-    let ready-now = ready w out 1 _ (at-fits .state-fits .ensures) (not-false _ (at-if .if1 .left)) in
+    let ready-now = ready state-fits w out 1 _ (at-fits .state-fits .ensures) (not-false _ (at-if .if1 .left)) in
     let some = show-some w out ns bs (a .k) ready-now (λ e. c .if2 .left (shown ∙ e)) in
     ap (λ (n : ℕ). called n w ns bs (set out 0 (66 * a .k + 2))) shown ∙ some
 

@@ -5,8 +5,8 @@ use lib.Dec.{eqb}
 use Rattle.spec.specs.declared.Config.{Config}
 use Rattle.spec.specs.Machine.{with-version, with-zero-withdrawn}
 use borrow.Author.Needs.{needs}
-use Rattle.yard_c.proofs.config.Statement.{statement}
-use Rattle.yard_c.proofs.config.Tie as tie
+use Rattle.schedule.proofs.config.Statement.{statement}
+use Rattle.schedule.proofs.config.Tie as tie
 
 config-requires : tie.Need-config-requires
 config-requires c κs = search needs

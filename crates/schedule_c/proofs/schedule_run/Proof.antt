@@ -6,11 +6,11 @@ use denote.Ref.{now}
 use Rattle.spec.specs.declared.Config.{Config}
 use Rattle.schedule_events.specs.Events.{listing-number}
 use Rattle.schedule.specs.Encoding.{Result, run-words}
-use Rattle.yard_c.specs.Whole.{c-result, c-result-of}
+use Rattle.schedule_c.specs.Whole.{c-result, c-result-of}
 use Rattle.schedule.proofs.Laws.{number-small}
 use borrow.Author.Needs.{needs}
-use Rattle.yard_c.proofs.schedule_run.Statement.{statement}
-use Rattle.yard_c.proofs.schedule_run.Tie as tie
+use Rattle.schedule_c.proofs.schedule_run.Statement.{statement}
+use Rattle.schedule_c.proofs.schedule_run.Tie as tie
 
 config-requires : tie.Need-config-requires
 config-requires c κs = search needs

@@ -1,0 +1,3 @@
+pub mod Turns
+pub mod Batches
+pub mod TurnsRows
