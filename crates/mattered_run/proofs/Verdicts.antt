@@ -9,6 +9,7 @@ use lib.ListN.{length, getD, take, drop}
 use lib.Seq.{getD-drop}
 use Rattle.spec.specs.declared.Call.{Call}
 use Rattle.spec.specs.declared.Config.{Config}
+use Rattle.spec.specs.Lists.{if_then_else_}
 use Rattle.spec.specs.Machine.{Machine}
 use Rattle.spec.specs.Words.{overwrite}
 use Rattle.spec.specs.Entries.{Opened, opening}
@@ -24,7 +25,7 @@ use Rattle.mattered.specs.declared.Verdict.the-variants.{Place, NoStep, Refused
 use Rattle.mattered.specs.EndedCalls.{EndedCall, ended-calls}
 use Rattle.mattered.specs.Mattered.{is-step, step-at, without, alters, first-place, mattered}
 use Rattle.mattered.specs.SessionVerdict.{events-verdict}
-use Rattle.mattered_run.specs.Judged.{opened-events-verdict}
+use Rattle.mattered_run.specs.Judged.{opened-events-verdict, words-after}
 use Rattle.mattered_replay.specs.Replay.{all-words}
 use Rattle.mattered_replay.proofs.Replayed.{words-front}
 use Rattle.mattered_run.proofs.Compared.{words-compared}
@@ -122,6 +123,22 @@ module _ (y : Machine) (es : List Event) (n : ℕ) where
     pub search-end : n ≤ k → NoStep ≡ mattered y es
     unfolding first-place
     search-end h = let z : n - k ≡ 0 = omega arith in sym (s .left ∙ rw z refl)
+
+-- it refuses nothing
+found-after : (f : ℕ → Bool) (i n : ℕ) (before opened : List ℕ) → words-after (first-place f i n) before opened ≡ opened
+unfolding first-place words-after
+found-after f i zero before opened = refl
+found-after f i (suc n) before opened = go (found-after f (suc i) n before opened) (f i)
+  where
+    go : words-after (first-place f (suc i) n) before opened ≡ opened → (b : Bool)
+        → words-after (if b then Place (suc i) else first-place f (suc i) n) before opened ≡ opened
+    go later true = refl
+    go later false = later
+
+pub words-found : (y : Machine) (es : List Event) (v : Verdict) → v ≡ mattered y es → (before opened : List ℕ) → opened ≡ words-after v before opened
+unfolding mattered
+words-found y es v e before opened =
+    sym (ap (λ (x : Verdict). words-after x before opened) e ∙ found-after (alters y es) 0 (length es) before opened)
 
 -- ---- the whole
 

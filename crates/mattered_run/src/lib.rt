@@ -114,22 +114,21 @@ fn first_step(g: Config, n: usize, events: &[u32], ns: &mut [u32], bs: &mut [u32
     search(g, n, events, ns, bs, &calls[..at])
 }
 
-// Opens with g. Gives the refusal, or 0.
-fn refusal_of_opening(g: Config, ns: &mut [u32], bs: &mut [u32]) -> u32
-    ensures { λ r. ⌜ (r ≡ opening g (now (ns .entry)) (now (bs .entry)) .refusal)
-        × (now (ns .exit) ≡ opening g (now (ns .entry)) (now (bs .entry)) .machine .nodes)
+// Opens with g, which leaves nothing of the runs before it.
+fn open_again(g: Config, ns: &mut [u32], bs: &mut [u32])
+    ensures { λ _. ⌜ (now (ns .exit) ≡ opening g (now (ns .entry)) (now (bs .entry)) .machine .nodes)
         × (now (bs .exit) ≡ opening g (now (ns .entry)) (now (bs .entry)) .machine .buckets) ⌝ }
 {
-    let o = opening::open(g, ns, bs);
-    o.refusal
+    opening::open(g, ns, bs);
 }
 
-// The verdict on n events after an opening with g and these pools. Words past the end of `events` read as 0. The pools are left as the
-// opening leaves them.
+// The verdict on n events after an opening with g and these pools. A refusal is judged before a word is written (`refusal-keeps`); with another
+// verdict the pools are left as the opening leaves them. More than 256 events are refused by their number n, however many words are lent; words
+// past the end of `events` read as 0, so that an event there is a step of task 0 (`past-the-words`).
 pub fn earliest(g: Config, ns: &mut [u32], bs: &mut [u32], events: &[u32], n: usize) -> Verdict
-    ensures { λ r. ⌜ Judged (opening g (now (ns .entry)) (now (bs .entry))) (events-of n (now (events .entry))) r (now (ns .exit)) (now (bs .exit)) ⌝ }
+    ensures { λ r. ⌜ Judged g (now (ns .entry)) (now (bs .entry)) (events-of n (now (events .entry))) r (now (ns .exit)) (now (bs .exit)) ⌝ }
 {
-    let refusal = refusal_of_opening(g, ns, bs);
+    let refusal = opening::refusal(g, ns.len(), bs.len());
     if refusal != 0 {
         return Verdict::Refused(refusal);
     }
@@ -137,6 +136,6 @@ pub fn earliest(g: Config, ns: &mut [u32], bs: &mut [u32], events: &[u32], n: us
         return Verdict::Refused(15);
     }
     let v = first_step(g, n, events, ns, bs);
-    refusal_of_opening(g, ns, bs);
+    open_again(g, ns, bs);
     v
 }

@@ -79,7 +79,7 @@ module _ (h : Header) (outside : Bool) (es : List Event) (ns bs : List ℕ) (nod
         here ∙ says-same part (session-opening h) alike outside es
 
   -- no line was
-  pub searched : outside ≡ false → (v : Verdict) (ns' bs' : List ℕ) → Judged part es v ns' bs' → v ≡ opened-says (session-opening h) outside es
+  pub searched : outside ≡ false → (v : Verdict) (ns' bs' : List ℕ) → Judged (h .config) (take a ns) (take b bs) es v ns' bs' → v ≡ opened-says (session-opening h) outside es
   unfolding opened-says
   searched o v ns' bs' j =
       let here : v ≡ opened-says part outside es = j .answer ∙ rw o in

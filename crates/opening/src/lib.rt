@@ -19,8 +19,8 @@ pub struct Opened {
 
 // ---- which refusal
 
-// The refusal of an opening with these lengths of the slices, 0 for none.
-fn refusal(g: Config, n: usize, m: usize) -> u32
+// The refusal of an opening with these lengths of the slices, 0 for none (`opening-refusal`). Writes nothing.
+pub fn refusal(g: Config, n: usize, m: usize) -> u32
     ensures { λ r. ⌜ r ≡ refusal-of g n m ⌝ }
 {
     if !sound_records::within(1, 8, g.tasks) {

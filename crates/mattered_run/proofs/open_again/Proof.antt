@@ -1,9 +1,9 @@
--- `refusal_of_opening` opens, and gives of it the refusal alone. Assumes nothing.
+-- `open_again` opens. Assumes nothing.
 use mathlib.Core.Path.{ap}
 use Rattle.spec.specs.Machine.{Machine}
 use borrow.Author.Needs.{needs}
-use Rattle.mattered_run.proofs.refusal_of_opening.Statement.{statement}
-use Rattle.mattered_run.proofs.refusal_of_opening.Tie as tie
+use Rattle.mattered_run.proofs.open_again.Statement.{statement}
+use Rattle.mattered_run.proofs.open_again.Tie as tie
 
 open-requires : tie.Need-open-requires
 open-requires c κs = search needs
@@ -17,10 +17,10 @@ same-length-2 c = search needs
 returns : tie.Need-returns
 returns c =
     let o = c .before .before .before .before .«open» .ensures in
-    (o .0, ap (λ (y : Machine). y .nodes) (o .1), ap (λ (y : Machine). y .buckets) (o .1))
+    (ap (λ (y : Machine). y .nodes) (o .1), ap (λ (y : Machine). y .buckets) (o .1))
 
-pub refusal-of-opening-spec : {M : Type 1} → statement M
-refusal-of-opening-spec =
+pub open-again-spec : {M : Type 1} → statement M
+open-again-spec =
     tie.close
     (tie.spec
     open-requires
