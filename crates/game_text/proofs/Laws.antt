@@ -4,7 +4,7 @@ use mathlib.Core.Path.{_≡_, refl, sym, ap, subst, _∙_}
 use mathlib.Core.List.{List, [], _∷_, _++_}
 use mathlib.Core.Bool.{Bool, true, false}
 use borrow.Author.Tests.{eq-eqb, ne-eqb}
-use lib.ListN.{take, drop, replicate, take-append-drop}
+use lib.ListN.{length, take, drop, take-append-drop}
 use Rattle.spec.specs.declared.State.{State}
 use Rattle.spec.specs.Lists.{if_then_else_}
 use Rattle.spec.specs.Machine.{Machine, machine-of}
@@ -18,7 +18,7 @@ use Rattle.session.specs.declared.HeaderStep.{HeaderStep}
 use Rattle.session.specs.declared.HeaderStep.the-variants.{Next}
 use Rattle.session.specs.Buffer.{Buffer, buffer, append-byte, append}
 use Rattle.session.specs.BufferLaws.{append-both}
-use Rattle.session.specs.Grammar.{InputLine, closed-line, open-line, admissible, parse-header-line}
+use Rattle.session.specs.Grammar.{InputLine, parse-header-line}
 use Rattle.session.specs.Print.{refusal-line}
 use Rattle.session_pools.specs.PoolParts.{node-extent, bucket-extent, node-part, bucket-part}
 use Rattle.session_state.specs.declared.Phase.{Phase}
@@ -27,6 +27,8 @@ use Rattle.session_state.specs.declared.Session.{Session}
 use Rattle.session_state.specs.declared.Handled.{Handled}
 use Rattle.session_state.specs.Handling.{session, reads-events, LineEffect, LineHandled, session-machine, with-machine}
 use Rattle.session_state.proofs.Laws.{nothing-appended, puts-back}
+use Rattle.session_lines.specs.Openings.{part-length}
+use Rattle.opening.specs.Opening.{refusal-of, opening-refusal}
 use Rattle.game.specs.declared.Verdict.{Verdict}
 use Rattle.game.specs.Game.{verdict}
 use Rattle.game.specs.Text.{game-key, verdict-line, parse-game-line}
@@ -34,8 +36,8 @@ use Rattle.game_text.specs.declared.Asked.{Asked}
 use Rattle.game_text.specs.declared.Asked.the-variants.{NotYet, Turns}
 use Rattle.game_text.specs.declared.Standing.{Standing}
 use Rattle.game_text.specs.Reading.{standing, refused-with, Place, place, opened, after-event, take-event, take-unasked, take-asked}
-use Rattle.game_text.specs.Reading.{take-turn, if-opened, header-taken, phase-taken, on-line, asked-at-end, ends-as, StandsAt, EndsAt}
-use Rattle.game_text.specs.OutsideLines.{same-outside}
+use Rattle.game_text.specs.Reading.{take-turn, if-opened, header-taken, phase-taken, on-line, asked-at-end, judged, phase-refusal, end-refusal}
+use Rattle.game_text.specs.Reading.{end-line, ends-as, StandsAt, EndsAt}
 
 -- a place given by its parts
 pub at-place : (p : Place) (t : Standing) (ns bs : List ℕ) → StandsAt p t ns bs → place t ns bs ≡ p
@@ -171,23 +173,48 @@ module _ (a : Asked) (t : Standing) (ns bs : List ℕ) where
   pub played-to : (n : ℕ) → a ≡ Turns n → (count : ℕ) (ns' bs' before after : List ℕ)
       → (buffer after count ≡ append (verdict-line (verdict n (session-machine (t .session) ns bs))) (buffer before 0)) × (ns' ≡ ns) × (bs' ≡ bs)
       → EndsAt (ends-as a (place t ns bs)) count ns' bs' before after
-  unfolding ends-as
+  unfolding ends-as end-line
   played-to n e count ns' bs' before after w =
       subst (λ (x : Asked). EndsAt (ends-as x (place t ns bs)) count ns' bs' before after) (sym e)
       (record { nodes = w .1; buckets = w .2; wrote = w .0 })
 
-  pub refused-to : a ≡ NotYet → (u : Standing) (ns' bs' : List ℕ) → StandsAt (on-line (place t ns bs) (closed-line (replicate 41 0))) u ns' bs'
-      → (count : ℕ) (before after : List ℕ) → buffer after count ≡ append (refusal-line (u .refused)) (buffer before 0)
-      → EndsAt (ends-as a (place t ns bs)) count ns' bs' before after
-  unfolding ends-as admissible
-  refused-to e u ns' bs' s count before after w =
-      let same = same-outside (place t ns bs) (closed-line (replicate 41 0)) (open-line []) refl refl in
-      subst (λ (x : Asked). EndsAt (ends-as x (place t ns bs)) count ns' bs' before after) (sym e)
-      (record {
-        nodes = s .nodes ∙ ap (λ (p : Place). p .nodes) same;
-        buckets = s .buckets ∙ ap (λ (p : Place). p .buckets) same;
-        wrote = w ∙ ap (λ (p : Standing). append (refusal-line (p .refused)) (buffer before 0)) (s .next ∙ ap (λ (p : Place). p .standing) same);
-      })
+  pub refused-to : a ≡ NotYet → (why : ℕ) → why ≡ end-refusal (place t ns bs) → (count : ℕ) (before after : List ℕ)
+      → buffer after count ≡ append (refusal-line why) (buffer before 0) → EndsAt (ends-as a (place t ns bs)) count ns bs before after
+  unfolding ends-as end-line
+  refused-to e why f count before after w =
+      subst (λ (x : Asked). EndsAt (ends-as x (place t ns bs)) count ns bs before after) (sym e)
+      (record { nodes = refl; buckets = refl; wrote = w ∙ ap (λ (r : ℕ). append (refusal-line r) (buffer before 0)) f })
+
+-- the refusal, by where the session stands
+module _ (t : Standing) (ns bs : List ℕ) where
+  pub refused-before : (t .refused ≡ 0 → ⊥) → t .refused ≡ end-refusal (place t ns bs)
+  unfolding end-refusal
+  refused-before r = rw (ne-eqb (t .refused) 0 r)
+
+  pub refused-in : t .refused ≡ 0 → (q : Phase) → t .session .phase ≡ q → (why : ℕ) → why ≡ phase-refusal q (place t ns bs)
+      → why ≡ end-refusal (place t ns bs)
+  unfolding end-refusal
+  refused-in z q e why w = rw (eq-eqb (t .refused) 0 z) (w ∙ ap (λ (x : Phase). phase-refusal x (place t ns bs)) (sym e))
+
+-- the opening asks of the pools only how long they are
+module _ (h : Header) (ns bs : List ℕ) (a b : ℕ) (ea : a ≡ node-extent h ns) (eb : b ≡ bucket-extent h bs) (why : ℕ) (w : why ≡ refusal-of (h .config) a b)
+  where
+    abbrev refusal-here : ℕ
+    refusal-here = opening (h .config) (node-part h ns) (bucket-part h bs) .refusal
+
+    judged-so : why ≡ refusal-here
+    judged-so =
+        w ∙ ap (λ (n : ℕ). refusal-of (h .config) n b) (ea ∙ sym (part-length 34 64 (h .nodes) ns))
+        ∙ ap (refusal-of (h .config) (length (node-part h ns))) (eb ∙ sym (part-length 66 200 (h .buckets) bs))
+        ∙ sym (opening-refusal (h .config) (node-part h ns) (bucket-part h bs))
+
+    pub judged-refused : (why ≡ 0 → ⊥) → why ≡ judged refusal-here
+    unfolding judged
+    judged-refused r = rw (sym judged-so, ne-eqb why 0 r)
+
+    pub judged-accepted : why ≡ 0 → 10 ≡ judged refusal-here
+    unfolding judged
+    judged-accepted z = rw (sym judged-so, eq-eqb why 0 z)
 
 -- the game over the session's part of the pools, which is put back as it was
 module _ (s : Session) (n : ℕ) (ns bs : List ℕ) (a b : ℕ) (ea : a ≡ node-extent (s .header) ns) (eb : b ≡ bucket-extent (s .header) bs) where

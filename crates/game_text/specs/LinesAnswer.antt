@@ -22,9 +22,8 @@ use Rattle.session.specs.declared.HeaderLine.{HeaderLine}
 use Rattle.session.specs.declared.HeaderLine.the-variants.{Tasks}
 use Rattle.session.specs.declared.HeaderStep.{HeaderStep}
 use Rattle.session.specs.declared.HeaderStep.the-variants.{Next, Complete, Absent, Missing}
-use Rattle.session.specs.Grammar.{InputLine, open-line, admissible, parse-header-line, parse-event-line}
+use Rattle.session.specs.Grammar.{InputLine, parse-event-line}
 use Rattle.session.specs.Header.{empty-header, optional, header-step, complete, incomplete, after-step, read-from, read-header}
-use Rattle.session.specs.LineLaws.{outside-step}
 use Rattle.session.specs.Print.{refusal-line, output-line}
 use Rattle.session.specs.Transcript.{session-opening}
 use Rattle.session_pools.specs.PoolParts.{node-part, bucket-part}
@@ -37,8 +36,8 @@ use Rattle.game.specs.Text.{parse-game-line, asks, outside, first-event, event-
 use Rattle.game.specs.Text.{header-line, lines-answer}
 use Rattle.game_text.specs.declared.Asked.the-variants.{NotYet, Turns}
 use Rattle.game_text.specs.Reading.{standing, new-standing, refused-with, Place, place, refusing, opened, after-event, take-event, take-unasked}
-use Rattle.game_text.specs.Reading.{take-asked, take-turn, if-opened, header-taken, phase-taken, on-line, asked-at-end, ends-as}
-use Rattle.game_text.specs.OutsideLines.{opened-reads, if-opened-refuses}
+use Rattle.game_text.specs.Reading.{take-asked, take-turn, if-opened, header-taken, phase-taken, on-line, asked-at-end, judged}
+use Rattle.game_text.specs.Reading.{phase-refusal, end-refusal, end-line, ends-as}
 
 -- ---- the lines of an input, and its end
 
@@ -53,10 +52,10 @@ module _ (p : Place) (r : p .standing .refused ≡ 0 → ⊥) where
   stays l = rw (ne-eqb _ _ r)
 
   pub refused-answer : (ls : List InputLine) → answered p ls ≡ refusal-line (p .standing .refused)
-  unfolding answered asked-at-end ends-as
+  unfolding answered asked-at-end ends-as end-line end-refusal
   refused-answer [] =
-      ap (λ (b : Bool). ends-as (if not true || not b then NotYet else p .standing .asked) p .prints) (ne-eqb (p .standing .refused) 0 r)
-      ∙ ap (λ (q : Place). refusal-line (q .standing .refused)) (stays (open-line []))
+      ap (λ (b : Bool). end-line (if not true || not b then NotYet else p .standing .asked) p) (ne-eqb (p .standing .refused) 0 r)
+      ∙ rw (ne-eqb (p .standing .refused) 0 r)
   refused-answer (l ∷ ls) = ap (λ (q : Place). answered q ls) (stays l) ∙ refused-answer ls
 
 refusing-answer : (p : Place) (ls : List InputLine) → answered (refusing 10 p) ls ≡ refusal-line 10
@@ -74,7 +73,7 @@ machine h m ns bs = session-machine (session Events h m) ns bs
 -- a game's line is read, and the lines ls come after it
 game-answered : (n : ℕ) (h : Header) (m : State) (ns bs : List ℕ) (ls : List InputLine)
     → answered (place (standing (session Events h m) 0 (Turns n)) ns bs) ls ≡ game-line (machine h m ns bs) (game-then n ls)
-unfolding answered asked-at-end ends-as game-line game-then run on-line phase-taken take-turn take-asked
+unfolding answered asked-at-end ends-as end-line game-line game-then run on-line phase-taken take-turn take-asked
 game-answered n h m ns bs [] = refl
 game-answered n h m ns bs (l ∷ ls) = refusing-answer (place (standing (session Events h m) 0 (Turns n)) ns bs) ls
 
@@ -124,8 +123,7 @@ module _ (h : Header) (m : State) (ns bs : List ℕ) where
       go NotDecimal = unasked-answered ls ih (parse-event-line l)
 
 events-answered : (h : Header) (ls : List InputLine) → Answers ls h
-unfolding answered asked-at-end ends-as on-line phase-taken take-turn take-asked take-unasked take-event after-event line-effect phase-effect event-effect
-    pools-kept stopped reads-events parse-game-line parse-header-line parse-event-line admissible game-line asked
+unfolding answered asked-at-end ends-as end-line end-refusal phase-refusal on-line phase-taken game-line asked
 events-answered h [] m ns bs = refl
 events-answered h (l ∷ ls) m ns bs = turn-answered h m ns bs l ls (events-answered h ls)
 
@@ -173,12 +171,14 @@ module _ (ns bs : List ℕ) (nodes-fit : 2176 ≤ length ns) (buckets-fit : 1320
     absent-answered l ls = opened-answered (l ∷ ls)
 
     -- the input ends where such a line is due
-    absent-ends : refusal-line (if-opened (opened h ns bs) (open-line []) .standing .refused) ≡ opened-line (session-opening h) []
-    unfolding opened-line asked line-then event-then parse-game-line parse-header-line parse-event-line admissible
-    absent-ends =
-        let p = opened h ns bs in
-        sym (refused-answer (if-opened p (open-line [])) (if-opened-refuses p (open-line []) (opened-reads h ns bs) refl) [])
-        ∙ absent-answered (open-line []) []
+    absent-ends : refusal-line (judged (lent .refusal)) ≡ opened-line (session-opening h) []
+    unfolding opened-line game-line asked judged
+    absent-ends = ap (λ (why : ℕ). refusal-line (judged why)) (alike .refusal) ∙ go (eqb (session-opening h .refusal) 0)
+      where
+        go : (b : Bool) → refusal-line (if b then 10 else session-opening h .refusal)
+            ≡ (if b then game-line (session-opening h .machine) (asked []) else refusal-line (session-opening h .refusal))
+        go true = refl
+        go false = refl
 
   -- ---- the header, whichever line is due: what its next line says decides
 
@@ -186,13 +186,10 @@ module _ (ns bs : List ℕ) (nodes-fit : 2176 ≤ length ns) (buckets-fit : 1320
   due-at due h m = place (standing (session (Due due) h m) 0 NotYet) ns bs
 
   header-answered : (ls : List InputLine) (due : HeaderLine) (h : Header) (m : State) → answered (due-at due h m) ls ≡ header-line (read-from ls due h)
-  unfolding answered asked-at-end ends-as on-line phase-taken header-taken refused-with read-from after-step header-line admissible
-  header-answered [] due h m =
-      ap (λ (a : HeaderStep). refusal-line (header-taken a (due-at due h m) (open-line []) .standing .refused)) (outside-step due h (open-line []) refl)
-      ∙ go (optional due)
+  unfolding answered asked-at-end ends-as end-line end-refusal phase-refusal on-line phase-taken header-taken read-from after-step header-line
+  header-answered [] due h m = go (optional due)
     where
-      go : (b : Bool) → refusal-line (header-taken (if b then Absent h else Missing) (due-at due h m) (open-line []) .standing .refused)
-          ≡ header-line (if b then complete h [] else incomplete)
+      go : (b : Bool) → refusal-line (if b then judged (lent h .refusal) else 10) ≡ header-line (if b then complete h [] else incomplete)
       go true = absent-ends h
       go false = refl
   header-answered (l ∷ ls) due h m = go (λ due' h' m'. header-answered ls due' h' m') (header-step due h l)

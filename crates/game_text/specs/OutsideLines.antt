@@ -1,5 +1,5 @@
--- A line that is too long or not closed says the same whatever its bytes are, and refuses the input. So 41 bytes of a line say as much as
--- all of it. Assumes nothing.
+-- A line that is too long or not closed says the same whatever its bytes are, and refuses the input with the number with which an end there
+-- refuses it. So 41 bytes of a line say as much as all of it. Assumes nothing.
 use Prim.Native.Nat.{ℕ}
 use mathlib.Core.Path.{_≡_, refl, sym, ap, _∙_}
 use mathlib.Core.List.{List, []}
@@ -9,15 +9,18 @@ use borrow.Author.Tests.{eqb-false}
 use lib.Dec.{eqb}
 use lib.ListN.{take}
 use Rattle.spec.specs.Lists.{if_then_else_}
+use Rattle.spec.specs.Entries.{opening}
 use Rattle.session.specs.declared.Decimal.the-variants.{NotDecimal}
 use Rattle.session.specs.declared.EventLine.{EventLine}
 use Rattle.session.specs.declared.EventLine.the-variants.{Outside}
 use Rattle.session.specs.declared.Header.{Header}
+use Rattle.session.specs.declared.HeaderLine.{HeaderLine}
 use Rattle.session.specs.declared.HeaderStep.{HeaderStep}
 use Rattle.session.specs.declared.HeaderStep.the-variants.{Absent, Missing}
 use Rattle.session.specs.Grammar.{InputLine, closed-line, open-line, admissible, parse-header-line}
 use Rattle.session.specs.Header.{optional}
 use Rattle.session.specs.LineLaws.{outside-step, outside-event, first-bytes}
+use Rattle.session_pools.specs.PoolParts.{node-part, bucket-part}
 use Rattle.session_state.specs.declared.Phase.{Phase}
 use Rattle.session_state.specs.declared.Phase.the-variants.{Due, Events, Stopped}
 use Rattle.session_state.specs.Handling.{reads-events, pools-kept, stopped, event-effect, phase-effect, line-effect, with-machine}
@@ -25,7 +28,7 @@ use Rattle.game.specs.Text.{parse-game-line}
 use Rattle.game_text.specs.declared.Asked.{Asked}
 use Rattle.game_text.specs.declared.Asked.the-variants.{NotYet, Turns}
 use Rattle.game_text.specs.Reading.{Place, refused-with, opened, after-event, take-event, take-unasked, take-asked, take-turn}
-use Rattle.game_text.specs.Reading.{if-opened, header-taken, phase-taken, on-line}
+use Rattle.game_text.specs.Reading.{if-opened, header-taken, phase-taken, on-line, judged, phase-refusal, end-refusal}
 
 outside-game : (l : InputLine) → admissible l ≡ false → parse-game-line l ≡ NotDecimal
 unfolding parse-game-line parse-header-line
@@ -63,7 +66,7 @@ turn-refuses p l ph e = go (p .standing .asked)
 
 -- ---- where a header line is due
 
-pub opened-reads : (h : Header) (ns bs : List ℕ) → opened h ns bs .standing .session .phase ≡ Events
+opened-reads : (h : Header) (ns bs : List ℕ) → opened h ns bs .standing .session .phase ≡ Events
 unfolding opened with-machine
 opened-reads h ns bs = refl
 
@@ -73,13 +76,14 @@ if-opened-line : (p : Place) (l k : InputLine) → p .standing .session .phase �
 unfolding if-opened
 if-opened-line p l k ph e f = ap (λ (q : Place). if eqb (p .standing .refused) 0 then q else p) (outside-turn p l k ph e f)
 
-pub if-opened-refuses : (p : Place) (l : InputLine) → p .standing .session .phase ≡ Events → admissible l ≡ false → ¬ (if-opened p l .standing .refused ≡ 0)
-unfolding if-opened
-if-opened-refuses p l ph e = go (eqb (p .standing .refused) 0) refl
+if-opened-refuses : (p : Place) (l : InputLine) → p .standing .session .phase ≡ Events → admissible l ≡ false
+    → if-opened p l .standing .refused ≡ judged (p .standing .refused)
+unfolding if-opened judged
+if-opened-refuses p l ph e = go (eqb (p .standing .refused) 0)
   where
-    go : (b : Bool) → eqb (p .standing .refused) 0 ≡ b → ¬ ((if b then take-turn p l else p) .standing .refused ≡ 0)
-    go true q z = let r = turn-refuses p l ph e in omega arith
-    go false q z = eqb-false _ _ q z
+    go : (b : Bool) → (if b then take-turn p l else p) .standing .refused ≡ (if b then 10 else p .standing .refused)
+    go true = turn-refuses p l ph e
+    go false = refl
 
 module _ (p : Place) where
   abbrev absent : Bool → HeaderStep
@@ -90,10 +94,18 @@ module _ (p : Place) where
   header-line l k e f true = if-opened-line (opened _ (p .nodes) (p .buckets)) l k (opened-reads _ (p .nodes) (p .buckets)) e f
   header-line l k e f false = refl
 
-  header-refuses : (l : InputLine) → admissible l ≡ false → (b : Bool) → ¬ (header-taken (absent b) p l .standing .refused ≡ 0)
-  unfolding header-taken refused-with
-  header-refuses l e true = if-opened-refuses (opened _ (p .nodes) (p .buckets)) l (opened-reads _ (p .nodes) (p .buckets)) e
-  header-refuses l e false = λ z. omega arith
+  header-refuses : (l : InputLine) → admissible l ≡ false → (due : HeaderLine)
+      → header-taken (absent (optional due)) p l .standing .refused ≡ phase-refusal (Due due) p
+  unfolding header-taken refused-with opened phase-refusal
+  header-refuses l e due = go (optional due)
+    where
+      h : Header
+      h = p .standing .session .header
+
+      go : (b : Bool) → header-taken (absent b) p l .standing .refused
+          ≡ (if b then judged (opening (h .config) (node-part h (p .nodes)) (bucket-part h (p .buckets)) .refusal) else 10)
+      go true = if-opened-refuses (opened h (p .nodes) (p .buckets)) l (opened-reads h (p .nodes) (p .buckets)) e
+      go false = refl
 
   -- ---- wherever the input stands
 
@@ -107,25 +119,54 @@ module _ (p : Place) where
   phase-line l k e f Events ph = outside-turn p l k ph e f
   phase-line l k e f Stopped ph = refl
 
-  phase-refuses : (l : InputLine) → admissible l ≡ false → (q : Phase) → p .standing .session .phase ≡ q → ¬ (phase-taken q p l .standing .refused ≡ 0)
-  unfolding phase-taken refused-with
-  phase-refuses l e (Due due) ph z =
-      header-refuses l e (optional due)
-      (sym (ap (λ (a : HeaderStep). header-taken a p l .standing .refused) (outside-step due (p .standing .session .header) l e)) ∙ z)
-  phase-refuses l e Events ph z = let r = turn-refuses p l ph e in omega arith
-  phase-refuses l e Stopped ph z = omega arith
+  phase-refuses : (l : InputLine) → admissible l ≡ false → (q : Phase) → p .standing .session .phase ≡ q
+      → phase-taken q p l .standing .refused ≡ phase-refusal q p
+  unfolding phase-taken phase-refusal refused-with
+  phase-refuses l e (Due due) ph =
+      ap (λ (a : HeaderStep). header-taken a p l .standing .refused) (outside-step due (p .standing .session .header) l e) ∙ header-refuses l e due
+  phase-refuses l e Events ph = turn-refuses p l ph e
+  phase-refuses l e Stopped ph = refl
 
-  pub same-outside : (l k : InputLine) → admissible l ≡ false → admissible k ≡ false → on-line p l ≡ on-line p k
+  same-outside : (l k : InputLine) → admissible l ≡ false → admissible k ≡ false → on-line p l ≡ on-line p k
   unfolding on-line
   same-outside l k e f = ap (λ (q : Place). if eqb (p .standing .refused) 0 then q else p) (phase-line l k e f (p .standing .session .phase) refl)
 
-  pub outside-refuses : (l : InputLine) → admissible l ≡ false → ¬ (on-line p l .standing .refused ≡ 0)
-  unfolding on-line
-  outside-refuses l e = go (eqb (p .standing .refused) 0) refl
+  -- it refuses with the number with which an input that ends there is refused, which is not 0
+  pub outside-refuses : (l : InputLine) → admissible l ≡ false → on-line p l .standing .refused ≡ end-refusal p
+  unfolding on-line end-refusal
+  outside-refuses l e = go (eqb (p .standing .refused) 0)
     where
-      go : (b : Bool) → eqb (p .standing .refused) 0 ≡ b → ¬ ((if b then phase-taken (p .standing .session .phase) p l else p) .standing .refused ≡ 0)
-      go true q = phase-refuses l e (p .standing .session .phase) refl
-      go false q = eqb-false _ _ q
+      q : Phase
+      q = p .standing .session .phase
+
+      go : (b : Bool) → (if b then phase-taken q p l else p) .standing .refused ≡ (if b then phase-refusal q p else p .standing .refused)
+      go true = phase-refuses l e q refl
+      go false = refl
+
+  pub end-refuses : ¬ (end-refusal p ≡ 0)
+  unfolding end-refusal phase-refusal judged
+  end-refuses = or-else (p .standing .refused) (phase-refusal (p .standing .session .phase) p) (at (p .standing .session .phase))
+    where
+      or-else : (k n : ℕ) → ¬ (n ≡ 0) → ¬ ((if eqb k 0 then n else k) ≡ 0)
+      or-else k n r = go (eqb k 0) refl
+        where
+          go : (b : Bool) → eqb k 0 ≡ b → ¬ ((if b then n else k) ≡ 0)
+          go true q = r
+          go false q = eqb-false k 0 q
+
+      ten : ¬ (_≡_ {A = ℕ} 10 0)
+      ten z = omega arith
+
+      due-at : (b : Bool) (why : ℕ) → ¬ ((if b then judged why else 10) ≡ 0)
+      due-at true why = or-else why 10 ten
+      due-at false why = ten
+
+      at : (q : Phase) → ¬ (phase-refusal q p ≡ 0)
+      at (Due due) =
+          let h = p .standing .session .header in
+          due-at (optional due) (opening (h .config) (node-part h (p .nodes)) (bucket-part h (p .buckets)) .refusal)
+      at Events = ten
+      at Stopped = ten
 
   -- 41 bytes say as much as all of them
   pub short-line : (line : List ℕ) → on-line p (closed-line (take 41 line)) ≡ on-line p (closed-line line)

@@ -13,8 +13,8 @@ use Rattle.session.specs.declared.Header.{Header}
 use Rattle.session.specs.declared.HeaderStep.{HeaderStep}
 use Rattle.session.specs.declared.HeaderStep.the-variants.{Next, Complete, Absent, Missing}
 use Rattle.session.specs.Buffer.{buffer, append}
-use Rattle.session.specs.Grammar.{InputLine, open-line}
-use Rattle.session.specs.Header.{header-step}
+use Rattle.session.specs.Grammar.{InputLine}
+use Rattle.session.specs.Header.{optional, header-step}
 use Rattle.session.specs.Print.{refusal-line}
 use Rattle.session_pools.specs.PoolParts.{node-part, bucket-part}
 use Rattle.session_state.specs.declared.Phase.{Phase}
@@ -100,23 +100,36 @@ on-line p l = if eqb (p .standing .refused) 0 then phase-taken (p .standing .ses
 unfoldable pub asked-at-end : Bool → Standing → Asked
 asked-at-end closed t = if not closed || not (eqb (t .refused) 0) then NotYet else t .asked
 
+-- the opening's refusal, or else 10
+unfoldable pub judged : ℕ → ℕ
+judged why = if eqb why 0 then 10 else why
+
+-- the number with which an input without a game is refused, by where the session stands. Where a header line that may be left out is due, the
+-- opening is judged and not made: nothing would be played after it
+unfoldable pub phase-refusal : Phase → Place → ℕ
+phase-refusal (Due due) p =
+    let h = p .standing .session .header in
+    if optional due then judged (opening (h .config) (node-part h (p .nodes)) (bucket-part h (p .buckets)) .refusal) else 10
+phase-refusal Events p = 10
+phase-refusal Stopped p = 10
+
+unfoldable pub end-refusal : Place → ℕ
+end-refusal p = if eqb (p .standing .refused) 0 then phase-refusal (p .standing .session .phase) p else p .standing .refused
+
+-- the game's answer, or the refusal
+unfoldable pub end-line : Asked → Place → List ℕ
+end-line (Turns n) p = verdict-line (verdict n (session-machine (p .standing .session) (p .nodes) (p .buckets)))
+end-line NotYet p = refusal-line (end-refusal p)
+
 -- what is printed at the end, and what the lent pools hold
 pub record Ending : Type 0 where
   pub nodes : List ℕ
   pub buckets : List ℕ
   pub prints : List ℕ
 
--- the game's answer; or the number with which the input is refused, if need be as one with a line that is not closed
+-- the end keeps every word of both pools
 unfoldable pub ends-as : Asked → Place → Ending
-ends-as (Turns n) p =
-    record {
-      nodes = p .nodes;
-      buckets = p .buckets;
-      prints = verdict-line (verdict n (session-machine (p .standing .session) (p .nodes) (p .buckets)));
-    }
-ends-as NotYet p =
-    let q = on-line p (open-line []) in
-    record { nodes = q .nodes; buckets = q .buckets; prints = refusal-line (q .standing .refused) }
+ends-as a p = record { nodes = p .nodes; buckets = p .buckets; prints = end-line a p }
 
 -- ---- what the code is held to: what it gives, what it leaves in the pools, and what it appended to the buffer that held `before` and then
 -- holds `after`

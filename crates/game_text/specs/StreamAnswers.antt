@@ -22,8 +22,8 @@ use Rattle.game.specs.declared.LanesMove.the-variants.{StepTask0, StepTask1, La
 use Rattle.game.specs.declared.Verdict.{Verdict}
 use Rattle.game.specs.declared.Verdict.the-variants.{LanesWin, OfficeHolds, Refused}
 use Rattle.game.specs.Text.{move-word, verdict-line, Asked, asks, outside, asked, game-line, opened-line, header-line, lines-answer, game-answer}
-use Rattle.game_text.specs.Reading.{Place, on-line, asked-at-end, ends-as}
-use Rattle.game_text.specs.OutsideLines.{same-outside, outside-refuses, short-line}
+use Rattle.game_text.specs.Reading.{Place, on-line, asked-at-end, end-line, ends-as}
+use Rattle.game_text.specs.OutsideLines.{outside-refuses, end-refuses, short-line}
 use Rattle.game_text.specs.LinesAnswer.{answered, refused-answer, lines-give-answer}
 use Rattle.game_text.specs.Stream.{new-reading, Progress, progress, place-of, taken, feed, feeds, stream-end, streamed}
 
@@ -37,15 +37,16 @@ Gives input =
 module _ (line : List ℕ) (q : Progress) (o : LineSoFar (q .reading .line) line) where
   -- the end of the input
   ended : (b : Bool) → eqb (length line) 0 ≡ b → stream-end q .prints ≡ answered (place-of q) (if b then [] else (open-line line ∷ []))
-  unfolding stream-end answered asked-at-end ends-as admissible
+  unfolding stream-end answered asked-at-end ends-as end-line admissible
   ended true e =
       let z : length (line-bytes (q .reading .line)) ≡ 0 = omega (arith, kept-length (q .reading .line) line o, eqb-true (length line) 0 e) in
       rw (eq-eqb _ _ z)
   ended false e =
       let z : length (line-bytes (q .reading .line)) ≡ 0 → ⊥ = λ r. eqb-false (length line) 0 e (omega (arith, kept-length (q .reading .line) line o)) in
       rw (ne-eqb _ _ z)
-      (ap (λ (p : Place). refusal-line (p .standing .refused)) (same-outside (place-of q) (open-line []) (open-line line) refl refl)
-      ∙ sym (refused-answer (on-line (place-of q) (open-line line)) (outside-refuses (place-of q) (open-line line) refl) []))
+      (let told = outside-refuses (place-of q) (open-line line) refl in
+      ap refusal-line (sym told)
+      ∙ sym (refused-answer (on-line (place-of q) (open-line line)) (λ z. end-refuses (place-of q) (sym told ∙ z)) []))
 
   -- what is kept of the line says as much as all of it
   kept-says : on-line (place-of q) (closed-line (line-bytes (q .reading .line))) ≡ on-line (place-of q) (closed-line line)

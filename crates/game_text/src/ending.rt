@@ -3,13 +3,17 @@ use crate::Asked;
 use crate::Standing;
 use game::LanesMove;
 use game::Verdict;
+use session::Header;
+use session_state::Phase;
 use session_state::Session;
 ghost use mathlib.Core.Path.{_≡_};
+ghost use Rattle.spec.specs.Entries.{opening};
 ghost use Rattle.session.specs.Buffer.{buffer, append};
+ghost use Rattle.session_pools.specs.PoolParts.{node-part, bucket-part};
 ghost use Rattle.session_state.specs.Handling.{session-machine};
 ghost use Rattle.game.specs.Game.{verdict};
 ghost use Rattle.game.specs.Text.{move-word, verdict-line};
-ghost use Rattle.game_text.specs.Reading.{place, asked-at-end, EndsAt, ends-as};
+ghost use Rattle.game_text.specs.Reading.{place, asked-at-end, judged, end-refusal, ends-as, EndsAt};
 
 // A winning first move.
 fn move_word(out: &mut [u8], at: usize, m: LanesMove) -> usize
@@ -63,8 +67,44 @@ fn asked_at_end(t: Standing, closed: bool) -> Asked
     asked
 }
 
-// The end of an input whose last line is closed or is not. An input without a game, or with a last line that is not closed, is refused as
-// one with a line that is too long.
+// The refusal of the opening over the session's part of the pools, or else 10. Writes nothing.
+fn judge_opening(h: Header, ns: &[u32], bs: &[u32]) -> u32
+    ensures { λ r. ⌜ r ≡ judged (opening (h .config) (node-part h (now (ns .entry))) (bucket-part h (now (bs .entry))) .refusal) ⌝ }
+{
+    let a = session_pools::node_extent(h.nodes, ns.len());
+    let b = session_pools::bucket_extent(h.buckets, bs.len());
+    let config = h.config;
+    let why = opening::refusal(config, a, b);
+    if why != 0 {
+        return why;
+    }
+    10
+}
+
+// The number with which an input without a game, or with a last line that is not closed, is refused. Where the opening is still due it is only
+// judged: a refusal keeps every word.
+fn end_refusal(t: Standing, ns: &[u32], bs: &[u32]) -> u32
+    ensures { λ r. ⌜ r ≡ end-refusal (place t (now (ns .entry)) (now (bs .entry))) ⌝ }
+{
+    if t.refused != 0 {
+        return t.refused;
+    }
+    let s = t.session;
+    let phase = s.phase;
+    match phase {
+        Phase::Due(due) => {
+            if session_parse::optional(due) {
+                let header = s.header;
+                return judge_opening(header, ns, bs);
+            }
+            10
+        }
+        Phase::Events => 10,
+        Phase::Stopped => 10,
+    }
+}
+
+// The end of an input whose last line is closed or is not. The pools hold afterwards what they held before.
 pub fn finish(t: Standing, closed: bool, ns: &mut [u32], bs: &mut [u32], out: &mut [u8]) -> usize
     ensures { λ r. ⌜ EndsAt (ends-as (asked-at-end closed t) (place t (now (ns .entry)) (now (bs .entry)))) r (now (ns .exit)) (now (bs .exit))
         (now (out .entry)) (now (out .exit)) ⌝ }
@@ -75,9 +115,8 @@ pub fn finish(t: Standing, closed: bool, ns: &mut [u32], bs: &mut [u32], out: &m
             play(s, n, ns, bs, out)
         }
         Asked::NotYet => {
-            let long = [0u8; 41];
-            let r = crate::take_line(t, ns, bs, &long);
-            session_bytes::refusal(out, 0, r.refused)
+            let why = end_refusal(t, ns, bs);
+            session_bytes::refusal(out, 0, why)
         }
     }
 }

@@ -1,4 +1,5 @@
--- One event run and noted: the call that an output ends, and the turn of the loop that runs events. Assumes nothing.
+-- One event run and noted: the call that an output ends, the turn of the loop that runs events, and whether memory is sound.
+-- Assumes nothing.
 use Prim.Native.Nat.{ℕ, _+_, _*_, _-_, _≤_, _<_}
 use mathlib.Core.Path.{_≡_, refl, sym, ap, _∙_}
 use mathlib.Core.List.{List, [], _∷_}
@@ -6,6 +7,7 @@ use native.Mathlib.Omega.{arith}
 use lib.Dec.{eqb}
 use lib.ListN.{length, getD}
 use Rattle.spec.specs.declared.Answer.{Answer}
+use Rattle.spec.specs.declared.Config.{Config}
 use Rattle.spec.specs.declared.Call.the-variants.{Insert, Remove, Contains, Grow, Shrink}
 use Rattle.spec.specs.declared.Occupancy.{Occupancy}
 use Rattle.spec.specs.declared.Output.{Output}
@@ -15,9 +17,11 @@ use Rattle.spec.specs.Lists.{concat-map}
 use Rattle.spec.specs.Numbers.{answer-number}
 use Rattle.spec.specs.Machine.{Machine, idle, task-of}
 use Rattle.spec.specs.Words.{overwrite}
-use Rattle.spec.specs.Entries.{Reply}
+use Rattle.spec.specs.Sound.{sound}
+use Rattle.spec.specs.Entries.{Reply, opening}
 use Rattle.spec.specs.Schedule.{Event, starts, steps, event, run}
 use Rattle.laws.specs.Tests.{choose}
+use Rattle.known_memory.specs.EventSound.{event-sound, opening-known}
 use Rattle.session.specs.Transcript.{task-in}
 use Rattle.schedule_words.proofs.Laws.{over-none}
 use Rattle.schedule_events.specs.Events.{event-of, events-of}
@@ -111,3 +115,12 @@ run-noted ws k n y y' same w {m = m} {v = v} l h few short room =
       nodes = ap (λ (x : Machine). x .nodes) left;
       buckets = ap (λ (x : Machine). x .buckets) left;
     }
+
+-- ---- whether memory is sound
+
+pub known-opened : (g : Config) (ns bs : List ℕ) {r : ℕ} {y : Machine} → r ≡ opening g ns bs .refusal → y ≡ opening g ns bs .machine → eqb r 0 ≡ sound y
+known-opened g ns bs e f = ap (λ (x : ℕ). eqb x 0) e ∙ sym (opening-known g ns bs) ∙ ap sound (sym f)
+
+pub known-after : (p q : Noted) (v : Event) → q ≡ on-event p v → sound (q .machine) ≡ sound (p .machine)
+unfolding on-event
+known-after p q v e = ap (λ (x : Noted). sound (x .machine)) e ∙ event-sound (p .machine) v

@@ -1,5 +1,5 @@
 // Events given as words are run after an opening, all of them or all but one, and the calls that end are noted (`ended-calls` of mattered):
-// four words each, task, call, tag and answer.
+// four words each, task, call, tag and answer. Memory is its own from the opening on: it is not scanned before an event.
 use lines::Stepped;
 use schedule_events::Asked;
 use spec::Config;
@@ -10,6 +10,7 @@ ghost use mathlib.Core.Path.{_≡_};
 ghost use Prim.Native.Nat.{_≤_, _<_, _+_, _*_};
 ghost use lib.ListN.{length, getD};
 ghost use Rattle.spec.specs.Machine.{idle, machine-of};
+ghost use Rattle.spec.specs.Sound.{sound};
 ghost use Rattle.spec.specs.Entries.{opening};
 ghost use Rattle.spec.specs.Schedule.{event};
 ghost use Rattle.lines.specs.Reply.{reply-of};
@@ -36,12 +37,22 @@ fn task_of(s: State, k: u32) -> Task
     state::idle()
 }
 
-fn run_event(s: State, kind: u32, task: u32, tag: u32, ns: &mut [u32], bs: &mut [u32]) -> Stepped
+// Runs one event, given by its words; `ok` says whether memory is sound.
+fn run_event(
+    ok: bool,
+    s: State,
+    kind: u32,
+    task: u32,
+    tag: u32,
+    ns: &mut [u32],
+    bs: &mut [u32],
+) -> Stepped
+    requires { ⌜ ok ≡ sound (machine-of s (now ns) (now bs)) ⌝ }
     ensures { λ r. ⌜ reply-of r (now (ns .exit)) (now (bs .exit)) ≡ event (machine-of s (now (ns .entry)) (now (bs .entry))) (event-of kind task tag) ⌝ }
 {
     match schedule_events::asked_by(kind) {
-        Asked::Start(call) => hashset::start(s, task, call, tag, ns, bs),
-        Asked::Step => hashset::step(s, task, ns, bs),
+        Asked::Start(call) => known_memory::start(ok, s, task, call, tag),
+        Asked::Step => known_memory::step(ok, s, task, ns, bs),
     }
 }
 
@@ -63,6 +74,7 @@ fn note(calls: &mut [u32], n: usize, k: u32, c: Task, out: Output) -> usize
 
 // Runs event i, where n calls are noted.
 fn run_one(
+    ok: bool,
     s: State,
     n: usize,
     i: usize,
@@ -71,7 +83,7 @@ fn run_one(
     bs: &mut [u32],
     calls: &mut [u32],
 ) -> Run
-    requires { ⌜ (n ≤ i) × (i < 256) × (1024 ≤ length (now calls)) ⌝ }
+    requires { ⌜ (n ≤ i) × (i < 256) × (1024 ≤ length (now calls)) × (ok ≡ sound (machine-of s (now ns) (now bs))) ⌝ }
     ensures { λ r. ⌜ (r .count ≤ n + 1)
         × (noted (machine-of (r .state) (now (ns .exit)) (now (bs .exit))) (r .count) (now (calls .exit))
         ≡ on-event (noted (machine-of s (now (ns .entry)) (now (bs .entry))) n (now (calls .entry))) (event-at (now (events .entry)) i)) ⌝ }
@@ -81,7 +93,7 @@ fn run_one(
     let c = task_of(s, k);
     let kind = pool::word(events, at);
     let tag = pool::word(events, at + 2);
-    let d = run_event(s, kind, k, tag, ns, bs);
+    let d = run_event(ok, s, kind, k, tag, ns, bs);
     let out = d.out;
     let count = note(calls, n, k, c, out);
     let t = d.state;
@@ -103,13 +115,14 @@ pub fn run_without(
         (now (calls .entry)) r (now (calls .exit)) (now (ns .exit)) (now (bs .exit)) ⌝ }
 {
     let o = opening::open(g, ns, bs);
+    let ok = o.refusal == 0;
     let mut t = o.state;
     let mut count = 0;
     let mut i = 0;
     while i < n {
         let next = i + 1;
         if i != k {
-            let r = run_one(t, count, i, events, ns, bs, calls);
+            let r = run_one(ok, t, count, i, events, ns, bs, calls);
             count = r.count;
             t = r.state;
         }

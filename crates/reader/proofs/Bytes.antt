@@ -5,18 +5,29 @@ use mathlib.Core.Bool.{Bool, true, false}
 use Prim.Native.Nat.{ℕ, _+_, _<_, _≤_}
 use native.Mathlib.Numerals.{add-one}
 use native.Mathlib.Omega.{arith}
-use lib.Dec.{eqb}
-use lib.ListN.{length, getD, take}
+use borrow.Author.Needs.{set-long}
+use lib.Dec.{eqb, ltb}
+use lib.ListN.{length, getD, set, take}
 use lib.Seq.{take-suc, take-all, length-take-le}
+use Rattle.spec.specs.Lists.{if_then_else_}
 use Rattle.session.specs.Keys.{newline}
 use Rattle.session.specs.Grammar.{closed-line}
 use Rattle.recording.specs.declared.Verdict.{Verdict}
 use Rattle.reader_state.specs.declared.Reader.{Reader}
 use Rattle.reader_state.specs.declared.kept_line.KeptLine.{KeptLine}
 use Rattle.reader_state.specs.KeptLines.{kept-line, kept-bytes, pushed}
-use Rattle.reader_state.specs.Standing.{read-line, read-end, ReadAs, EndedAs}
+use Rattle.reader_state.specs.Standing.{read-line, read-end, ReadAs}
 use Rattle.reader.specs.declared.ByteReader.{ByteReader}
-use Rattle.reader.specs.Stream.{byte-reader, new-byte-reader, Progress, begin, after-line, read-byte, read-bytes, bytes-end, streamed, BytesRead}
+use Rattle.reader.specs.Stream.{byte-reader, new-byte-reader, Progress, begin, after-line, read-byte, read-bytes, bytes-end, streamed}
+use Rattle.reader.specs.Stream.{BytesRead, EndedAs}
+
+pub pushed-long : (h : KeptLine) (x : ℕ) (q : KeptLine) → q ≡ pushed h x → length (h .bytes) ≡ 73 → length (q .bytes) ≡ 73
+unfolding pushed
+pushed-long h x q e l = ap (λ (p : KeptLine). length (p .bytes)) e ∙ go (ltb (h .len) 73)
+  where
+    go : (b : Bool) → length ((if b then kept-line (set (h .bytes) (h .len) x) (h .len + 1) else h) .bytes) ≡ 73
+    go true = set-long ℕ (h .bytes) (h .len) 73 x l
+    go false = l
 
 module _ (r : Reader) (h : KeptLine) (ns bs : List ℕ) (x : ℕ) where
   abbrev at : Progress
@@ -69,22 +80,21 @@ reads-none q ns bs = record { reader = refl; nodes = refl; buckets = refl }
 -- ---- the end
 
 pub ends-bytes : (q : ByteReader) (ns bs : List ℕ) (n : ℕ) → n ≤ 73 → length (q .line .bytes) ≡ 73 → take n (q .line .bytes) ≡ kept-bytes (q .line)
-    → (closed : Bool) → closed ≡ eqb n 0 → (v : Verdict) (n' b' : List ℕ) → EndedAs (read-end closed (q .reader) ns bs) v n' b'
-    → EndedAs (bytes-end (begin q ns bs)) v n' b'
+    → (closed : Bool) → closed ≡ eqb n 0 → (v : Verdict) → v ≡ read-end closed (q .reader) ns bs → v ≡ bytes-end (begin q ns bs)
 unfolding bytes-end
-ends-bytes q ns bs n few room same closed e v n' b' h =
+ends-bytes q ns bs n few room same closed e v h =
     let l : n ≡ length (kept-bytes (q .line)) = sym (length-take-le n (q .line .bytes) (omega arith)) ∙ ap length same in
     let f : closed ≡ eqb (length (kept-bytes (q .line))) 0 = e ∙ ap (λ (k : ℕ). eqb k 0) l in
-    subst (λ (b : Bool). EndedAs (read-end b (q .reader) ns bs) v n' b') f h
+    h ∙ ap (λ (b : Bool). read-end b (q .reader) ns bs) f
 
 -- ---- a whole input
 
 pub ends-input : (p : ByteReader) → p ≡ new-byte-reader → (input ns bs : List ℕ) (q : ByteReader) (n' b' : List ℕ)
-    → BytesRead (read-bytes (begin p ns bs) input) q n' b' → (v : Verdict) (n'' b'' : List ℕ) → EndedAs (bytes-end (begin q n' b')) v n'' b''
-    → EndedAs (bytes-end (streamed input ns bs)) v n'' b''
+    → BytesRead (read-bytes (begin p ns bs) input) q n' b' → (v : Verdict) → v ≡ bytes-end (begin q n' b')
+    → EndedAs (streamed input ns bs) v n' b'
 unfolding streamed
-ends-input p e input ns bs q n' b' f v n'' b'' g =
+ends-input p e input ns bs q n' b' f v g =
     let from-new = subst (λ (z : ByteReader). BytesRead (read-bytes (begin z ns bs) input) q n' b') e f in
     let all = read-bytes (begin new-byte-reader ns bs) input in
     let same : begin q n' b' ≡ begin (all .reader) (all .nodes) (all .buckets) = cc (from-new .reader, from-new .nodes, from-new .buckets) in
-    subst (λ (z : Progress). EndedAs (bytes-end z) v n'' b'') same g
+    record { answer = g ∙ ap bytes-end same; nodes = from-new .nodes; buckets = from-new .buckets }

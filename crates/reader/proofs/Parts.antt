@@ -7,17 +7,18 @@ use Prim.Native.Nat.{ℕ, suc, _≤_, min}
 use native.Mathlib.Omega.{arith}
 use borrow.Author.Tests.{eq-eqb, ne-eqb}
 use lib.ListN.{take, drop, take-append-drop}
+use Rattle.spec.specs.declared.Output.{Output}
 use Rattle.spec.specs.declared.State.{State}
 use Rattle.spec.specs.Lists.{if_then_else_}
 use Rattle.spec.specs.Machine.{Machine, machine-of}
-use Rattle.spec.specs.Entries.{Reply, Opened, opening}
+use Rattle.spec.specs.Entries.{Opened, opening}
 use Rattle.spec.specs.Schedule.{Event, event}
 use Rattle.lines.specs.declared.Stepped.{Stepped}
-use Rattle.lines.specs.Reply.{reply-of}
 use Rattle.session.specs.declared.Header.{Header}
 use Rattle.session.specs.Grammar.{closed-line, equals}
 use Rattle.session.specs.Transcript.{task-in}
 use Rattle.session_pools.specs.PoolParts.{node-extent, bucket-extent, node-part, bucket-part}
+use Rattle.session_machine.specs.Parts.{part-machine, Replied}
 use Rattle.recording.specs.declared.ReaderPhase.{ReaderPhase}
 use Rattle.recording.specs.declared.ReaderPhase.the-variants.{Event as EventDue, Printed, Decided}
 use Rattle.recording.specs.declared.Verdict.{Verdict}
@@ -119,25 +120,17 @@ module _ (h : Header) (ns bs : List ℕ) (a b : ℕ) (ea : a ≡ node-extent h n
         (puts-back (Decided (Refusal refusal)) (lent .machine) m n' b' n n machine-is (omega arith))
 
 -- an event, and what it answers
-module _ (r : Reader) (ns bs : List ℕ) (a b : ℕ) (ea : a ≡ node-extent (r .header) ns) (eb : b ≡ bucket-extent (r .header) bs) where
-  pub runs : (e : Event) (d : Stepped) (n' b' : List ℕ) (number : ℕ) → reply-of d n' b' ≡ event (machine-of (r .state) (take a ns) (take b bs)) e
-      → number ≡ next-number (r .number)
-      → ReadAs (put-back (run-event e (with-part r ns bs)) ns bs) (reader-of (Printed (task-in e) (d .out)) (r .header) (d .state) number)
-      (n' ++ drop a ns) (b' ++ drop b bs)
-  unfolding run-event moved with-part next-number
-  runs e d n' b' number g f =
-      let y = with-part r ns bs .machine in
-      let same : reply-of d n' b' ≡ event y e = g ∙ ap (λ (z : Machine). event z e) (same-part (r .header) ns bs a b ea eb (r .state)) in
-      let answers = ap (λ (z : Reply). z .out) same in
-      read-as _ _ _ _ _
-      (ap (λ (o : _). reader-of (Printed (task-in e) o) (r .header) (d .state) number) answers)
-      (puts-back (r .header) ns bs a b ea eb (Printed (task-in e) (event y e .out)) (event y e .machine) (d .state) n' b' (suc (r .number)) number
-      (ap (λ (z : Reply). z .machine) same) f)
-
-  -- the same where the entry only reads the pools
-  pub runs-reading : (e : Event) (d : Stepped) (number : ℕ)
-      → reply-of d (take a ns) (take b bs) ≡ event (machine-of (r .state) (take a ns) (take b bs)) e → number ≡ next-number (r .number)
-      → ReadAs (put-back (run-event e (with-part r ns bs)) ns bs) (reader-of (Printed (task-in e) (d .out)) (r .header) (d .state) number) ns bs
-  runs-reading e d number g f =
-      let s = runs e d (take a ns) (take b bs) number g f in
-      record { next = s .next; nodes = sym (take-append-drop a ns) ∙ s .nodes; buckets = sym (take-append-drop b bs) ∙ s .buckets }
+pub runs : (r : Reader) (ns bs : List ℕ) (e : Event) (d : Stepped) (n' b' : List ℕ) (number : ℕ)
+    → Replied (event (part-machine (r .state) (r .header) ns bs) e) d (r .header) ns bs n' b' → number ≡ next-number (r .number)
+    → ReadAs (put-back (run-event e (with-part r ns bs)) ns bs) (reader-of (Printed (task-in e) (d .out)) (r .header) (d .state) number) n' b'
+unfolding run-event moved with-part next-number put-back
+runs r ns bs e d n' b' number p f =
+    let y = event (part-machine (r .state) (r .header) ns bs) e in
+    record {
+      next =
+          ap (λ (o : Output). reader-of (Printed (task-in e) o) (r .header) (d .state) number) (p .out)
+          ∙ ap (λ (m : State). reader-of (Printed (task-in e) (y .out)) (r .header) m number) (p .state)
+          ∙ ap (reader-of (Printed (task-in e) (y .out)) (r .header) (y .machine .state)) f;
+      nodes = p .nodes;
+      buckets = p .buckets;
+    }

@@ -4,6 +4,9 @@ use mathlib.Core.Path.{_≡_, refl, sym, ap, subst, _∙_}
 use mathlib.Core.List.{List}
 use mathlib.Core.Bool.{Bool, true, false}
 use Prim.Native.Nat.{ℕ}
+use borrow.Author.Tests.{eq-eqb, ne-eqb}
+use lib.ListN.{length}
+use Rattle.spec.specs.Entries.{opening}
 use Rattle.session.specs.declared.EventLine.{EventLine}
 use Rattle.session.specs.declared.Header.{Header}
 use Rattle.session.specs.declared.HeaderLine.{HeaderLine}
@@ -16,8 +19,11 @@ use Rattle.recording.specs.declared.Verdict.{Verdict}
 use Rattle.recording.specs.declared.Verdict.the-variants.{Refusal}
 use Rattle.recording.specs.Verdict.{lists, event-turn, turn}
 use Rattle.reader_state.specs.declared.Reader.{Reader}
+use Rattle.session_pools.specs.PoolParts.{extent, node-extent, bucket-extent, node-part, bucket-part}
+use Rattle.session_lines.specs.Openings.{part-length}
+use Rattle.opening.specs.Opening.{refusal-of, opening-refusal}
 use Rattle.reader_state.specs.Standing.{next-number, reader-of, LineRead, line-read, awaits-event, opened, turn-line, opened-line, header-line}
-use Rattle.reader_state.specs.Standing.{phase-line, read-line, end-read, answer-at-end, opened-end, phase-end, read-end, ReadAs, EndedAs}
+use Rattle.reader_state.specs.Standing.{phase-line, read-line, answer-at-end, judged-end, phase-end, read-end, ReadAs}
 
 -- ---- an event's turn
 
@@ -62,29 +68,39 @@ module _ (r : Reader) (p : ReaderPhase) (e : r .phase ≡ p) (ns bs : List ℕ) 
   unfolding read-line
   reads-line l s n' b' h = subst (λ (q : ReaderPhase). ReadAs (phase-line q r ns bs l) s n' b') (sym e) h
 
-  pub reads-end : (closed : Bool) (v : Verdict) (n' b' : List ℕ) → EndedAs (phase-end p closed r ns bs) v n' b' → EndedAs (read-end closed r ns bs) v n' b'
+  pub reads-end : (closed : Bool) (v : Verdict) → v ≡ phase-end p closed r ns bs → v ≡ read-end closed r ns bs
   unfolding read-end
-  reads-end closed v n' b' h = subst (λ (q : ReaderPhase). EndedAs (phase-end q closed r ns bs) v n' b') (sym e) h
+  reads-end closed v h = h ∙ ap (λ (q : ReaderPhase). phase-end q closed r ns bs) (sym e)
 
 -- ---- the end
 
-pub ends-as : (v w : Verdict) (ns bs : List ℕ) → v ≡ w → EndedAs (end-read w ns bs) v ns bs
-ends-as v w ns bs e = record { answer = e; nodes = refl; buckets = refl }
-
-pub refused-as : (n m : ℕ) (ns bs : List ℕ) → n ≡ m → EndedAs (end-read (Refusal m) ns bs) (Refusal n) ns bs
-refused-as n m ns bs e = ends-as (Refusal n) (Refusal m) ns bs (ap Refusal e)
-
 -- in a phase in which no line of the listing is asked for
-pub ends-answered : (p q : ReaderPhase) → p ≡ q → (n refusal : ℕ) → n ≡ refusal → (v : Verdict) → v ≡ answer-at-end p n → (ns bs : List ℕ)
-    → EndedAs (end-read (answer-at-end q refusal) ns bs) v ns bs
-ends-answered p q e n refusal f v g ns bs =
-    let same : answer-at-end p n ≡ answer-at-end q refusal = cc (e, f) in
-    ends-as v (answer-at-end q refusal) ns bs (g ∙ same)
+pub ends-answered : (p q : ReaderPhase) → p ≡ q → (n refusal : ℕ) → n ≡ refusal → (v : Verdict) → v ≡ answer-at-end p n → v ≡ answer-at-end q refusal
+ends-answered p q e n refusal f v g = let same : answer-at-end p n ≡ answer-at-end q refusal = cc (e, f) in g ∙ same
 
--- after the opening
-pub ends-opened : (d : LineRead) (s : Reader) (n' b' : List ℕ) → ReadAs d s n' b' → (refusal n : ℕ) → n ≡ refusal → (v : Verdict)
-    → v ≡ answer-at-end (s .phase) n → EndedAs (opened-end d refusal) v n' b'
-unfolding opened-end
-ends-opened d s n' b' o refusal n e v f =
-    let g : answer-at-end (s .phase) n ≡ answer-at-end (d .reader .phase) refusal = cc (o .next, e) in
-    record { answer = f ∙ g; nodes = o .nodes; buckets = o .buckets }
+-- the opening asks of the pools only how long they are
+pub ends-judged : (h : Header) (refusal k : ℕ) (ns bs : List ℕ) → k ≡ refusal → (v : Verdict)
+    → v ≡ judged-end (refusal-of (h .config) (node-extent h ns) (bucket-extent h bs)) k
+    → v ≡ judged-end (opening (h .config) (node-part h ns) (bucket-part h bs) .refusal) refusal
+ends-judged h refusal k ns bs e v f =
+    let same =
+    opening-refusal (h .config) (node-part h ns) (bucket-part h bs)
+    ∙ ap (λ (a : ℕ). refusal-of (h .config) a (length (bucket-part h bs))) (part-length 34 64 (h .nodes) ns)
+    ∙ ap (refusal-of (h .config) (node-extent h ns)) (part-length 66 200 (h .buckets) bs) in
+    f ∙ (λ i. judged-end (sym same i) (e i))
+
+module _ (h : Header) (nodes buckets a b why refusal : ℕ) (w : why ≡ refusal-of (h .config) a b) (ea : a ≡ extent 34 64 (h .nodes) nodes)
+    (eb : b ≡ extent 66 200 (h .buckets) buckets) where
+  abbrev of-header : ℕ
+  of-header = refusal-of (h .config) (extent 34 64 (h .nodes) nodes) (extent 66 200 (h .buckets) buckets)
+
+  same-refusal : of-header ≡ why
+  same-refusal = sym (w ∙ (λ i. refusal-of (h .config) (ea i) (eb i)))
+
+  pub judged-refused : (why ≡ 0 → ⊥) → Refusal why ≡ judged-end of-header refusal
+  unfolding judged-end
+  judged-refused d = rw (same-refusal, ne-eqb why 0 d) refl
+
+  pub judged-accepted : why ≡ 0 → Refusal refusal ≡ judged-end of-header refusal
+  unfolding judged-end
+  judged-accepted z = rw (same-refusal, eq-eqb why 0 z) refl

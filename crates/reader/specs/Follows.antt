@@ -37,7 +37,7 @@ use Rattle.recording.specs.Reader.{read-opened, read-header-line, read-phase, a
 use Rattle.recording.specs.Reader.{read-line as read-defined, read-end as end-defined, read-unclosed as unclosed-defined, opened-end as opened-end-defined}
 use Rattle.reader_state.specs.declared.Reader.{Reader}
 use Rattle.reader_state.specs.Standing.{most-lines, next-number, missing, with-part, LineRead, put-back, decided, awaits-event, opened}
-use Rattle.reader_state.specs.Standing.{turn-line, opened-line, header-line, phase-line, read-line, answer-at-end, opened-end, phase-end, read-end}
+use Rattle.reader_state.specs.Standing.{turn-line, opened-line, header-line, phase-line, read-line, judged-end, phase-end, read-end}
 
 -- the header is read, or the answer is given
 unfoldable pub past-header : ReaderPhase → Bool
@@ -221,15 +221,9 @@ module _ (ns bs : List ℕ) (nodes-fit : 2176 ≤ length ns) (buckets-fit : 1320
           let awaits : awaits-event (d .reader .phase) ≡ false = ap awaits-event e in
           rw awaits (record { follows = answered e; number = omega arith })
 
-  opened-answer : (n refusal : ℕ) → n ≤ most-lines
-      → answer-at-end (opened h n n ns bs .reader .phase) refusal ≡ opened-end-defined refusal (session-opening h) .answer
-  unfolding opened-end-defined answer-at-end with-part
-  opened-answer n refusal few = go (eqb (session-opening h .refusal) 0) (opened-as n n few)
-    where
-      go : (b : Bool) → OpenedAs n n b
-          → answer-at-end (opened h n n ns bs .reader .phase) refusal ≡ (if b then Refusal refusal else Refusal (session-opening h .refusal))
-      go true (accepts same) = ap (λ (x : defined.Reader). answer-at-end (x .phase) refusal) same
-      go false (refuses e) = ap (λ (p : ReaderPhase). answer-at-end p refusal) e
+  judged-as : (refusal : ℕ) → judged-end (lent .refusal) refusal ≡ opened-end-defined refusal (session-opening h) .answer
+  unfolding judged-end opened-end-defined
+  judged-as refusal = ap (λ (why : ℕ). judged-end why refusal) (alike .refusal)
 
 -- ---- a line
 
@@ -274,36 +268,28 @@ unfoldable pub answer-defined : Bool → defined.Reader → Verdict
 answer-defined closed e = (if closed then end-defined e else unclosed-defined e) .answer
 
 header-end : (closed : Bool) (d : LineRead) (due : HeaderLine) (y : Machine) → 2176 ≤ length (d .nodes) → 13200 ≤ length (d .buckets)
-    → d .reader .number ≤ most-lines
-    → phase-end (Due due) closed (d .reader) (d .nodes) (d .buckets) .answer ≡ answer-defined closed
-    (reader (Due due) (d .reader .header) y (d .reader .number))
-unfolding answer-defined end-defined unclosed-defined read-phase-end read-phase-unclosed phase-end opened-end missing answers
-header-end closed d due y f g few = go closed (optional due)
+    → phase-end (Due due) closed (d .reader) (d .nodes) (d .buckets)
+    ≡ answer-defined closed (reader (Due due) (d .reader .header) y (d .reader .number))
+unfolding answer-defined end-defined unclosed-defined read-phase-end read-phase-unclosed phase-end missing answers
+header-end closed d due y f g = go closed (optional due)
   where
     h : Header
     h = d .reader .header
 
-    n : ℕ
-    n = d .reader .number
-
     e : defined.Reader
-    e = reader (Due due) h y n
+    e = reader (Due due) h y (d .reader .number)
 
     go : (c b : Bool)
-        → (if b then opened-end (opened h n n (d .nodes) (d .buckets)) (missing c) else record {
-          answer = Refusal (missing c);
-          nodes = d .nodes;
-          buckets = d .buckets;
-        }) .answer
+        → (if b then judged-end (opening (h .config) (node-part h (d .nodes)) (bucket-part h (d .buckets)) .refusal) (missing c) else Refusal (missing c))
         ≡ (if c then (if b then opened-end-defined 12 (session-opening h) else answers (Refusal 12) e)
         else (if b then opened-end-defined 10 (session-opening h) else answers (Refusal 10) e)) .answer
-    go true true = opened-answer (d .nodes) (d .buckets) f g h n 12 few
+    go true true = judged-as (d .nodes) (d .buckets) f g h 12
     go true false = refl
-    go false true = opened-answer (d .nodes) (d .buckets) f g h n 10 few
+    go false true = judged-as (d .nodes) (d .buckets) f g h 10
     go false false = refl
 
 machine-end : (closed : Bool) (d : LineRead) (e : defined.Reader) (p : ReaderPhase) → part-of d ≡ e → past-header p ≡ true
-    → phase-end p closed (d .reader) (d .nodes) (d .buckets) .answer ≡ (if closed then read-phase-end p e else read-phase-unclosed p e) .answer
+    → phase-end p closed (d .reader) (d .nodes) (d .buckets) ≡ (if closed then read-phase-end p e else read-phase-unclosed p e) .answer
 unfolding read-phase-end read-phase-unclosed phase-end missing answers past-header
 machine-end closed d e (Due due) same p = absurd (tf p refl)
 machine-end true d e EventDue same p = refl
@@ -315,16 +301,16 @@ machine-end false d e (Listed k) same p = refl
 machine-end true d e (Decided v) same p = refl
 machine-end false d e (Decided v) same p = refl
 
-pub end-follows : (closed : Bool) (d : LineRead) {e : defined.Reader} → Follows d e → e .number ≤ most-lines
-    → read-end closed (d .reader) (d .nodes) (d .buckets) .answer ≡ answer-defined closed e
+pub end-follows : (closed : Bool) (d : LineRead) {e : defined.Reader} → Follows d e
+    → read-end closed (d .reader) (d .nodes) (d .buckets) ≡ answer-defined closed e
 unfolding read-end answer-defined end-defined unclosed-defined with-part read-phase-end read-phase-unclosed phase-end answers
-end-follows closed d (in-header {due = due} {y = y} p f g) few =
-    ap (λ (q : ReaderPhase). phase-end q closed (d .reader) (d .nodes) (d .buckets) .answer) p ∙ header-end closed d due y f g few
-end-follows closed d (with-machine-of {e = e} p same) few =
+end-follows closed d (in-header {due = due} {y = y} p f g) =
+    ap (λ (q : ReaderPhase). phase-end q closed (d .reader) (d .nodes) (d .buckets)) p ∙ header-end closed d due y f g
+end-follows closed d (with-machine-of {e = e} p same) =
     let at : d .reader .phase ≡ e .phase = ap (λ (x : defined.Reader). x .phase) same in
-    ap (λ (q : ReaderPhase). phase-end q closed (d .reader) (d .nodes) (d .buckets) .answer) at ∙ machine-end closed d e (e .phase) same p
-end-follows closed d (answered {v = v} {h = h} {y = y} {n = n} p) few =
-    ap (λ (q : ReaderPhase). phase-end q closed (d .reader) (d .nodes) (d .buckets) .answer) p ∙ go closed
+    ap (λ (q : ReaderPhase). phase-end q closed (d .reader) (d .nodes) (d .buckets)) at ∙ machine-end closed d e (e .phase) same p
+end-follows closed d (answered {v = v} {h = h} {y = y} {n = n} p) =
+    ap (λ (q : ReaderPhase). phase-end q closed (d .reader) (d .nodes) (d .buckets)) p ∙ go closed
   where
     go : (c : Bool) → v ≡ (if c then answers v (reader (Decided v) h y n) else answers v (reader (Decided v) h y n)) .answer
     go true = refl

@@ -107,11 +107,11 @@ byte-follows p q x f few = go (eqb x newline)
     go false = (record { line = more-kept h (q .kept) x (f .line); reader = f .reader }, omega arith)
 
 bytes-follow : (xs : List ℕ) (p : Progress) (q : defined.ByteReader) → FollowsBytes p q → q .reader .number + length xs ≤ most-lines
-    → bytes-end (read-bytes p xs) .answer ≡ bytes-end-defined (read-bytes-defined q xs) .answer
+    → bytes-end (read-bytes p xs) ≡ bytes-end-defined (read-bytes-defined q xs) .answer
 unfolding read-bytes read-bytes-defined bytes-end bytes-end-defined answer-defined
 bytes-follow [] p q f few =
-    ap (λ (w : List ℕ). read-end (eqb (length w) 0) (p .reader .reader) (p .nodes) (p .buckets) .answer) (f .line .same)
-    ∙ end-follows (eqb (length (q .kept)) 0) (line-of p) (f .reader) (omega arith)
+    ap (λ (w : List ℕ). read-end (eqb (length w) 0) (p .reader .reader) (p .nodes) (p .buckets)) (f .line .same)
+    ∙ end-follows (eqb (length (q .kept)) 0) (line-of p) (f .reader)
 bytes-follow (x ∷ xs) p q f few =
     let g = byte-follows p q x f (omega arith) in
     bytes-follow xs (read-byte p x) (read-byte-defined q x) (g .0) (omega (arith, g .1))
@@ -119,7 +119,7 @@ bytes-follow (x ∷ xs) p q f few =
 -- ---- a whole input
 
 pub stream-gives-verdict : (input ns bs : List ℕ) → 2176 ≤ length ns → 13200 ≤ length bs → length input < most-lines
-    → bytes-end (streamed input ns bs) .answer ≡ verdict input
+    → bytes-end (streamed input ns bs) ≡ verdict input
 unfolding streamed new-byte-reader new-byte-defined new-reader new-defined empty-line read-input
 stream-gives-verdict input ns bs nodes-fit buckets-fit few =
     let start : FollowsBytes (begin new-byte-reader ns bs) new-byte-defined =

@@ -1,3 +1,4 @@
 pub mod Stream
 pub mod Follows
 pub mod GivesVerdict
+pub mod KnownMemory

@@ -11,7 +11,8 @@ use Rattle.session.specs.Grammar.{closed-line}
 use Rattle.reader_state.specs.declared.Reader.{Reader}
 use Rattle.reader_state.specs.declared.kept_line.KeptLine.{KeptLine}
 use Rattle.reader_state.specs.KeptLines.{kept-line, empty-line, kept-bytes, pushed}
-use Rattle.reader_state.specs.Standing.{new-reader, LineRead, read-line, EndRead, read-end}
+use Rattle.recording.specs.declared.Verdict.{Verdict}
+use Rattle.reader_state.specs.Standing.{new-reader, LineRead, read-line, read-end}
 use Rattle.reader.specs.declared.ByteReader.{ByteReader}
 
 abbrev pub byte-reader : Reader → KeptLine → ByteReader
@@ -45,7 +46,7 @@ read-bytes p [] = p
 read-bytes p (x ∷ xs) = read-bytes (read-byte p x) xs
 
 -- the last line is closed, or it is not
-unfoldable pub bytes-end : Progress → EndRead
+unfoldable pub bytes-end : Progress → Verdict
 bytes-end p = read-end (eqb (length (kept-bytes (p .reader .line))) 0) (p .reader .reader) (p .nodes) (p .buckets)
 
 -- a whole input over lent pools
@@ -56,5 +57,11 @@ streamed input ns bs = read-bytes (begin new-byte-reader ns bs) input
 
 pub record BytesRead (p : Progress) (q : ByteReader) (ns bs : List ℕ) : Type 0 where
   pub reader : q ≡ p .reader
+  pub nodes : ns ≡ p .nodes
+  pub buckets : bs ≡ p .buckets
+
+-- the answer after this, and what the pools hold then
+pub record EndedAs (p : Progress) (v : Verdict) (ns bs : List ℕ) : Type 0 where
+  pub answer : v ≡ bytes-end p
   pub nodes : ns ≡ p .nodes
   pub buckets : bs ≡ p .buckets

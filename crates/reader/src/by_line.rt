@@ -5,11 +5,18 @@ ghost use Rattle.session.specs.Header.{header-step};
 ghost use Rattle.session.specs.Buffer.{buffer, append};
 ghost use Rattle.spec.specs.Schedule.{starts, steps};
 ghost use mathlib.Core.Path.{_≡_};
+ghost use mathlib.Core.List.{List};
+ghost use Prim.Native.Nat.{ℕ};
+ghost use Rattle.spec.specs.Sound.{sound};
+ghost use Rattle.session_machine.specs.Parts.{part-machine};
+ghost use Rattle.reader.specs.KnownMemory.{KnownIn};
 ghost use lib.ListN.{drop};
 ghost use Rattle.recording.specs.Recording.{listing};
 ghost use Rattle.recording.specs.Reader.{run-event, read-listed, listing-end};
 ghost use Rattle.reader_state.specs.ListedLines.{first-bytes};
-ghost use Rattle.reader_state.specs.Standing.{with-part, put-back, opened, turn-line, header-line, read-line, read-end, ReadAs, EndedAs};
+ghost use Rattle.session_pools.specs.PoolParts.{extent};
+ghost use Rattle.opening.specs.Opening.{refusal-of};
+ghost use Rattle.reader_state.specs.Standing.{with-part, put-back, opened, turn-line, header-line, read-line, judged-end, read-end, ReadAs};
 use reader_state::Reader;
 use recording::ReaderPhase;
 use recording::Verdict;
@@ -48,15 +55,13 @@ fn open_machine(h: Header, n: u64, next: u64, ns: &mut [u32], bs: &mut [u32]) ->
 }
 
 // Starts a call for a task; its output line comes next.
-fn start_task(r: Reader, k: u32, call: Call, tag: u32, ns: &[u32], bs: &[u32]) -> Reader
-    ensures { λ s. ⌜ ReadAs (put-back (run-event (starts k call tag) (with-part r (now (ns .entry)) (now (bs .entry)))) (now (ns .entry)) (now (bs .entry)))
-        s (now (ns .entry)) (now (bs .entry)) ⌝ }
+fn start_task(ok: bool, r: Reader, k: u32, call: Call, tag: u32) -> Reader
+    ensures { λ s. ⌜ ((ns bs : List ℕ) → ok ≡ sound (part-machine (r .state) (r .header) ns bs)
+        → ReadAs (put-back (run-event (starts k call tag) (with-part r ns bs)) ns bs) s ns bs) ⌝ }
 {
     let header = r.header;
-    let a = session_pools::node_extent(header.nodes, ns.len());
-    let b = session_pools::bucket_extent(header.buckets, bs.len());
     let before = r.state;
-    let d = lent::start_local(before, k, call, tag, &ns[..a], &bs[..b]);
+    let d = session_machine::start(ok, before, k, call, tag);
     let answered = d.out;
     let m = d.state;
     let next = reader_state::next_number(r.number);
@@ -69,15 +74,14 @@ fn start_task(r: Reader, k: u32, call: Call, tag: u32, ns: &[u32], bs: &[u32]) -
 }
 
 // Steps a task by one line of Figure 2; its output line comes next.
-fn step_task(r: Reader, k: u32, ns: &mut [u32], bs: &mut [u32]) -> Reader
+fn step_task(ok: bool, r: Reader, k: u32, ns: &mut [u32], bs: &mut [u32]) -> Reader
+    requires { ⌜ ok ≡ sound (part-machine (r .state) (r .header) (now ns) (now bs)) ⌝ }
     ensures { λ s. ⌜ ReadAs (put-back (run-event (steps k) (with-part r (now (ns .entry)) (now (bs .entry)))) (now (ns .entry)) (now (bs .entry))) s
         (now (ns .exit)) (now (bs .exit)) ⌝ }
 {
     let header = r.header;
-    let a = session_pools::node_extent(header.nodes, ns.len());
-    let b = session_pools::bucket_extent(header.buckets, bs.len());
     let before = r.state;
-    let d = lent::step_local(before, k, &mut ns[..a], &mut bs[..b]);
+    let d = session_machine::step(ok, before, header, k, ns, bs);
     let answered = d.out;
     let m = d.state;
     let next = reader_state::next_number(r.number);
@@ -139,15 +143,16 @@ fn listed_end(r: Reader, k: u32, ns: &[u32], bs: &[u32]) -> Verdict
 }
 
 // The line of an event, or the listing's first.
-fn turn_line(r: Reader, ns: &mut [u32], bs: &mut [u32], line: &[u8]) -> Reader
+fn turn_line(ok: bool, r: Reader, ns: &mut [u32], bs: &mut [u32], line: &[u8]) -> Reader
+    requires { ⌜ ok ≡ sound (part-machine (r .state) (r .header) (now ns) (now bs)) ⌝ }
     ensures { λ s. ⌜ ReadAs (turn-line r (now (ns .entry)) (now (bs .entry)) (closed-line (now (line .entry)))) s (now (ns .exit)) (now (bs .exit)) ⌝ }
 {
     if session_keys::starts_with(line, b"size=") {
         return listed_line(r, 0, ns, bs, line);
     }
     match session_parse::event_line(line) {
-        EventLine::Start(k, call, tag) => start_task(r, k, call, tag, ns, bs),
-        EventLine::Step(k) => step_task(r, k, ns, bs),
+        EventLine::Start(k, call, tag) => start_task(ok, r, k, call, tag),
+        EventLine::Step(k) => step_task(ok, r, k, ns, bs),
         EventLine::Outside => reader_state::decided(Verdict::Refusal(10), r),
     }
 }
@@ -179,7 +184,7 @@ fn header_line(r: Reader, due: HeaderLine, ns: &mut [u32], bs: &mut [u32], line:
             let s = open_machine(h, n, n, ns, bs);
             let phase = s.phase;
             if reader_state::awaits_event(phase) {
-                return turn_line(s, ns, bs, line);
+                return turn_line(true, s, ns, bs, line);
             }
             s
         }
@@ -187,23 +192,61 @@ fn header_line(r: Reader, due: HeaderLine, ns: &mut [u32], bs: &mut [u32], line:
     }
 }
 
-// One closed line, without its closing byte 10.
-pub fn read_line(r: Reader, ns: &mut [u32], bs: &mut [u32], line: &[u8]) -> Reader
+// Whether memory is sound, by a scan of it.
+fn scan(r: Reader, ns: &[u32], bs: &[u32]) -> bool
+    ensures { λ ok. ⌜ ok ≡ sound (part-machine (r .state) (r .header) (now (ns .entry)) (now (bs .entry))) ⌝ }
+{
+    let m = r.state;
+    let header = r.header;
+    session_machine::is_sound(m, header, ns, bs)
+}
+
+// Whether memory is sound: a scan of it once the machine is opened.
+pub fn sound_memory(r: Reader, ns: &[u32], bs: &[u32]) -> bool
+    ensures { λ ok. ⌜ KnownIn ok r (now (ns .entry)) (now (bs .entry)) ⌝ }
+{
+    let phase = r.phase;
+    match phase {
+        ReaderPhase::Due(_) => true,
+        ReaderPhase::Event => scan(r, ns, bs),
+        ReaderPhase::Printed(_, _) => scan(r, ns, bs),
+        ReaderPhase::Listed(_) => scan(r, ns, bs),
+        ReaderPhase::Decided(_) => true,
+    }
+}
+
+// One closed line, without its closing byte 10. `ok` is what `sound_memory` gives before the line, and it gives the same after it (`read-known`).
+pub fn read_line(ok: bool, r: Reader, ns: &mut [u32], bs: &mut [u32], line: &[u8]) -> Reader
+    requires { ⌜ KnownIn ok r (now ns) (now bs) ⌝ }
     ensures { λ s. ⌜ ReadAs (read-line r (now (ns .entry)) (now (bs .entry)) (closed-line (now (line .entry)))) s (now (ns .exit)) (now (bs .exit)) ⌝ }
 {
     let phase = r.phase;
     match phase {
         ReaderPhase::Due(due) => header_line(r, due, ns, bs, line),
-        ReaderPhase::Event => turn_line(r, ns, bs, line),
+        ReaderPhase::Event => turn_line(ok, r, ns, bs, line),
         ReaderPhase::Printed(k, o) => reader_state::comparing::compare_output(r, k, o, line),
         ReaderPhase::Listed(k) => listed_line(r, k, ns, bs, line),
         ReaderPhase::Decided(_) => r,
     }
 }
 
-// The end of the input, whose last line is closed or is not.
-pub fn read_end(closed: bool, r: Reader, ns: &mut [u32], bs: &mut [u32]) -> Verdict
-    ensures { λ v. ⌜ EndedAs (read-end closed r (now (ns .entry)) (now (bs .entry))) v (now (ns .exit)) (now (bs .exit)) ⌝ }
+// The end of the input where a header line that may be left out is due, with pools of so many words: the refusal of the opening, or this one.
+fn judge_opening(h: Header, nodes: usize, buckets: usize, refusal: u32) -> Verdict
+    ensures { λ v. ⌜ v ≡ judged-end (refusal-of (h .config) (extent 34 64 (h .nodes) nodes) (extent 66 200 (h .buckets) buckets)) refusal ⌝ }
+{
+    let a = session_pools::node_extent(h.nodes, nodes);
+    let b = session_pools::bucket_extent(h.buckets, buckets);
+    let config = h.config;
+    let why = opening::refusal(config, a, b);
+    if why != 0 {
+        return Verdict::Refusal(why);
+    }
+    Verdict::Refusal(refusal)
+}
+
+// The end of the input, whose last line is closed or is not. Where the opening is still due it is only judged: a refusal keeps every word.
+pub fn read_end(closed: bool, r: Reader, ns: &[u32], bs: &[u32]) -> Verdict
+    ensures { λ v. ⌜ v ≡ read-end closed r (now (ns .entry)) (now (bs .entry)) ⌝ }
 {
     let refusal = reader_state::missing(closed);
     let phase = r.phase;
@@ -211,10 +254,7 @@ pub fn read_end(closed: bool, r: Reader, ns: &mut [u32], bs: &mut [u32]) -> Verd
         ReaderPhase::Due(due) => {
             if session_parse::optional(due) {
                 let header = r.header;
-                let n = r.number;
-                let s = open_machine(header, n, n, ns, bs);
-                let at = s.phase;
-                return reader_state::answer_at_end(at, refusal);
+                return judge_opening(header, ns.len(), bs.len(), refusal);
             }
             Verdict::Refusal(refusal)
         }

@@ -7,8 +7,7 @@ ghost use mathlib.Core.Path.{_≡_};
 ghost use Prim.Native.Nat.{_≤_};
 ghost use lib.ListN.{length};
 ghost use Rattle.recording.specs.Verdict.{verdict};
-ghost use Rattle.reader_state.specs.Standing.{EndedAs};
-ghost use Rattle.reader.specs.Stream.{new-byte-reader, begin, read-byte, read-bytes, bytes-end, streamed, BytesRead};
+ghost use Rattle.reader.specs.Stream.{new-byte-reader, begin, read-bytes, bytes-end, streamed, BytesRead, EndedAs};
 use reader_state::Reader;
 use reader_state::kept_line::KeptLine;
 use recording::Verdict;
@@ -28,40 +27,34 @@ pub fn new_byte_reader() -> ByteReader
     ByteReader { reader, line }
 }
 
-// One byte of the input.
-pub fn read_byte(p: ByteReader, x: u8, ns: &mut [u32], bs: &mut [u32]) -> ByteReader
-    ensures { λ q. ⌜ BytesRead (read-byte (begin p (now (ns .entry)) (now (bs .entry))) x) q (now (ns .exit)) (now (bs .exit)) ⌝ }
-{
-    let r = p.reader;
-    let h = p.line;
-    if partial_line::closes(x) {
-        let n = reader_state::kept_line::line_length(h);
-        let b = h.bytes;
-        let next = by_line::read_line(r, ns, bs, &b[..n]);
-        let line = KeptLine { bytes: b, len: 0 };
-        return ByteReader { reader: next, line };
-    }
-    let line = reader_state::kept_line::push(h, x);
-    ByteReader { reader: r, line }
-}
-
-// Some bytes of the input, one after the other.
+// Some bytes of the input, one after the other. Memory is scanned once, before the first of them.
 pub fn read_bytes(p: ByteReader, input: &[u8], ns: &mut [u32], bs: &mut [u32]) -> ByteReader
     ensures { λ q. ⌜ BytesRead (read-bytes (begin p (now (ns .entry)) (now (bs .entry))) (now (input .entry))) q (now (ns .exit)) (now (bs .exit)) ⌝ }
 {
-    let mut q = p;
+    let mut reader = p.reader;
+    let mut line = p.line;
+    let ok = by_line::sound_memory(reader, ns, bs);
     let mut i = 0;
     while i < input.len() {
-        let next = read_byte(q, input[i], ns, bs);
-        q = next;
+        let x = input[i];
         i += 1;
+        if partial_line::closes(x) {
+            let n = reader_state::kept_line::line_length(line);
+            let b = line.bytes;
+            let next = by_line::read_line(ok, reader, ns, bs, &b[..n]);
+            reader = next;
+            line = KeptLine { bytes: b, len: 0 };
+        } else {
+            let longer = reader_state::kept_line::push(line, x);
+            line = longer;
+        }
     }
-    q
+    ByteReader { reader, line }
 }
 
 // The end of the input.
-pub fn end_bytes(p: ByteReader, ns: &mut [u32], bs: &mut [u32]) -> Verdict
-    ensures { λ v. ⌜ EndedAs (bytes-end (begin p (now (ns .entry)) (now (bs .entry)))) v (now (ns .exit)) (now (bs .exit)) ⌝ }
+pub fn end_bytes(p: ByteReader, ns: &[u32], bs: &[u32]) -> Verdict
+    ensures { λ v. ⌜ v ≡ bytes-end (begin p (now (ns .entry)) (now (bs .entry))) ⌝ }
 {
     let r = p.reader;
     let h = p.line;
@@ -71,7 +64,7 @@ pub fn end_bytes(p: ByteReader, ns: &mut [u32], bs: &mut [u32]) -> Verdict
 
 // A whole recording, over lent pools. With 2,176 node words and 13,200 bucket words or more the answer is the input's verdict.
 pub fn verdict(input: &[u8], ns: &mut [u32], bs: &mut [u32]) -> Verdict
-    ensures all { λ v. ⌜ EndedAs (bytes-end (streamed (now (input .entry)) (now (ns .entry)) (now (bs .entry)))) v (now (ns .exit)) (now (bs .exit)) ⌝ }
+    ensures all { λ v. ⌜ EndedAs (streamed (now (input .entry)) (now (ns .entry)) (now (bs .entry))) v (now (ns .exit)) (now (bs .exit)) ⌝ }
     ensures whole { λ v. ⌜ (2176 ≤ length (now (ns .entry)) → 13200 ≤ length (now (bs .entry)) → v ≡ verdict (now (input .entry))) ⌝ }
 {
     let p = new_byte_reader();

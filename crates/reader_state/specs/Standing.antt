@@ -5,6 +5,7 @@ use Prim.Native.Nat.{ℕ, suc, _+_, min}
 use mathlib.Core.Path.{_≡_}
 use mathlib.Core.List.{List, _++_}
 use mathlib.Core.Bool.{Bool, true, false}
+use lib.Dec.{eqb}
 use lib.ListN.{drop}
 use Rattle.spec.specs.declared.State.{State}
 use Rattle.spec.specs.Lists.{if_then_else_}
@@ -126,16 +127,7 @@ phase-line (Decided v) r ns bs l = line-read r ns bs
 unfoldable pub read-line : Reader → List ℕ → List ℕ → InputLine → LineRead
 read-line r ns bs l = phase-line (r .phase) r ns bs l
 
--- ---- the end of the input, whose last line is closed or is not
-
--- what is answered, and the words then, since a header may be complete only there
-pub record EndRead : Type 0 where
-  pub answer : Verdict
-  pub nodes : List ℕ
-  pub buckets : List ℕ
-
-abbrev pub end-read : Verdict → List ℕ → List ℕ → EndRead
-end-read v ns bs = record { answer = v; nodes = ns; buckets = bs }
+-- ---- the end of the input, whose last line is closed or is not: what is answered. The pools are only read
 
 -- where a line is missing: this refusal, unless the answer is given already
 unfoldable pub answer-at-end : ReaderPhase → ℕ → Verdict
@@ -145,30 +137,27 @@ answer-at-end (Printed k o) refusal = Refusal refusal
 answer-at-end (Listed k) refusal = Refusal refusal
 answer-at-end (Decided v) refusal = v
 
-unfoldable pub opened-end : LineRead → ℕ → EndRead
-opened-end d refusal = end-read (answer-at-end (d .reader .phase) refusal) (d .nodes) (d .buckets)
+-- the opening's refusal, or else this one
+unfoldable pub judged-end : ℕ → ℕ → Verdict
+judged-end why refusal = if eqb why 0 then Refusal refusal else Refusal why
 
-unfoldable pub phase-end : ReaderPhase → Bool → Reader → List ℕ → List ℕ → EndRead
+-- where a header line that may be left out is due, the opening is judged and not made: nothing would be run after it
+unfoldable pub phase-end : ReaderPhase → Bool → Reader → List ℕ → List ℕ → Verdict
 phase-end (Due due) closed r ns bs =
-    if optional due then opened-end (opened (r .header) (r .number) (r .number) ns bs) (missing closed)
-    else end-read (Refusal (missing closed)) ns bs
-phase-end EventDue closed r ns bs = end-read (Refusal (missing closed)) ns bs
-phase-end (Printed k o) closed r ns bs = end-read (Refusal (missing closed)) ns bs
-phase-end (Listed k) closed r ns bs =
-    end-read (if closed then listing-end (drop k (listing (with-part r ns bs .machine))) else Refusal (missing closed)) ns bs
-phase-end (Decided v) closed r ns bs = end-read v ns bs
+    let h = r .header in
+    if optional due then judged-end (opening (h .config) (node-part h ns) (bucket-part h bs) .refusal) (missing closed)
+    else Refusal (missing closed)
+phase-end EventDue closed r ns bs = Refusal (missing closed)
+phase-end (Printed k o) closed r ns bs = Refusal (missing closed)
+phase-end (Listed k) closed r ns bs = if closed then listing-end (drop k (listing (with-part r ns bs .machine))) else Refusal (missing closed)
+phase-end (Decided v) closed r ns bs = v
 
-unfoldable pub read-end : Bool → Reader → List ℕ → List ℕ → EndRead
+unfoldable pub read-end : Bool → Reader → List ℕ → List ℕ → Verdict
 read-end closed r ns bs = phase-end (r .phase) closed r ns bs
 
 -- ---- what the code is held to
 
 pub record ReadAs (d : LineRead) (r : Reader) (ns bs : List ℕ) : Type 0 where
   pub next : r ≡ d .reader
-  pub nodes : ns ≡ d .nodes
-  pub buckets : bs ≡ d .buckets
-
-pub record EndedAs (d : EndRead) (v : Verdict) (ns bs : List ℕ) : Type 0 where
-  pub answer : v ≡ d .answer
   pub nodes : ns ≡ d .nodes
   pub buckets : bs ≡ d .buckets

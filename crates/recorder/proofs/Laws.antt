@@ -117,7 +117,7 @@ ends-recorder r ns bs long h t n' b' before after g =
 
 -- ---- one byte
 
-recorded-as : (d : RecordEffect) (r r' : Recorded) (ns bs before after : List ℕ) → r ≡ r' → RecordedAs d r' ns bs before after
+pub recorded-as : (d : RecordEffect) (r r' : Recorded) (ns bs before after : List ℕ) → r ≡ r' → RecordedAs d r' ns bs before after
     → RecordedAs d r ns bs before after
 recorded-as d r r' ns bs before after e h = subst (λ (x : Recorded). RecordedAs d x ns bs before after) (sym e) h
 
@@ -144,19 +144,6 @@ module _ (r : Recorder) (ns bs : List ℕ) (x : ℕ) where
         wrote = f .wrote;
       }))
 
-  pub records-kept : (h : PartialLine) (d : Recorded) (before : List ℕ) → eqb x newline ≡ false → h ≡ pushed (r .line) x
-      → d ≡ recorded (recorder (r .session) (r .kept) h) 0 → RecordedAs (record-byte r ns bs x) d ns bs before before
-  unfolding record-byte
-  records-kept h d before z e w =
-      recorded-as _ d _ _ _ _ _ w
-      (rw z
-      (record {
-        next = ap (recorder (r .session) (r .kept)) e;
-        nodes = refl;
-        buckets = refl;
-        wrote = nothing-appended (buffer before 0);
-      }))
-
 -- ---- several bytes
 
 -- a byte after others
@@ -181,16 +168,39 @@ bytes-both p [] ys = refl
 bytes-both p (x ∷ xs) ys = bytes-both (then-byte p x) xs ys
 
 -- byte i after the first i bytes
-pub bytes-next : (p : RecordEffect) (xs : List ℕ) (i : ℕ) → i < length xs → (r : Recorder) (a : ℕ) (ns bs first out : List ℕ)
-    → RecordedAs (record-bytes p (take i xs)) (recorded r a) ns bs first out → length out ≡ length first
-    → (d : Recorded) (n' b' tail : List ℕ) → RecordedAs (record-byte r ns bs (getD xs i 0)) d n' b' (take (length out - a) (drop a out)) tail
-    → RecordedAs (record-bytes p (take (i + 1) xs)) (recorded (d .recorder) (a + d .written)) n' b' first
-    (take a out ++ (tail ++ drop (length out - a) (drop a out)))
-unfolding record-bytes
-bytes-next p xs i j r a ns bs first out f l d n' b' tail g =
-    let e : record-bytes p (take (i + 1) xs) ≡ then-byte (record-bytes p (take i xs)) (getD xs i 0) =
-    ap (λ (n : ℕ). record-bytes p (take n xs)) (add-one i) ∙ ap (record-bytes p) (take-suc xs i 0 j) ∙ bytes-both p (take i xs) (getD xs i 0 ∷ []) in
-    rw e (byte-after (record-bytes p (take i xs)) r a ns bs first out f l (getD xs i 0) d n' b' tail g)
+module _ (p : RecordEffect) (xs : List ℕ) (i : ℕ) (j : i < length xs) where
+  byte-more : record-bytes p (take (i + 1) xs) ≡ then-byte (record-bytes p (take i xs)) (getD xs i 0)
+  unfolding record-bytes
+  byte-more =
+      ap (λ (n : ℕ). record-bytes p (take n xs)) (add-one i) ∙ ap (record-bytes p) (take-suc xs i 0 j) ∙ bytes-both p (take i xs) (getD xs i 0 ∷ [])
+
+  pub bytes-next : (r : Recorder) (a : ℕ) (ns bs first out : List ℕ)
+      → RecordedAs (record-bytes p (take i xs)) (recorded r a) ns bs first out → length out ≡ length first
+      → (d : Recorded) (n' b' tail : List ℕ) → RecordedAs (record-byte r ns bs (getD xs i 0)) d n' b' (take (length out - a) (drop a out)) tail
+      → RecordedAs (record-bytes p (take (i + 1) xs)) (recorded (d .recorder) (a + d .written)) n' b' first
+      (take a out ++ (tail ++ drop (length out - a) (drop a out)))
+  bytes-next r a ns bs first out f l d n' b' tail g =
+      rw byte-more (byte-after (record-bytes p (take i xs)) r a ns bs first out f l (getD xs i 0) d n' b' tail g)
+
+  -- one that does not close the line
+  module _ (s : Session) (k : KeptLines) (h : PartialLine) (a : ℕ) (ns bs first out : List ℕ)
+      (f : RecordedAs (record-bytes p (take i xs)) (recorded (recorder s k h) a) ns bs first out) (q : PartialLine)
+      (z : eqb (getD xs i 0) newline ≡ false) (e : q ≡ pushed h (getD xs i 0)) where
+    keeps-byte : RecordedAs (then-byte (record-bytes p (take i xs)) (getD xs i 0)) (recorded (recorder s k q) a) ns bs first out
+    unfolding then-byte record-byte
+    keeps-byte =
+        rw z
+        (record {
+          next =
+              ap (recorder s k) e
+              ∙ ap (λ (r : Recorder). recorder (r .session) (r .kept) (pushed (r .line) (getD xs i 0))) (f .next);
+          nodes = f .nodes;
+          buckets = f .buckets;
+          wrote = f .wrote ∙ ap (λ (w : List ℕ). append w (buffer first 0)) (sym (append-nil (record-bytes p (take i xs) .writes)));
+        })
+
+    pub bytes-kept : RecordedAs (record-bytes p (take (i + 1) xs)) (recorded (recorder s k q) a) ns bs first out
+    bytes-kept = rw byte-more keeps-byte
 
 pub bytes-all : (p : RecordEffect) (xs : List ℕ) (i : ℕ) → length xs ≤ i → (d : Recorded) (ns bs first out : List ℕ)
     → RecordedAs (record-bytes p (take i xs)) d ns bs first out → RecordedAs (record-bytes p xs) d ns bs first out

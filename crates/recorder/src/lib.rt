@@ -1,6 +1,6 @@
 // A recorder: what it reads is a session's input, what it writes is the session's recording, and where there is none the session's
-// refusal. `record_line` takes one closed line, `record_byte` one byte, `record_bytes` a slice of them, `record_end` the end of the input,
-// and `record` a whole input. The machine is that of session_lines, and so are the reading and printing of lines.
+// refusal. `record_line` takes one closed line, `record_bytes` a slice of the input, `record_end` its end, and `record` a whole input. The
+// machine is that of session_lines, and so are the reading and printing of lines.
 mod writing;
 
 ghost use mathlib.Core.Path.{_≡_};
@@ -9,9 +9,10 @@ ghost use lib.ListN.{length};
 ghost use Rattle.session.specs.Buffer.{Written};
 ghost use Rattle.session.specs.Grammar.{closed-line};
 ghost use Rattle.session_state.specs.Handling.{LineHandled};
+ghost use Rattle.session_lines.specs.KnownMemory.{KnownIn};
 ghost use Rattle.session_stream.specs.Stream.{EndedBy};
 ghost use Rattle.recording.specs.Recorder.{recorder-output};
-ghost use Rattle.recorder.specs.LentRecorder.{recorded-line, recorder, new-recorder, recorded, record-end, record-byte, begin, record-bytes};
+ghost use Rattle.recorder.specs.LentRecorder.{recorded-line, recorder, new-recorder, recorded, record-end, begin, record-bytes};
 ghost use Rattle.recorder.specs.LentRecorder.{RecordedAs, EndedAs};
 use partial_line::PartialLine;
 use recorder_lines::KeptLines;
@@ -59,8 +60,10 @@ fn made(session: Session, kept: KeptLines, line: PartialLine, written: usize) ->
 }
 
 // One closed line, without its closing byte 10: the session after it, and how many bytes are written for it, from the buffer's first byte on.
-// `k` are the header's lines so far; `recorder_lines::kept_after` gives those after the line.
+// `k` are the header's lines so far; `recorder_lines::kept_after` gives those after the line. `ok` is what `session_lines::sound_memory` gives
+// before the line, and it gives the same after it (`recorded-known`).
 pub fn record_line(
+    ok: bool,
     s: Session,
     k: KeptLines,
     ns: &mut [u32],
@@ -68,13 +71,14 @@ pub fn record_line(
     line: &[u8],
     out: &mut [u8],
 ) -> Handled
+    requires { ⌜ KnownIn ok s (now ns) (now bs) ⌝ }
     ensures { λ r. ⌜ LineHandled (recorded-line (closed-line (now (line .entry))) k s (now (ns .entry)) (now (bs .entry))) r (now (ns .exit))
         (now (bs .exit)) (now (out .entry)) (now (out .exit)) ⌝ }
 {
     let phase = s.phase;
     match phase {
         Phase::Due(due) => writing::header_line(s, k, due, ns, bs, line, out),
-        Phase::Events => writing::event_line(s, ns, bs, line, out),
+        Phase::Events => writing::event_line(ok, s, ns, bs, line, out),
         Phase::Stopped => Handled {
             session: s,
             printed: 0,
@@ -89,34 +93,14 @@ pub fn record_end(r: Recorder, ns: &mut [u32], bs: &mut [u32], out: &mut [u8]) -
 {
     let s = r.session;
     let k = r.kept;
+    let ok = session_lines::sound_memory(s, ns, bs);
     let long = [0u8; 41];
-    let t = record_line(s, k, ns, bs, &long, out);
+    let t = record_line(ok, s, k, ns, bs, &long, out);
     t.printed
 }
 
-// One byte of the input. What is written for it stands from the buffer's first byte on.
-pub fn record_byte(r: Recorder, x: u8, ns: &mut [u32], bs: &mut [u32], out: &mut [u8]) -> Recorded
-    ensures { λ d. ⌜ RecordedAs (record-byte r (now (ns .entry)) (now (bs .entry)) x) d (now (ns .exit)) (now (bs .exit)) (now (out .entry))
-        (now (out .exit)) ⌝ }
-{
-    let s = r.session;
-    let k = r.kept;
-    let h = r.line;
-    if partial_line::closes(x) {
-        let n = partial_line::line_length(h);
-        let b = h.bytes;
-        let phase = s.phase;
-        let kept = recorder_lines::kept_after(phase, k, &b[..n]);
-        let t = record_line(s, k, ns, bs, &b[..n], out);
-        let session = t.session;
-        let line = PartialLine { bytes: b, len: 0 };
-        return made(session, kept, line, t.printed);
-    }
-    let line = partial_line::push(h, x);
-    made(s, k, line, 0)
-}
-
-// Some bytes of the input, one after the other. What is written for them stands from the buffer's first byte on.
+// Some bytes of the input, one after the other. What is written for them stands from the buffer's first byte on. Memory is scanned once, before
+// the first of them.
 pub fn record_bytes(
     r: Recorder,
     input: &[u8],
@@ -127,19 +111,31 @@ pub fn record_bytes(
     ensures { λ d. ⌜ RecordedAs (record-bytes (begin r (now (ns .entry)) (now (bs .entry))) (now (input .entry))) d (now (ns .exit)) (now (bs .exit))
         (now (out .entry)) (now (out .exit)) ⌝ }
 {
-    let mut recorder = r;
+    let mut session = r.session;
+    let mut kept = r.kept;
+    let mut line = r.line;
+    let ok = session_lines::sound_memory(session, ns, bs);
     let mut at = 0;
     let mut i = 0;
     while i < input.len() {
-        let f = record_byte(recorder, input[i], ns, bs, &mut out[at..]);
-        recorder = f.recorder;
-        at += f.written;
+        let x = input[i];
         i += 1;
+        if partial_line::closes(x) {
+            let n = partial_line::line_length(line);
+            let b = line.bytes;
+            let phase = session.phase;
+            let k = recorder_lines::kept_after(phase, kept, &b[..n]);
+            let t = record_line(ok, session, kept, ns, bs, &b[..n], &mut out[at..]);
+            session = t.session;
+            kept = k;
+            at += t.printed;
+            line = PartialLine { bytes: b, len: 0 };
+        } else {
+            let longer = partial_line::push(line, x);
+            line = longer;
+        }
     }
-    Recorded {
-        recorder,
-        written: at,
-    }
+    made(session, kept, line, at)
 }
 
 // A whole input, as a slice, over lent pools. What is written for it stands from the buffer's first byte on, as far as there is room, and

@@ -3,6 +3,8 @@
 ghost use Rattle.session.specs.Grammar.{closed-line};
 ghost use Rattle.session.specs.Header.{header-step};
 ghost use Rattle.session_state.specs.Handling.{LineHandled};
+ghost use mathlib.Core.Bool.{true};
+ghost use Rattle.session_lines.specs.KnownMemory.{KnownIn};
 ghost use Rattle.recorder_lines.specs.KeptLines.{kept-bytes};
 ghost use Rattle.recorder.specs.LentRecorder.{after-bytes, recorded-event, first-recorded, recorded-opening, recorded-header, recorded-phase};
 use recorder_lines::KeptLines;
@@ -15,18 +17,20 @@ use session_state::Session;
 
 // An event's line, closed, and its output line. Where the line is outside the grammar the listing follows at once.
 pub fn event_line(
+    ok: bool,
     s: Session,
     ns: &mut [u32],
     bs: &mut [u32],
     line: &[u8],
     out: &mut [u8],
 ) -> Handled
+    requires { ⌜ KnownIn ok s (now ns) (now bs) ⌝ }
     ensures { λ r. ⌜ LineHandled (recorded-event (closed-line (now (line .entry))) s (now (ns .entry)) (now (bs .entry))) r (now (ns .exit))
         (now (bs .exit)) (now (out .entry)) (now (out .exit)) ⌝ }
 {
     if recorder_lines::is_event(line) {
         let n = recorder_lines::closed(out, 0, line);
-        let t = session_lines::handle_line(s, ns, bs, line, &mut out[n..]);
+        let t = session_lines::known_line(ok, s, ns, bs, line, &mut out[n..]);
         let next = t.session;
         return Handled {
             session: next,
@@ -47,6 +51,7 @@ fn after_opening(
     line: &[u8],
     out: &mut [u8],
 ) -> Handled
+    requires { ⌜ KnownIn true s (now ns) (now bs) ⌝ }
     ensures { λ r. ⌜ LineHandled (after-bytes (kept-bytes k) (first-recorded own (closed-line (now (line .entry))) s (now (ns .entry)) (now (bs .entry)))) r
         (now (ns .exit)) (now (bs .exit)) (now (out .entry)) (now (out .exit)) ⌝ }
 {
@@ -60,7 +65,7 @@ fn after_opening(
             printed: e,
         };
     }
-    let t = event_line(s, ns, bs, line, &mut out[n..]);
+    let t = event_line(true, s, ns, bs, line, &mut out[n..]);
     let next = t.session;
     Handled {
         session: next,

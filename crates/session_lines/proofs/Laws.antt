@@ -7,8 +7,9 @@ use lib.Dec.{ltb, leb, eqb}
 use Prim.Native.Nat.{ℕ, _+_, _-_, _≤_}
 use native.Mathlib.Omega.{arith}
 use borrow.Author.Tests.{ltb-false}
-use lib.ListN.{length, take, drop, take-append-drop}
+use lib.ListN.{length, take, drop}
 use lib.Seq.{take-at}
+use Rattle.spec.specs.declared.Output.{Output}
 use Rattle.spec.specs.declared.Listing.{Listing}
 use Rattle.spec.specs.declared.Listing.the-variants.{Count, Refused}
 use Rattle.spec.specs.Lists.{if_then_else_}
@@ -20,7 +21,6 @@ use Rattle.spec.specs.Entries as entries
 use Rattle.spec.specs.Entries.{opening, list}
 use Rattle.laws.specs.Tests.{tf}
 use Rattle.lines.specs.declared.Stepped.{Stepped}
-use Rattle.lines.specs.Reply.{reply-of}
 use Rattle.session.specs.declared.EventLine.{EventLine}
 use Rattle.session.specs.declared.Header.{Header}
 use Rattle.session.specs.declared.HeaderLine.{HeaderLine}
@@ -36,38 +36,23 @@ use Rattle.session_state.specs.declared.Session.{Session}
 use Rattle.session_state.specs.declared.Handled.{Handled}
 use Rattle.session_state.specs.Handling.{session, reads-events, handled, LineEffect, LineHandled, pools-kept, silent, session-machine, with-machine}
 use Rattle.session_state.specs.Handling.{opened-then, open-then, header-effect, reply-effect, phase-effect, line-effect, phase-end, end-effect}
-use Rattle.session_state.proofs.Laws.{nothing-appended, puts-back, same-machine}
+use Rattle.session_state.proofs.Laws.{nothing-appended, same-machine}
+use Rattle.session_machine.specs.Parts.{Replied}
+use Rattle.session_lines.specs.KnownMemory.{known-as, open-known, reads-known, known-reading}
 
--- ---- a start or a step over the session's part of the pools
+-- ---- a start or a step of task k over the session's part of the pools, and its printed line
 
-module _ (s : Session) (ns bs : List ℕ) (a b : ℕ) (ea : a ≡ node-extent (s .header) ns) (eb : b ≡ bucket-extent (s .header) bs) where
-  -- a start or a step f of task k, and its printed line
-  pub replies : (k : ℕ) (f : Machine → entries.Reply) (r : Stepped) (n' b' : List ℕ) (count : ℕ) (before after : List ℕ)
-      → reply-of r n' b' ≡ f (machine-of (s .state) (take a ns) (take b bs))
-      → buffer after count ≡ append (output-line k (r .out)) (buffer before 0)
-      → LineHandled (reply-effect k (f (session-machine s ns bs)) s ns bs) (handled (session Events (s .header) (r .state)) count)
-      (n' ++ drop a ns) (b' ++ drop b bs) before after
-  unfolding reply-effect
-  replies k f r n' b' count before after h t =
-      let g : reply-of r n' b' ≡ f (session-machine s ns bs) = h ∙ ap f (same-machine (s .header) ns bs a b ea eb (s .state)) in
-      let m = f (session-machine s ns bs) in
-      puts-back (s .header) ns bs a b ea eb Events (output-line k (m .out)) (m .machine) (r .state) n' b' count before after
-      (ap (λ (v : entries.Reply). v .machine) g)
-      (t ∙ ap (λ (v : entries.Reply). append (output-line k (v .out)) (buffer before 0)) g)
-
-  -- the same where the entry only reads the pools
-  pub replies-reading : (k : ℕ) (f : Machine → entries.Reply) (r : Stepped) (count : ℕ) (before after : List ℕ)
-      → reply-of r (take a ns) (take b bs) ≡ f (machine-of (s .state) (take a ns) (take b bs))
-      → buffer after count ≡ append (output-line k (r .out)) (buffer before 0)
-      → LineHandled (reply-effect k (f (session-machine s ns bs)) s ns bs) (handled (session Events (s .header) (r .state)) count) ns bs before after
-  replies-reading k f r count before after h t =
-      let d = replies k f r (take a ns) (take b bs) count before after h t in
-      record {
-        next = d .next;
-        nodes = sym (take-append-drop a ns) ∙ d .nodes;
-        buckets = sym (take-append-drop b bs) ∙ d .buckets;
-        wrote = d .wrote;
-      }
+pub replies : (s : Session) (ns bs : List ℕ) (k : ℕ) (y : entries.Reply) (r : Stepped) (n' b' : List ℕ) (count : ℕ) (before after : List ℕ)
+    → Replied y r (s .header) ns bs n' b' → buffer after count ≡ append (output-line k (r .out)) (buffer before 0)
+    → LineHandled (reply-effect k y s ns bs) (handled (session Events (s .header) (r .state)) count) n' b' before after
+unfolding reply-effect with-machine
+replies s ns bs k y r n' b' count before after p t =
+    record {
+      next = ap (session Events (s .header)) (p .state);
+      nodes = p .nodes;
+      buckets = p .buckets;
+      wrote = t ∙ ap (λ (o : Output). append (output-line k o) (buffer before 0)) (p .out);
+    }
 
 -- ---- the final listing
 
@@ -204,3 +189,12 @@ module _ (h : Header) (ns bs : List ℕ) (t : Handled) (n' b' before middle : Li
           let opens : reads-events (t .session .phase) ≡ true = ap (λ (s : Session). reads-events (s .phase)) (q .next) in
           absurd (tf opens p)
       go false q = q
+
+  -- memory is sound after it
+  pub opened-known : LineHandled (open-then h ns bs silent) t n' b' before middle → reads-events (t .session .phase) ≡ true
+      → true ≡ sound (session-machine (t .session) n' b')
+  unfolding silent pools-kept reads-events
+  opened-known o p =
+      reads-known true (t .session .phase) _ p
+      (known-as true (open-then h ns bs silent) (o .next) (o .nodes) (o .buckets)
+      (open-known true h ns bs silent (λ m w v f. known-reading true Events _ refl f) refl))

@@ -1,3 +1,4 @@
 pub mod PoolLengths
 pub mod Openings
 pub mod PrintsTranscript
+pub mod KnownMemory

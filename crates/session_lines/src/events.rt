@@ -1,5 +1,8 @@
-// The event lines, each a start or a step, and the final listing.
+// The event lines, each a start or a step, and the final listing. `ok` says whether memory is sound, so that no event scans it.
 ghost use mathlib.Core.Path.{_≡_};
+ghost use mathlib.Core.List.{List};
+ghost use Prim.Native.Nat.{ℕ};
+ghost use Rattle.spec.specs.Sound.{sound};
 ghost use Rattle.session.specs.Grammar.{closed-line, parse-event-line};
 ghost use Rattle.session.specs.Buffer.{buffer, append};
 ghost use Rattle.spec.specs.Entries.{start as start-of, step as step-of};
@@ -12,23 +15,13 @@ use spec::Call;
 use spec::Listing;
 
 // Starts a call for a task, and prints the answer.
-fn start_task(
-    s: Session,
-    k: u32,
-    call: Call,
-    tag: u32,
-    ns: &[u32],
-    bs: &[u32],
-    out: &mut [u8],
-) -> Handled
-    ensures { λ r. ⌜ LineHandled (reply-effect k (start-of (session-machine s (now (ns .entry)) (now (bs .entry))) k call tag) s (now (ns .entry))
-        (now (bs .entry))) r (now (ns .entry)) (now (bs .entry)) (now (out .entry)) (now (out .exit)) ⌝ }
+fn start_task(ok: bool, s: Session, k: u32, call: Call, tag: u32, out: &mut [u8]) -> Handled
+    ensures { λ r. ⌜ ((ns bs : List ℕ) → ok ≡ sound (session-machine s ns bs)
+        → LineHandled (reply-effect k (start-of (session-machine s ns bs) k call tag) s ns bs) r ns bs (now (out .entry)) (now (out .exit))) ⌝ }
 {
     let header = s.header;
-    let a = session_pools::node_extent(header.nodes, ns.len());
-    let b = session_pools::bucket_extent(header.buckets, bs.len());
     let before = s.state;
-    let d = lent::start_local(before, k, call, tag, &ns[..a], &bs[..b]);
+    let d = session_machine::start(ok, before, k, call, tag);
     let answered = d.out;
     let m = d.state;
     let c = session_print::output(out, 0, k, answered);
@@ -36,15 +29,21 @@ fn start_task(
 }
 
 // Steps a task by one line of Figure 2, and prints the answer.
-fn step_task(s: Session, k: u32, ns: &mut [u32], bs: &mut [u32], out: &mut [u8]) -> Handled
+fn step_task(
+    ok: bool,
+    s: Session,
+    k: u32,
+    ns: &mut [u32],
+    bs: &mut [u32],
+    out: &mut [u8],
+) -> Handled
+    requires { ⌜ ok ≡ sound (session-machine s (now ns) (now bs)) ⌝ }
     ensures { λ r. ⌜ LineHandled (reply-effect k (step-of (session-machine s (now (ns .entry)) (now (bs .entry))) k) s (now (ns .entry)) (now (bs .entry)))
         r (now (ns .exit)) (now (bs .exit)) (now (out .entry)) (now (out .exit)) ⌝ }
 {
     let header = s.header;
-    let a = session_pools::node_extent(header.nodes, ns.len());
-    let b = session_pools::bucket_extent(header.buckets, bs.len());
     let before = s.state;
-    let d = lent::step_local(before, k, &mut ns[..a], &mut bs[..b]);
+    let d = session_machine::step(ok, before, header, k, ns, bs);
     let answered = d.out;
     let m = d.state;
     let c = session_print::output(out, 0, k, answered);
@@ -52,18 +51,20 @@ fn step_task(s: Session, k: u32, ns: &mut [u32], bs: &mut [u32], out: &mut [u8])
 }
 
 pub fn event_line(
+    ok: bool,
     s: Session,
     ns: &mut [u32],
     bs: &mut [u32],
     line: &[u8],
     out: &mut [u8],
 ) -> Handled
+    requires { ⌜ ok ≡ sound (session-machine s (now ns) (now bs)) ⌝ }
     ensures { λ r. ⌜ LineHandled (event-effect (parse-event-line (closed-line (now (line .entry)))) s (now (ns .entry)) (now (bs .entry))) r
         (now (ns .exit)) (now (bs .exit)) (now (out .entry)) (now (out .exit)) ⌝ }
 {
     match session_parse::event_line(line) {
-        EventLine::Start(k, call, tag) => start_task(s, k, call, tag, ns, bs, out),
-        EventLine::Step(k) => step_task(s, k, ns, bs, out),
+        EventLine::Start(k, call, tag) => start_task(ok, s, k, call, tag, out),
+        EventLine::Step(k) => step_task(ok, s, k, ns, bs, out),
         EventLine::Outside => session_state::stop(s, out),
     }
 }

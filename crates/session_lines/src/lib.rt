@@ -1,10 +1,11 @@
 // A session, one line at a time: the session's state goes in by value and comes back, the pools and the buffer for what is
-// printed are lent. `handle_line` takes each line, `end_input` the end of the input.
+// printed are lent. `handle_line` takes a line, `known_line` one where it is known whether memory is sound, `end_input` the end of the input.
 mod events;
 
 ghost use Rattle.session.specs.Grammar.{closed-line, parse-event-line};
 ghost use Rattle.session.specs.Header.{header-step};
 ghost use Rattle.session_state.specs.Handling.{header-effect, line-effect, end-effect, LineHandled};
+ghost use Rattle.session_lines.specs.KnownMemory.{KnownIn};
 use session::HeaderLine;
 use session::HeaderStep;
 use session_state::Handled;
@@ -37,7 +38,7 @@ fn header_line(
             let opened = t.session;
             let phase = opened.phase;
             if session_state::reads_events(phase) {
-                return events::event_line(opened, ns, bs, line, out);
+                return events::event_line(true, opened, ns, bs, line, out);
             }
             t
         }
@@ -45,7 +46,45 @@ fn header_line(
     }
 }
 
-// One closed line, without its closing byte 10. What it prints is written from the buffer's first byte on.
+// Whether memory is sound: a scan of it where events are read.
+pub fn sound_memory(s: Session, ns: &[u32], bs: &[u32]) -> bool
+    ensures { λ r. ⌜ KnownIn r s (now (ns .entry)) (now (bs .entry)) ⌝ }
+{
+    let phase = s.phase;
+    if session_state::reads_events(phase) {
+        let m = s.state;
+        let header = s.header;
+        return session_machine::is_sound(m, header, ns, bs);
+    }
+    true
+}
+
+// One closed line, without its closing byte 10. What it prints is written from the buffer's first byte on. `ok` is what `sound_memory` gives before
+// the line, and it gives the same after it (`line-known`).
+pub fn known_line(
+    ok: bool,
+    s: Session,
+    ns: &mut [u32],
+    bs: &mut [u32],
+    line: &[u8],
+    out: &mut [u8],
+) -> Handled
+    requires { ⌜ KnownIn ok s (now ns) (now bs) ⌝ }
+    ensures { λ r. ⌜ LineHandled (line-effect s (now (ns .entry)) (now (bs .entry)) (closed-line (now (line .entry)))) r (now (ns .exit)) (now (bs .exit))
+        (now (out .entry)) (now (out .exit)) ⌝ }
+{
+    let phase = s.phase;
+    match phase {
+        Phase::Due(due) => header_line(s, due, ns, bs, line, out),
+        Phase::Events => events::event_line(ok, s, ns, bs, line, out),
+        Phase::Stopped => Handled {
+            session: s,
+            printed: 0,
+        },
+    }
+}
+
+// One closed line, likewise, where nothing is known of memory: it is scanned.
 pub fn handle_line(
     s: Session,
     ns: &mut [u32],
@@ -56,15 +95,8 @@ pub fn handle_line(
     ensures { λ r. ⌜ LineHandled (line-effect s (now (ns .entry)) (now (bs .entry)) (closed-line (now (line .entry)))) r (now (ns .exit)) (now (bs .exit))
         (now (out .entry)) (now (out .exit)) ⌝ }
 {
-    let phase = s.phase;
-    match phase {
-        Phase::Due(due) => header_line(s, due, ns, bs, line, out),
-        Phase::Events => events::event_line(s, ns, bs, line, out),
-        Phase::Stopped => Handled {
-            session: s,
-            printed: 0,
-        },
-    }
+    let ok = sound_memory(s, ns, bs);
+    known_line(ok, s, ns, bs, line, out)
 }
 
 // The end of an input whose lines are all closed. What it prints is written from the buffer's first byte on.

@@ -7,8 +7,9 @@ use Prim.Native.Nat.{ℕ, _+_, _-_, _≤_, _<_}
 use native.Mathlib.Numerals.{add-one}
 use native.Mathlib.Omega.{arith}
 use borrow.Author.Tests.{eq-eqb, ne-eqb}
-use lib.Dec.{eqb}
-use lib.ListN.{length, getD, take, drop, length-append, length-drop, drop-of-length-le}
+use borrow.Author.Needs.{set-long}
+use lib.Dec.{eqb, ltb}
+use lib.ListN.{length, getD, set, take, drop, length-append, length-drop, drop-of-length-le}
 use lib.Seq.{take-all, take-suc, length-take-le}
 use Rattle.spec.specs.Lists.{if_then_else_}
 use Rattle.session.specs.Keys.{newline}
@@ -30,6 +31,14 @@ fed s h n = record { session = s; line = h; printed = n }
 
 -- ---- one byte
 
+pub pushed-long : (h : PartialLine) (x : ℕ) (q : PartialLine) → q ≡ pushed h x → length (h .bytes) ≡ 41 → length (q .bytes) ≡ 41
+unfolding pushed
+pushed-long h x q e l = ap (λ (p : PartialLine). length (p .bytes)) e ∙ go (ltb (h .len) 41)
+  where
+    go : (b : Bool) → length ((if b then partial (set (h .bytes) (h .len) x) (h .len + 1) else h) .bytes) ≡ 41
+    go true = set-long ℕ (h .bytes) (h .len) 41 x l
+    go false = l
+
 nothing-appended : (t : Buffer) → t ≡ append [] t
 unfolding append
 nothing-appended t = refl
@@ -43,12 +52,6 @@ module _ (s : Session) (h : PartialLine) (ns bs : List ℕ) where
       let f : LineHandled (line-effect s ns bs (closed-line (line-bytes h))) r n' b' before after =
       subst (λ (w : List ℕ). LineHandled (line-effect s ns bs (closed-line w)) r n' b' before after) e d in
       rw z (record { session = f .next; line = refl; nodes = f .nodes; buckets = f .buckets; wrote = f .wrote })
-
-  pub feeds-byte : (x : ℕ) (q : PartialLine) (before : List ℕ) → eqb x newline ≡ false → q ≡ pushed h x
-      → FedAs (feed (begin s h ns bs) x) (fed s q 0) ns bs before before
-  unfolding feed kept
-  feeds-byte x q before z e =
-      rw z (record { session = refl; line = e; nodes = refl; buckets = refl; wrote = nothing-appended (buffer before 0) })
 
   module _ (n : ℕ) (e : length (h .bytes) ≡ 41) (l : n ≤ 41) (f : take n (h .bytes) ≡ line-bytes h)
       (r : Handled) (n' b' before after : List ℕ) where
@@ -168,15 +171,36 @@ feeds-both p [] ys = refl
 feeds-both p (x ∷ xs) ys = feeds-both (feed p x) xs ys
 
 -- byte i after the first i bytes
-pub feeds-next : (p : Progress) (xs : List ℕ) (i : ℕ) → i < length xs → (s : Session) (h : PartialLine) (a : ℕ) (ns bs first out : List ℕ)
-    → FedAs (feeds p (take i xs)) (fed s h a) ns bs first out → length out ≡ length first
-    → (r : Fed) (n' b' tail : List ℕ) → FedAs (feed (begin s h ns bs) (getD xs i 0)) r n' b' (take (length out - a) (drop a out)) tail
-    → FedAs (feeds p (take (i + 1) xs)) (fed (r .session) (r .line) (a + r .printed)) n' b' first (take a out ++ (tail ++ drop (length out - a) (drop a out)))
-unfolding feeds
-feeds-next p xs i j s h a ns bs first out f l r n' b' tail g =
-    let e : feeds p (take (i + 1) xs) ≡ feed (feeds p (take i xs)) (getD xs i 0) =
-    ap (λ (n : ℕ). feeds p (take n xs)) (add-one i) ∙ ap (feeds p) (take-suc xs i 0 j) ∙ feeds-both p (take i xs) (getD xs i 0 ∷ []) in
-    rw e (feeds-on (feeds p (take i xs)) s h a ns bs first out f l (getD xs i 0) r n' b' tail g)
+module _ (p : Progress) (xs : List ℕ) (i : ℕ) (j : i < length xs) where
+  byte-more : feeds p (take (i + 1) xs) ≡ feed (feeds p (take i xs)) (getD xs i 0)
+  unfolding feeds
+  byte-more =
+      ap (λ (n : ℕ). feeds p (take n xs)) (add-one i) ∙ ap (feeds p) (take-suc xs i 0 j) ∙ feeds-both p (take i xs) (getD xs i 0 ∷ [])
+
+  module _ (s : Session) (h : PartialLine) (a : ℕ) (ns bs first out : List ℕ) (f : FedAs (feeds p (take i xs)) (fed s h a) ns bs first out) where
+    pub feeds-next : length out ≡ length first
+        → (r : Fed) (n' b' tail : List ℕ) → FedAs (feed (begin s h ns bs) (getD xs i 0)) r n' b' (take (length out - a) (drop a out)) tail
+        → FedAs (feeds p (take (i + 1) xs)) (fed (r .session) (r .line) (a + r .printed)) n' b' first
+        (take a out ++ (tail ++ drop (length out - a) (drop a out)))
+    feeds-next l r n' b' tail g = rw byte-more (feeds-on (feeds p (take i xs)) s h a ns bs first out f l (getD xs i 0) r n' b' tail g)
+
+    keeps-byte : (q : PartialLine) → eqb (getD xs i 0) newline ≡ false → q ≡ pushed h (getD xs i 0)
+        → FedAs (feed (feeds p (take i xs)) (getD xs i 0)) (fed s q a) ns bs first out
+    unfolding feed kept
+    keeps-byte q z e =
+        rw z
+        (record {
+          session = f .session;
+          line = e ∙ ap (λ (l : PartialLine). pushed l (getD xs i 0)) (f .line);
+          nodes = f .nodes;
+          buckets = f .buckets;
+          wrote = f .wrote;
+        })
+
+    -- one that does not close the line
+    pub feeds-kept : (q : PartialLine) → eqb (getD xs i 0) newline ≡ false → q ≡ pushed h (getD xs i 0)
+        → FedAs (feeds p (take (i + 1) xs)) (fed s q a) ns bs first out
+    feeds-kept q z e = rw byte-more (keeps-byte q z e)
 
 pub feeds-all : (p : Progress) (xs : List ℕ) (i : ℕ) → length xs ≤ i → (r : Fed) (ns bs first out : List ℕ)
     → FedAs (feeds p (take i xs)) r ns bs first out → FedAs (feeds p xs) r ns bs first out

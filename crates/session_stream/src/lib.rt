@@ -1,10 +1,10 @@
-// A session, byte by byte: a line's bytes are kept until byte 10 closes it, as far as partial_line keeps them. `feed_byte` takes
-// one byte, `feed_bytes` a slice of them, `end_stream` the end of the input, and `transcript` a whole session.
+// A session, byte by byte: a line's bytes are kept until byte 10 closes it, as far as partial_line keeps them. `feed_bytes` takes
+// a slice of the input, `end_stream` its end, and `transcript` a whole session.
 ghost use Prim.Native.Nat.{_≤_};
 ghost use lib.ListN.{length};
 ghost use Rattle.session.specs.Buffer.{Written};
 ghost use Rattle.session.specs.Transcript.{transcript};
-ghost use Rattle.session_stream.specs.Stream.{begin, feed, feeds, stream-end, FedAs, EndedBy, EndedAs};
+ghost use Rattle.session_stream.specs.Stream.{begin, feeds, stream-end, FedAs, EndedBy, EndedAs};
 use partial_line::PartialLine;
 use session_state::Session;
 
@@ -15,38 +15,8 @@ pub struct Fed {
     pub printed: usize,
 }
 
-// One byte of the input. What it prints is written from the buffer's first byte on.
-pub fn feed_byte(
-    s: Session,
-    h: PartialLine,
-    x: u8,
-    ns: &mut [u32],
-    bs: &mut [u32],
-    out: &mut [u8],
-) -> Fed
-    ensures { λ r. ⌜ FedAs (feed (begin s h (now (ns .entry)) (now (bs .entry))) x) r (now (ns .exit)) (now (bs .exit)) (now (out .entry)) (now (out .exit)) ⌝ }
-{
-    if partial_line::closes(x) {
-        let n = partial_line::line_length(h);
-        let b = h.bytes;
-        let t = session_lines::handle_line(s, ns, bs, &b[..n], out);
-        let next = t.session;
-        let line = PartialLine { bytes: b, len: 0 };
-        return Fed {
-            session: next,
-            line,
-            printed: t.printed,
-        };
-    }
-    let line = partial_line::push(h, x);
-    Fed {
-        session: s,
-        line,
-        printed: 0,
-    }
-}
-
-// Some bytes of the input, one after the other. What they print is written from the buffer's first byte on.
+// Some bytes of the input, one after the other. What they print is written from the buffer's first byte on. Memory is scanned once, before the
+// first of them.
 pub fn feed_bytes(
     s: Session,
     h: PartialLine,
@@ -58,16 +28,25 @@ pub fn feed_bytes(
     ensures { λ r. ⌜ FedAs (feeds (begin s h (now (ns .entry)) (now (bs .entry))) (now (input .entry))) r
         (now (ns .exit)) (now (bs .exit)) (now (out .entry)) (now (out .exit)) ⌝ }
 {
+    let ok = session_lines::sound_memory(s, ns, bs);
     let mut session = s;
     let mut line = h;
     let mut at = 0;
     let mut i = 0;
     while i < input.len() {
-        let f = feed_byte(session, line, input[i], ns, bs, &mut out[at..]);
-        session = f.session;
-        line = f.line;
-        at += f.printed;
+        let x = input[i];
         i += 1;
+        if partial_line::closes(x) {
+            let n = partial_line::line_length(line);
+            let b = line.bytes;
+            let t = session_lines::known_line(ok, session, ns, bs, &b[..n], &mut out[at..]);
+            session = t.session;
+            at += t.printed;
+            line = PartialLine { bytes: b, len: 0 };
+        } else {
+            let longer = partial_line::push(line, x);
+            line = longer;
+        }
     }
     Fed {
         session,

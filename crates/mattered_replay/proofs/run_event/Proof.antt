@@ -20,25 +20,20 @@ enum-told c = search needs
 step-requires : tie.Need-step-requires
 step-requires c κs = search needs
 
+returns : tie.Need-returns
+unfolding event event-asked
+returns c =
+    let at-call = c .before .before in
+    let at-asked = at-call .before .before in
+    let entry = at-asked .before .before .before in
+    let a = entry .args in
+    rw (at-asked .asked-by .ensures (a .task) (a .tag), at-call .call .given .1) (c .start .ensures _ _ (entry .pre))
+
 same-length : tie.Need-same-length
 same-length c = search needs
 
 same-length-2 : tie.Need-same-length-2
 same-length-2 c = search needs
-
-returns : tie.Need-returns
-unfolding event event-asked
-returns c =
-    let at-call = c .before .before .before .before in
-    let at-asked = at-call .before .before in
-    let a = at-asked .before .before .before .args in
-    rw (at-asked .asked-by .ensures (a .task) (a .tag), at-call .call .given .1) (c .start .ensures)
-
-same-length-3 : tie.Need-same-length-3
-same-length-3 c = search needs
-
-same-length-4 : tie.Need-same-length-4
-same-length-4 c = search needs
 
 returns-2 : tie.Need-returns-2
 unfolding event event-asked
@@ -58,9 +53,7 @@ run-event-spec =
     start-requires
     enum-told
     step-requires
+    returns
     same-length
     same-length-2
-    returns
-    same-length-3
-    same-length-4
     returns-2)

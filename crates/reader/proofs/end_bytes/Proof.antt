@@ -16,22 +16,15 @@ line-length-requires c κs = search needs
 read-end-requires : tie.Need-read-end-requires
 read-end-requires c κs = search needs
 
-same-length : tie.Need-same-length
-same-length c = search needs
-
-same-length-2 : tie.Need-same-length-2
-same-length-2 c = search needs
-
 returns : tie.Need-returns
 returns c =
-    let at-read-end = c .before .before .before .before in
-    let at-line-length = at-read-end .before .before .before in
+    let at-line-length = c .before in
     let entry = at-line-length .before .before .before .before .before in
     let call = entry .args in
     let n = at-line-length .line-length in
-    ends-bytes (call .p) (now (call .ns)) (now (call .bs)) (n .result) (n .ensures .0) (room entry) (n .ensures .1) _ refl _ _ _
-    (at-read-end .read-end .ensures)
+    ends-bytes (call .p) (now (call .ns)) (now (call .bs)) (n .result) (n .ensures .0) (room entry) (n .ensures .1) _ refl _
+    (c .read-end .ensures)
 
 pub end-bytes-spec : {M : Type 1} → statement M
 end-bytes-spec =
-    tie.close (tie.spec line-length-requires read-end-requires same-length same-length-2 returns)
+    tie.close (tie.spec line-length-requires read-end-requires returns)

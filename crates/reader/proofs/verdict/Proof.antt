@@ -30,13 +30,12 @@ same-length-2 c = search needs
 
 returns : tie.Need-returns
 returns c =
-    let at-end = c .before .before .before .before in
-    let at-bytes = at-end .before .before .before .before .before .before .before in
+    let at-bytes = c .before .before .before .before .before .before .before in
     let at-new = at-bytes .before .before .before in
     let entry = at-new .before .before .before .before in
     let call = entry .args in
     let ended = ends-input (at-new .new-byte-reader .result) (at-new .new-byte-reader .ensures) (now (call .input)) (now (call .ns)) (now (call .bs))
-    (at-bytes .read-bytes .result) _ _ (at-bytes .read-bytes .ensures) (at-end .end-bytes .result) _ _ (at-end .end-bytes .ensures) in
+    (at-bytes .read-bytes .result) _ _ (at-bytes .read-bytes .ensures) (c .end-bytes .result) (c .end-bytes .ensures) in
     (ended, λ n b. ended .answer ∙ stream-gives-verdict (now (call .input)) (now (call .ns)) (now (call .bs)) n b (few-bytes entry))
 
 pub verdict-spec : {M : Type 1} → statement M

@@ -6,11 +6,14 @@ use borrow.Author.Needs.{needs}
 use Rattle.recorder.proofs.record_end.Statement.{statement}
 use Rattle.recorder.proofs.record_end.Tie as tie
 
+sound-memory-requires : tie.Need-sound-memory-requires
+sound-memory-requires c κs = search needs
+
 slice-aggregate-record-line : tie.Need-slice-aggregate-record-line
 slice-aggregate-record-line c = search needs
 
 record-line-requires : tie.Need-record-line-requires
-record-line-requires c κs = search needs
+record-line-requires c κs = c .before .before .before .before .sound-memory .ensures
 
 same-length : tie.Need-same-length
 same-length c = search needs
@@ -24,13 +27,14 @@ same-length-3 c = search needs
 returns : tie.Need-returns
 returns c =
     let at-record-line = c .before .before .before .before .before .before in
-    let entry = at-record-line .before .before .before .before .before .before .before .before .before .before in
+    let entry = at-record-line .before .before .before .before .before .before .before .before .before .before .before .before .before in
     ends-recorder (entry .args .r) _ _ _ (omega arith) (at-record-line .record-line .result) _ _ _ _ (at-record-line .record-line .ensures)
 
 pub record-end-spec : {M : Type 1} → statement M
 record-end-spec =
     tie.close
     (tie.spec
+    sound-memory-requires
     slice-aggregate-record-line
     record-line-requires
     same-length

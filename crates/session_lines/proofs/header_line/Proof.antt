@@ -1,8 +1,8 @@
 -- `session_lines::header_line` meets its contract. What the line says, as `header-effect` has it. Assumes nothing.
 use mathlib.Core.Path.{sym, _∙_}
 use Rattle.session_state.proofs.Laws.{keeps, line-as}
-use Rattle.session_state.specs.Handling.{header-effect}
-use Rattle.session_lines.proofs.Laws.{goes-on, opens-then, refuses-then}
+use Rattle.session_state.specs.Handling.{silent, header-effect}
+use Rattle.session_lines.proofs.Laws.{goes-on, opens-then, refuses-then, opened-known}
 use borrow.Author.Needs.{needs}
 use Rattle.session_lines.proofs.header_line.Statement.{statement}
 use Rattle.session_lines.proofs.header_line.Tie as tie
@@ -32,7 +32,11 @@ reads-events-requires : tie.Need-reads-events-requires
 reads-events-requires c κs = search needs
 
 event-line-requires : tie.Need-event-line-requires
-event-line-requires c κs = search needs
+event-line-requires c κs =
+    let at-if1 = c .before .before .before in
+    let at-reads-events = at-if1 .before in
+    let t = at-reads-events .before .before .before .before .before .before .before .before .open-machine2 in
+    opened-known _ _ _ (t .result) _ _ _ _ silent (t .ensures) (sym (at-reads-events .reads-events .ensures) ∙ at-if1 .if1 .taken)
 
 same-length : tie.Need-same-length
 same-length c = search needs

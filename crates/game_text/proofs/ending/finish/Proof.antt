@@ -18,11 +18,8 @@ play-requires c κs = search needs
 enum-told : tie.Need-enum-told
 enum-told c = search needs
 
-slice-aggregate-take-line : tie.Need-slice-aggregate-take-line
-slice-aggregate-take-line c = search needs
-
-take-line-requires : tie.Need-take-line-requires
-take-line-requires c κs = search needs
+end-refusal-requires : tie.Need-end-refusal-requires
+end-refusal-requires c κs = search needs
 
 refusal-requires : tie.Need-refusal-requires
 refusal-requires c κs = search needs
@@ -58,13 +55,13 @@ same-length-6 c = search needs
 returns-2 : tie.Need-returns-2
 returns-2 c =
     let at-refusal = c .before .before in
-    let at-take-line = at-refusal .before .before .before .before .before .before in
-    let at-enum-told = at-take-line .before .before .before .before in
+    let at-end-refusal = at-refusal .before .before in
+    let at-enum-told = at-end-refusal .before .before .before in
     let at-asked-at-end = at-enum-told .before .before in
     let entry = at-asked-at-end .before .before .before .before in
     let a = entry .args in
     refused-to _ (a .t) (now (a .ns)) (now (a .bs)) (sym (at-asked-at-end .asked-at-end .ensures) ∙ at-enum-told .enum-told .given .1)
-    (at-take-line .take-line .result) _ _ (at-take-line .take-line .ensures) _ _ _ (at-refusal .refusal .ensures)
+    (at-end-refusal .end-refusal .result) (at-end-refusal .end-refusal .ensures) _ _ _ (at-refusal .refusal .ensures)
 
 pub finish-spec : {M : Type 1} → statement M
 finish-spec =
@@ -74,8 +71,7 @@ finish-spec =
     enum-known-n
     play-requires
     enum-told
-    slice-aggregate-take-line
-    take-line-requires
+    end-refusal-requires
     refusal-requires
     same-length
     same-length-2

@@ -1,6 +1,8 @@
 -- `reader::by_line::header_line` meets its contract. The four cases of what a line says, as in the definition. Assumes nothing.
-use mathlib.Core.Path.{sym, _∙_}
+use mathlib.Core.Path.{refl, sym, _∙_}
+use mathlib.Core.Bool.{true}
 use Rattle.reader_state.specs.Standing.{header-line}
+use Rattle.reader.specs.KnownMemory.{awaits-known, known-as, opened-known}
 use Rattle.reader.proofs.Parts.{read-as, kept-as}
 use Rattle.reader.proofs.Turns.{next-due, completes, opened-turn, opened-stays}
 use borrow.Author.Needs.{needs}
@@ -35,7 +37,11 @@ awaits-event-requires : tie.Need-awaits-event-requires
 awaits-event-requires c κs = search needs
 
 turn-line-requires : tie.Need-turn-line-requires
-turn-line-requires c κs = search needs
+turn-line-requires c κs =
+    let at-if1 = c .before .before in
+    let o = at-if1 .before .before .before .before .before .before .open-machine2 in
+    awaits-known true _ _ (sym (at-if1 .before .awaits-event .ensures) ∙ at-if1 .if1 .taken)
+    (known-as true _ (o .ensures .next) (o .ensures .nodes) (o .ensures .buckets) (opened-known true _ _ _ _ _ refl))
 
 same-length : tie.Need-same-length
 same-length c = search needs

@@ -1,11 +1,13 @@
 -- `reader::by_line::read_line` meets its contract. Each phase by the function of that phase. Assumes nothing.
+use mathlib.Core.Path.{ap}
 use denote.Ref.{now}
 use Prim.Native.Nat.{_≤_}
 use Rattle.reader_state.specs.Standing.{most-lines}
 use Rattle.recording.specs.declared.ReaderPhase.the-variants.{Due, Event, Printed, Listed, Decided}
 use Rattle.session.specs.Print.{output-line}
 use Rattle.recording.specs.Reader.{read-phase}
-use Rattle.reader_state.specs.Standing.{with-part, phase-line}
+use Rattle.reader_state.specs.Standing.{with-part, awaits-event, phase-line}
+use Rattle.reader.specs.KnownMemory.{awaits-known}
 use Rattle.reader.proofs.Parts.{read-as, kept-as, compared-back}
 use Rattle.reader.proofs.Turns.{reads-line}
 use borrow.Author.Needs.{needs}
@@ -25,7 +27,11 @@ enum-told : tie.Need-enum-told
 enum-told c = search needs
 
 turn-line-requires : tie.Need-turn-line-requires
-turn-line-requires c κs = search needs
+unfolding awaits-event
+turn-line-requires c κs =
+    let at-enum-told = c .before .before in
+    let entry = at-enum-told .before .before .before .before .before in
+    awaits-known _ _ _ (ap awaits-event (at-enum-told .enum-told .given .1)) (entry .pre)
 
 enum-known-phase-2 : tie.Need-enum-known-phase-2
 enum-known-phase-2 c = search needs

@@ -60,16 +60,10 @@ enum-told c = search needs
 decided-requires : tie.Need-decided-requires
 decided-requires c κs = search needs
 
-same-length-3 : tie.Need-same-length-3
-same-length-3 c = search needs
-
-same-length-4 : tie.Need-same-length-4
-same-length-4 c = search needs
-
 returns-2 : tie.Need-returns-2
 unfolding turn-line read-turn event-turn
 returns-2 c =
-    let at-match = c .before .before .before .before in
+    let at-match = c .before .before in
     let at-event-line = at-match .before .before in
     let at-if1 = at-event-line .before in
     let at-starts-with = at-if1 .before in
@@ -77,13 +71,13 @@ returns-2 c =
     let line = now (entry .args .line) in
     let told =
     turn-event line _ (sym (at-starts-with .starts-with .ensures) ∙ at-if1 .if1 .left) (sym (at-event-line .event-line .ensures) ∙ at-match .k .given .1) in
-    rw told (c .start-task .ensures)
+    rw told (c .start-task .ensures _ _ (entry .pre))
 
-same-length-5 : tie.Need-same-length-5
-same-length-5 c = search needs
+same-length-3 : tie.Need-same-length-3
+same-length-3 c = search needs
 
-same-length-6 : tie.Need-same-length-6
-same-length-6 c = search needs
+same-length-4 : tie.Need-same-length-4
+same-length-4 c = search needs
 
 returns-3 : tie.Need-returns-3
 unfolding turn-line read-turn event-turn
@@ -129,10 +123,8 @@ turn-line-spec =
     step-task-requires
     enum-told
     decided-requires
+    returns-2
     same-length-3
     same-length-4
-    returns-2
-    same-length-5
-    same-length-6
     returns-3
     returns-4)

@@ -18,29 +18,29 @@ is-event-requires c κs = search needs
 closed-requires : tie.Need-closed-requires
 closed-requires c κs = search needs
 
-sub-handle-line : tie.Need-sub-handle-line
-sub-handle-line c =
+sub-known-line : tie.Need-sub-known-line
+sub-known-line c =
     let at-closed = c .before .before .before .before in
     omega (arith, append-within _ _ _ _ (at-closed .closed .ensures), at-closed .closed .kept .0)
 
-part-handle-line-start : tie.Need-part-handle-line-start
-part-handle-line-start c =
+part-known-line-start : tie.Need-part-known-line-start
+part-known-line-start c =
     let at-closed = c .before .before .before .before in
     omega (arith, append-within _ _ _ _ (at-closed .closed .ensures), at-closed .closed .kept .0)
 
-part-handle-line-end : tie.Need-part-handle-line-end
-part-handle-line-end c = search needs
+part-known-line-end : tie.Need-part-known-line-end
+part-known-line-end c = search needs
 
-handle-line-requires : tie.Need-handle-line-requires
-handle-line-requires c κs = search needs
+known-line-requires : tie.Need-known-line-requires
+known-line-requires c κs = search needs
 
-add-t17 : tie.Need-add-t17
-add-t17 c =
-    let at-handle-line = c .before .before .before .before .before .before .before .before in
-    let at-closed = at-handle-line .before .before .before .before .before .before in
+add-t18 : tie.Need-add-t18
+add-t18 c =
+    let at-known-line = c .before .before .before .before .before .before .before .before in
+    let at-closed = at-known-line .before .before .before .before .before .before in
     let entry = at-closed .before .before .before .before .before .before .before .before in
     let line-within = append-within _ _ _ _ (at-closed .closed .ensures) in
-    let rest-within = append-within _ _ _ _ (at-handle-line .handle-line .ensures .wrote) in
+    let rest-within = append-within _ _ _ _ (at-known-line .known-line .ensures .wrote) in
     omega (arith, line-within, rest-within, at-closed .closed .kept .0, rest-length (at-closed .closed .last .0) (at-closed .closed .result), entry)
 
 same-length : tie.Need-same-length
@@ -54,14 +54,14 @@ same-length-3 c = search needs
 
 returns : tie.Need-returns
 returns c =
-    let at-handle-line = c .before .before .before .before .before .before .before .before in
-    let at-closed = at-handle-line .before .before .before .before .before .before in
+    let at-known-line = c .before .before .before .before .before .before .before .before in
+    let at-closed = at-known-line .before .before .before .before .before .before in
     let at-if1 = at-closed .before .before in
     let at-is-event = at-if1 .before in
     let entry = at-is-event .before .before .before .before .before in
     let l = closed-line (now (entry .args .line)) in
     let n = at-closed .closed in
-    let t = at-handle-line .handle-line in
+    let t = at-known-line .known-line in
     event-is l (entry .args .s) _ _ _ _ _ _ _ (sym (at-is-event .is-event .ensures) ∙ at-if1 .if1 .taken)
     (written-after (close (l .bytes)) (now (entry .args .out)) (n .last .0) (n .result) (omega (arith, append-within _ _ _ _ (n .ensures), n .kept .0))
     (n .ensures) _ (t .result) _ _ _ (t .ensures))
@@ -93,11 +93,11 @@ event-line-spec =
     (tie.spec
     is-event-requires
     closed-requires
-    sub-handle-line
-    part-handle-line-start
-    part-handle-line-end
-    handle-line-requires
-    add-t17
+    sub-known-line
+    part-known-line-start
+    part-known-line-end
+    known-line-requires
+    add-t18
     same-length
     same-length-2
     same-length-3

@@ -2,7 +2,10 @@
 -- Assumes nothing.
 use mathlib.Core.Path.{sym, _∙_}
 use denote.Ref.{now}
-use Rattle.session_lines.proofs.Laws.{opens-then, refuses-then}
+use mathlib.Core.Bool.{true}
+use Rattle.session_state.specs.Handling.{silent}
+use Rattle.session_lines.specs.KnownMemory.{known-reading}
+use Rattle.session_lines.proofs.Laws.{opens-then, refuses-then, opened-known}
 use Rattle.recorder.specs.LentRecorder.{recorded-opening}
 use borrow.Author.Needs.{needs}
 use Rattle.recorder.proofs.writing.open_recorded.Statement.{statement}
@@ -15,7 +18,12 @@ reads-events-requires : tie.Need-reads-events-requires
 reads-events-requires c κs = search needs
 
 after-opening-requires : tie.Need-after-opening-requires
-after-opening-requires c κs = search needs
+after-opening-requires c κs =
+    let at-if1 = c .before .before .before in
+    let at-reads-events = at-if1 .before in
+    let t = at-reads-events .before .before .before .before .before .before .before .before .open-machine in
+    let reads = sym (at-reads-events .reads-events .ensures) ∙ at-if1 .if1 .taken in
+    known-reading true _ _ reads (opened-known _ _ _ (t .result) _ _ _ _ silent (t .ensures) reads)
 
 same-length : tie.Need-same-length
 same-length c = search needs

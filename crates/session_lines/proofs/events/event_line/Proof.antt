@@ -30,27 +30,23 @@ stop-requires c κs = search needs
 same-length : tie.Need-same-length
 same-length c = search needs
 
+returns : tie.Need-returns
+unfolding event-effect
+returns c =
+    let at-start-task = c .before .before in
+    let at-k = at-start-task .before .before .before in
+    let at-event-line = at-k .before .before in
+    let entry = at-event-line .before .before .before .before .before in
+    rw (sym (at-event-line .event-line .ensures) ∙ at-k .k .given .1) (at-start-task .start-task .ensures _ _ (entry .pre))
+
 same-length-2 : tie.Need-same-length-2
 same-length-2 c = search needs
 
 same-length-3 : tie.Need-same-length-3
 same-length-3 c = search needs
 
-returns : tie.Need-returns
-unfolding event-effect
-returns c =
-    let at-k = c .before .before .before .before .before .before .before in
-    let at-event-line = at-k .before .before in
-    rw (sym (at-event-line .event-line .ensures) ∙ at-k .k .given .1) (c .before .before .start-task .ensures)
-
 same-length-4 : tie.Need-same-length-4
 same-length-4 c = search needs
-
-same-length-5 : tie.Need-same-length-5
-same-length-5 c = search needs
-
-same-length-6 : tie.Need-same-length-6
-same-length-6 c = search needs
 
 returns-2 : tie.Need-returns-2
 unfolding event-effect
@@ -60,8 +56,8 @@ returns-2 c =
     let at-event-line = at-k2 .before .before in
     rw (sym (at-event-line .event-line .ensures) ∙ at-k2 .k2 .given .1) (at-step-task .step-task .ensures)
 
-same-length-7 : tie.Need-same-length-7
-same-length-7 c = search needs
+same-length-5 : tie.Need-same-length-5
+same-length-5 c = search needs
 
 returns-3 : tie.Need-returns-3
 unfolding event-effect
@@ -83,12 +79,10 @@ event-line-spec =
     enum-told
     stop-requires
     same-length
+    returns
     same-length-2
     same-length-3
-    returns
     same-length-4
-    same-length-5
-    same-length-6
     returns-2
-    same-length-7
+    same-length-5
     returns-3)

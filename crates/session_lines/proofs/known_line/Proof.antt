@@ -1,10 +1,11 @@
--- `session_lines::handle_line` meets its contract. Each phase by the function of that phase. Assumes nothing.
+-- `session_lines::known_line` meets its contract. Each phase by the function of that phase. Assumes nothing.
 use Rattle.session_state.specs.declared.Phase.the-variants.{Due, Events, Stopped}
 use Rattle.session_state.specs.Handling.{phase-effect}
+use Rattle.session_lines.specs.KnownMemory.{known-events}
 use Rattle.session_lines.proofs.Laws.{handles, does-nothing}
 use borrow.Author.Needs.{needs}
-use Rattle.session_lines.proofs.handle_line.Statement.{statement}
-use Rattle.session_lines.proofs.handle_line.Tie as tie
+use Rattle.session_lines.proofs.known_line.Statement.{statement}
+use Rattle.session_lines.proofs.known_line.Tie as tie
 
 enum-known-phase : tie.Need-enum-known-phase
 enum-known-phase c = search needs
@@ -16,7 +17,10 @@ enum-told : tie.Need-enum-told
 enum-told c = search needs
 
 event-line-requires : tie.Need-event-line-requires
-event-line-requires c κs = search needs
+event-line-requires c κs =
+    let at-enum-told = c .before .before .before in
+    let entry = at-enum-told .before .before .before .before .before .before in
+    known-events _ _ _ (at-enum-told .enum-told .given .1) (entry .pre)
 
 enum-told-2 : tie.Need-enum-told-2
 enum-told-2 c = search needs
@@ -62,8 +66,8 @@ returns-3 c =
     let entry = c .before .before .before .before .before .before in
     handles (entry .args .s) Stopped (c .enum-told2 .given .1) _ _ _ _ _ _ _ _ (does-nothing _ _ _ _)
 
-pub handle-line-spec : {M : Type 1} → statement M
-handle-line-spec =
+pub known-line-spec : {M : Type 1} → statement M
+known-line-spec =
     tie.close
     (tie.spec
     enum-known-phase
