@@ -5,7 +5,12 @@ ghost use mathlib.Core.Path.{_≡_};
 ghost use Prim.Native.Nat.{_*_, _≤_};
 ghost use lib.ListN.{length};
 ghost use Rattle.session.specs.OutputLengths.{longest-line};
+ghost use lib.IntN.{pos};
+ghost use Rattle.session_state.specs.Handling.{new-session};
+ghost use Rattle.partial_line.specs.PartialLines.{empty-line};
+ghost use Rattle.session_stream.specs.Stream.{begin, stream-end};
 ghost use Rattle.session_run.specs.Stopped.{has-stopped, begins-refusal};
+ghost use Rattle.session_run.specs.Outcomes.{status-number, after-write, ReadOn, ReadAll, EndShown, Ran, ProgramRan};
 use partial_line::PartialLine;
 use session_state::Phase;
 use session_state::Session;
@@ -104,7 +109,9 @@ fn show(all: bool, stopped: bool, text: &[u8]) -> bool {
 }
 
 // A failed write goes first: what it was to say is lost.
-fn after_write(shown: bool, refused: bool, more: bool) -> Outcome {
+fn after_write(shown: bool, refused: bool, more: bool) -> Outcome
+    ensures { λ r. ⌜ r ≡ after-write shown refused more ⌝ }
+{
     if !shown {
         return Outcome::WriteFailed;
     }
@@ -118,7 +125,9 @@ fn after_write(shown: bool, refused: bool, more: bool) -> Outcome {
 }
 
 // One read of standard input, and what it prints; where it gives nothing the input is at its end.
-fn read_some(all: bool, s: Session, h: PartialLine, ns: &mut [u32], bs: &mut [u32]) -> Reading {
+fn read_some(all: bool, s: Session, h: PartialLine, ns: &mut [u32], bs: &mut [u32]) -> Reading
+    ensures { λ r. ⌜ ReadOn (begin s h (now (ns .entry)) (now (bs .entry))) r (now (ns .exit)) (now (bs .exit)) ⌝ }
+{
     let mut input = input_room();
     let got = libc::read(0, &mut input);
     if got < 0 {
@@ -146,7 +155,9 @@ fn read_some(all: bool, s: Session, h: PartialLine, ns: &mut [u32], bs: &mut [u3
 
 // Reads until the input ends, the session has stopped, or a read or a write fails; what is printed is written, or where `all` is false only the
 // refusal. A proved loop has to end, and nothing says that an input does, so the reads are counted down from a number that no run uses up.
-pub fn read_all(all: bool, ns: &mut [u32], bs: &mut [u32]) -> Reading {
+pub fn read_all(all: bool, ns: &mut [u32], bs: &mut [u32]) -> Reading
+    ensures { λ r. ⌜ ReadAll (begin new-session empty-line (now (ns .entry)) (now (bs .entry))) r (now (ns .exit)) (now (bs .exit)) ⌝ }
+{
     let mut s = session_state::new_session();
     let mut h = partial_line::empty_line();
     let mut left: u64 = 18446744073709551615;
@@ -168,19 +179,25 @@ pub fn read_all(all: bool, ns: &mut [u32], bs: &mut [u32]) -> Reading {
 }
 
 // What the end of the input printed, written.
-fn shown_end(text: &[u8]) -> Outcome {
+fn shown_end(text: &[u8]) -> Outcome
+    ensures { λ r. ⌜ EndShown (now (text .entry)) r ⌝ }
+{
     let refused = is_refusal(text);
     let shown = io::write_all(1, text);
     after_write(shown, refused, false)
 }
 
-fn finish(s: Session, h: PartialLine, ns: &mut [u32], bs: &mut [u32]) -> Outcome {
+fn finish(s: Session, h: PartialLine, ns: &mut [u32], bs: &mut [u32]) -> Outcome
+    ensures { λ r. ⌜ EndShown (stream-end (begin s h (now (ns .entry)) (now (bs .entry))) .prints) r ⌝ }
+{
     let mut out = output_room();
     let m = session_stream::end_stream(s, h, ns, bs, &mut out);
     shown_end(&out[..m])
 }
 
-fn run(ns: &mut [u32], bs: &mut [u32]) -> Outcome {
+fn run(ns: &mut [u32], bs: &mut [u32]) -> Outcome
+    ensures { λ r. ⌜ Ran (now (ns .entry)) (now (bs .entry)) r ⌝ }
+{
     let k = read_all(true, ns, bs);
     let o = k.outcome;
     let Outcome::Ended = o else {
@@ -192,14 +209,18 @@ fn run(ns: &mut [u32], bs: &mut [u32]) -> Outcome {
 }
 
 // A line on standard error, and the status of a run that failed.
-fn failed(name: &[u8], what: &[u8]) -> i32 {
+fn failed(name: &[u8], what: &[u8]) -> i32
+    ensures { λ r. ⌜ r ≡ pos 1 ⌝ }
+{
     io::write_all(2, name);
     io::write_all(2, what);
     1
 }
 
 // The exit status: 0 all well, 1 a read or a write failed, which a line on standard error says, 2 the session was refused.
-pub fn exit_status(name: &[u8], o: Outcome) -> i32 {
+pub fn exit_status(name: &[u8], o: Outcome) -> i32
+    ensures { λ r. ⌜ r ≡ pos (status-number o) ⌝ }
+{
     match o {
         Outcome::More => 0,
         Outcome::Ended => 0,
@@ -211,7 +232,9 @@ pub fn exit_status(name: &[u8], o: Outcome) -> i32 {
 
 // The session program: standard input to its end, or as far as the session goes.
 #[no_mangle]
-pub extern "C" fn yardrun() -> i32 {
+pub extern "C" fn yardrun() -> i32
+    ensures { λ r. ⌜ ProgramRan r ⌝ }
+{
     let mut ns = node_words();
     let mut bs = bucket_words();
     let o = run(&mut ns, &mut bs);

@@ -20,23 +20,15 @@ fn write_first(text: &[u8], n: usize) {
     }
 }
 
-// The words from which a dump is made.
-fn dump_words() -> [u32; 1201]
-    ensures { λ r. ⌜ 1201 ≡ length r ⌝ }
-{
-    [0; 1201]
-}
-
 // The memory of a session that has ended: its part of the pools.
 fn dump(s: Session, ns: &[u32], bs: &[u32]) {
-    let mut w = dump_words();
     let header = s.header;
     let m = s.state;
     let a = session_pools::node_extent(header.nodes, ns.len());
     let b = session_pools::bucket_extent(header.buckets, bs.len());
     if a <= ns.len() {
         if b <= bs.len() {
-            dump_text::dump(m, &ns[0..a], &bs[0..b], &mut w);
+            dump_text::dump(m, &ns[0..a], &bs[0..b]);
         }
     }
 }

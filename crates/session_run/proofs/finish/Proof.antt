@@ -1,7 +1,14 @@
--- `session_run::finish` meets its contract. No more is printed than the buffer has room for. Assumes nothing.
-use mathlib.Core.Path.{sym}
+-- `session_run::finish` meets its contract. The buffer has room for all that is printed. Assumes nothing.
+use Prim.Native.Nat.{ℕ}
+use denote.Ref.{now}
+use mathlib.Core.List.{List}
+use mathlib.Core.Path.{sym, subst}
 use lib.Seq.{length-take-le}
 use Rattle.session.specs.BufferLaws.{append-within}
+use Rattle.session_stream.specs.Stream.{begin}
+use Rattle.session_stream.specs.OutputBounds.{end-bound}
+use Rattle.session_run.specs.Outcomes.{EndShown}
+use Rattle.session_run.proofs.Laws.{text-written}
 use native.Mathlib.Omega.{arith}
 use borrow.Author.Needs.{needs}
 use Rattle.session_run.proofs.finish.Statement.{statement}
@@ -42,7 +49,14 @@ same-length-2 : tie.Need-same-length-2
 same-length-2 c = search needs
 
 returns : tie.Need-returns
-returns c = search needs
+returns c =
+    let at-end = c .before .before .before .before .before .before .before in
+    let at-room = at-end .before .before .before .before in
+    let x = at-room .before .before .before .args in
+    let e = at-end .end-stream in
+    let bound = end-bound (begin (x .s) (x .h) (now (x .ns)) (now (x .bs))) in
+    subst (λ (text : List ℕ). EndShown text (c .shown-end .result))
+    (text-written _ _ _ (e .result) (e .ensures .wrote) (omega (arith, bound, at-room .output-room .ensures))) (c .shown-end .ensures)
 
 pub finish-spec : {M : Type 1} → statement M
 finish-spec =

@@ -1,7 +1,9 @@
--- `session_run::read_some` meets its contract. No more is printed than the buffer has room for. Assumes nothing.
-use mathlib.Core.Path.{sym}
+-- `session_run::read_some` meets its contract: the bytes read are taken by the session, and no more is printed than the buffer has room for. Assumes nothing.
+use denote.Ref.{now}
+use mathlib.Core.Path.{refl, sym}
 use lib.Seq.{length-take-le}
 use Rattle.session.specs.BufferLaws.{append-within}
+use Rattle.session_run.proofs.Laws.{read-failed, read-taken}
 use native.Mathlib.Omega.{arith}
 use borrow.Author.Needs.{needs}
 use Rattle.session_run.proofs.read_some.Statement.{statement}
@@ -17,7 +19,9 @@ read-requires : tie.Need-read-requires
 read-requires c κs = search needs
 
 returns : tie.Need-returns
-returns c = search needs
+returns c =
+    let x = c .before .before .before .before .before .before .before .args in
+    read-failed (x .s) (x .h) (now (x .ns)) (now (x .bs)) _ refl refl refl
 
 slice-aggregate-count : tie.Need-slice-aggregate-count
 slice-aggregate-count c = search needs
@@ -72,7 +76,14 @@ same-length-2 : tie.Need-same-length-2
 same-length-2 c = search needs
 
 returns-2 : tie.Need-returns-2
-returns-2 c = search needs
+returns-2 c =
+    let at-show = c .before in
+    let at-stopped = at-show .before .before in
+    let at-feed = at-stopped .before .before .before .before .before .before .before .before in
+    let x = at-feed .before .before .before .before .before .before .before .before .before .before .before .before .before .before .before .args in
+    let f = at-feed .feed-bytes in
+    read-taken (x .s) (x .h) (now (x .ns)) (now (x .bs)) _ (f .result) _ _ _ _ (f .ensures) _ refl refl
+    (at-show .show .result) (at-stopped .has-stopped .result) _ (at-stopped .has-stopped .ensures) (c .after-write .ensures)
 
 pub read-some-spec : {M : Type 1} → statement M
 read-some-spec =

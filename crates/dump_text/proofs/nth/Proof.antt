@@ -1,0 +1,68 @@
+-- `dump_text::nth` is safe and ends: a word begins and ends within the table. Assumes nothing.
+use native.Mathlib.Omega.{arith}
+use mathlib.Core.Logic.{⊎-elim}
+use Prim.Native.Nat.{_≤_, _-_}
+use lib.ListN.{length}
+use Rattle.dump_text.proofs.nth.Statement.{statement}
+use Rattle.dump_text.proofs.nth.Tie as tie
+
+abbrev Inv-loop : tie.InvT-loop
+Inv-loop table j start₀ seen₀ i₀ start seen i = (start ≤ i) × (seen ≤ i) × (i ≤ length table)
+
+abbrev μ-loop : tie.MeasureT-loop
+μ-loop table j start₀ seen₀ i₀ start seen i = length table - i
+
+loop-holds : tie.Need-loop-holds Inv-loop μ-loop
+loop-holds c = omega arith
+
+shared-slice-read-if1 : tie.Need-shared-slice-read-if1 Inv-loop μ-loop
+shared-slice-read-if1 c = omega arith
+
+sub-write-all : tie.Need-sub-write-all Inv-loop μ-loop
+sub-write-all c = omega arith
+
+part-write-all-start : tie.Need-part-write-all-start Inv-loop μ-loop
+part-write-all-start c = omega arith
+
+part-write-all-end : tie.Need-part-write-all-end Inv-loop μ-loop
+part-write-all-end c = omega arith
+
+write-all-requires : tie.Need-write-all-requires Inv-loop μ-loop
+write-all-requires c κs = tt
+
+add-seen : tie.Need-add-seen Inv-loop μ-loop
+add-seen c = omega arith
+
+add-start : tie.Need-add-start Inv-loop μ-loop
+add-start c = omega arith
+
+add-i : tie.Need-add-i Inv-loop μ-loop
+add-i c = omega arith
+
+loop-less : tie.Need-loop-less Inv-loop μ-loop
+loop-less c = omega arith
+
+loop-again : tie.Need-loop-again Inv-loop μ-loop
+loop-again c = ⊎-elim (λ w. omega arith) (λ w. omega arith) (c .if1 .came)
+
+returns : tie.Need-returns Inv-loop μ-loop
+returns c = tt
+
+pub nth-spec : {M : Type 1} → statement M
+nth-spec =
+    tie.close
+    (tie.spec
+    Inv-loop
+    μ-loop
+    loop-holds
+    shared-slice-read-if1
+    sub-write-all
+    part-write-all-start
+    part-write-all-end
+    write-all-requires
+    add-seen
+    add-start
+    add-i
+    loop-less
+    loop-again
+    returns)
