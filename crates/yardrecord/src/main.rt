@@ -1,9 +1,12 @@
 // yardrecord: the recording of a session, its input on standard input and the recording on standard output; where nothing is recorded, the
 // session's refusal. It holds one read of the input, what is written for that, and the two pools.
 ghost use mathlib.Core.Path.{_≡_};
-ghost use Prim.Native.Nat.{_+_, _*_};
+ghost use Prim.Native.Nat.{_+_, _*_, _≤_};
 ghost use lib.ListN.{length};
+ghost use Rattle.session_stream.specs.Stream.{EndedBy};
+ghost use Rattle.recorder.specs.LentRecorder.{begin, record-bytes, record-end, RecordedAs};
 ghost use Rattle.recorder.specs.OutputBounds.{longest-pair, longest-last};
+use recorder::Recorded;
 use recorder::Recorder;
 
 // 64 nodes of 34 words. The `ensures` gives the length, which lending the array needs.
@@ -27,12 +30,37 @@ fn input_room() -> [u8; 1024]
     [0; 1024]
 }
 
-// What is written for one read, at most `longest-pair` bytes for each of its 1,024 and once the kept header lines and the listing
-// (`bytes-bound`), or for the end, which is shorter (`end-bound`).
+// What is written for one read, or for the end of the input.
 fn output_room() -> [u8; 118552]
     ensures { λ r. ⌜ 1024 * longest-pair + longest-last ≡ length r ⌝ }
 {
     [0; 118552]
+}
+
+// Records the bytes of one read. The room that it demands holds all that is written for them: at most `longest-pair` bytes for each, and once the
+// kept header lines and the listing (`bytes-bound`).
+fn record_read(
+    r: Recorder,
+    input: &[u8],
+    ns: &mut [u32],
+    bs: &mut [u32],
+    out: &mut [u8],
+) -> Recorded
+    requires { ⌜ (length (now input) ≤ 1024) × (1024 * longest-pair + longest-last ≤ length (now out)) ⌝ }
+    ensures { λ d. ⌜ RecordedAs (record-bytes (begin r (now (ns .entry)) (now (bs .entry))) (now (input .entry))) d (now (ns .exit)) (now (bs .exit))
+        (now (out .entry)) (now (out .exit))
+        × (length (record-bytes (begin r (now (ns .entry)) (now (bs .entry))) (now (input .entry)) .writes) ≤ length (now (out .entry))) ⌝ }
+{
+    recorder::record_bytes(r, input, ns, bs, out)
+}
+
+// Records the end of the input, in room for all that is written for it (`end-bound`).
+fn record_last(r: Recorder, ns: &mut [u32], bs: &mut [u32], out: &mut [u8]) -> usize
+    requires { ⌜ longest-last ≤ length (now out) ⌝ }
+    ensures { λ n. ⌜ EndedBy (record-end r (now (ns .entry)) (now (bs .entry))) n (now (ns .exit)) (now (bs .exit)) (now (out .entry)) (now (out .exit))
+        × (length (record-end r (now (ns .entry)) (now (bs .entry)) .prints) ≤ length (now (out .entry))) ⌝ }
+{
+    recorder::record_end(r, ns, bs, out)
 }
 
 // A recorder between two reads, and whether the input may go on.
@@ -53,7 +81,7 @@ fn read_some(r: Recorder, ns: &mut [u32], bs: &mut [u32]) -> ReadOutcome {
         };
     }
     let mut out = output_room();
-    let d = recorder::record_bytes(r, &input[..n], ns, bs, &mut out);
+    let d = record_read(r, &input[..n], ns, bs, &mut out);
     let m = d.written;
     let next = d.recorder;
     io::write_all(1, &out[..m]);
@@ -66,7 +94,7 @@ fn read_some(r: Recorder, ns: &mut [u32], bs: &mut [u32]) -> ReadOutcome {
 // What is written for the end of the input.
 fn finish(r: Recorder, ns: &mut [u32], bs: &mut [u32]) {
     let mut out = output_room();
-    let m = recorder::record_end(r, ns, bs, &mut out);
+    let m = record_last(r, ns, bs, &mut out);
     io::write_all(1, &out[..m]);
 }
 

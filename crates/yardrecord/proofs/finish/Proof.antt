@@ -10,25 +10,25 @@ use Rattle.yardrecord.proofs.finish.Tie as tie
 output-room-requires : tie.Need-output-room-requires
 output-room-requires c κs = search needs
 
-slice-aggregate-record-end : tie.Need-slice-aggregate-record-end
-slice-aggregate-record-end c = search needs
+slice-aggregate-record-last : tie.Need-slice-aggregate-record-last
+slice-aggregate-record-last c = search needs
 
-record-end-requires : tie.Need-record-end-requires
-record-end-requires c κs = search needs
+record-last-requires : tie.Need-record-last-requires
+record-last-requires c κs = omega (arith, c .before .before .before .output-room .ensures)
 
 array-share-prefix-out : tie.Need-array-share-prefix-out
 array-share-prefix-out c =
-    let at-record-end = c .before .before .before .before .before in
-    let at-output-room = at-record-end .before .before .before .before in
-    let d = at-record-end .record-end in
-    omega (arith, append-within _ _ _ _ (d .ensures .wrote), d .kept .1 .1 .1 .0, at-output-room .output-room .ensures)
+    let at-record-last = c .before .before .before .before .before in
+    let at-output-room = at-record-last .before .before .before .before in
+    let d = at-record-last .record-last in
+    omega (arith, append-within _ _ _ _ (d .ensures .0 .wrote), d .kept .1 .1 .1 .0, at-output-room .output-room .ensures)
 
 slice-aggregate-write-all : tie.Need-slice-aggregate-write-all
 slice-aggregate-write-all c =
-    let at-record-end = c .before .before .before .before .before .before in
-    let at-output-room = at-record-end .before .before .before .before in
-    let d = at-record-end .record-end in
-    let within = append-within _ _ _ _ (d .ensures .wrote) in
+    let at-record-last = c .before .before .before .before .before .before in
+    let at-output-room = at-record-last .before .before .before .before in
+    let d = at-record-last .record-last in
+    let within = append-within _ _ _ _ (d .ensures .0 .wrote) in
     let room = at-output-room .output-room .ensures in
     sym (length-take-le (d .result) (d .last .1 .1 .1 .0) (omega (arith, within, d .kept .1 .1 .1 .0, room)))
 
@@ -49,8 +49,8 @@ finish-spec =
     tie.close
     (tie.spec
     output-room-requires
-    slice-aggregate-record-end
-    record-end-requires
+    slice-aggregate-record-last
+    record-last-requires
     array-share-prefix-out
     slice-aggregate-write-all
     write-all-requires

@@ -1,5 +1,6 @@
 -- `yardrecord::read_some` meets its contract. No more is written than the buffer has room for. Assumes nothing.
 use mathlib.Core.Path.{sym}
+use lib.ListN.{length-take}
 use lib.Seq.{length-take-le}
 use Rattle.session.specs.BufferLaws.{append-within}
 use native.Mathlib.Omega.{arith}
@@ -31,28 +32,36 @@ output-room-requires c κs = search needs
 array-share-prefix-input : tie.Need-array-share-prefix-input
 array-share-prefix-input c = search needs
 
-slice-aggregate-record-bytes : tie.Need-slice-aggregate-record-bytes
-slice-aggregate-record-bytes c = search needs
+slice-aggregate-record-read : tie.Need-slice-aggregate-record-read
+slice-aggregate-record-read c = search needs
 
-slice-aggregate-record-bytes-2 : tie.Need-slice-aggregate-record-bytes-2
-slice-aggregate-record-bytes-2 c = search needs
+slice-aggregate-record-read-2 : tie.Need-slice-aggregate-record-read-2
+slice-aggregate-record-read-2 c = search needs
 
-record-bytes-requires : tie.Need-record-bytes-requires
-record-bytes-requires c κs = search needs
+record-read-requires : tie.Need-record-read-requires
+record-read-requires c κs =
+    let at-output-room = c .before .before .before .before in
+    let at-count = at-output-room .before .before in
+    let at-read = at-count .before .before .before in
+    let at-input-room = at-read .before .before in
+    let read = at-read .read in (
+      omega (arith, length-take (at-count .count .result) (read .last .1 .0), read .kept .1 .0, at-input-room .input-room .ensures),
+      omega (arith, at-output-room .output-room .ensures),
+    )
 
 array-share-prefix-out : tie.Need-array-share-prefix-out
 array-share-prefix-out c =
-    let at-record-bytes = c .before .before .before .before .before .before in
-    let at-output-room = at-record-bytes .before .before .before .before .before in
-    let d = at-record-bytes .record-bytes in
-    omega (arith, append-within _ _ _ _ (d .ensures .wrote), d .kept .1 .1 .1 .1 .0, at-output-room .output-room .ensures)
+    let at-record-read = c .before .before .before .before .before .before in
+    let at-output-room = at-record-read .before .before .before .before .before in
+    let d = at-record-read .record-read in
+    omega (arith, append-within _ _ _ _ (d .ensures .0 .wrote), d .kept .1 .1 .1 .1 .0, at-output-room .output-room .ensures)
 
 slice-aggregate-write-all : tie.Need-slice-aggregate-write-all
 slice-aggregate-write-all c =
-    let at-record-bytes = c .before .before .before .before .before .before .before in
-    let at-output-room = at-record-bytes .before .before .before .before .before in
-    let d = at-record-bytes .record-bytes in
-    let within = append-within _ _ _ _ (d .ensures .wrote) in
+    let at-record-read = c .before .before .before .before .before .before .before in
+    let at-output-room = at-record-read .before .before .before .before .before in
+    let d = at-record-read .record-read in
+    let within = append-within _ _ _ _ (d .ensures .0 .wrote) in
     let room = at-output-room .output-room .ensures in
     sym (length-take-le (d .result .written) (d .last .1 .1 .1 .1 .0) (omega (arith, within, d .kept .1 .1 .1 .1 .0, room)))
 
@@ -80,9 +89,9 @@ read-some-spec =
     returns
     output-room-requires
     array-share-prefix-input
-    slice-aggregate-record-bytes
-    slice-aggregate-record-bytes-2
-    record-bytes-requires
+    slice-aggregate-record-read
+    slice-aggregate-record-read-2
+    record-read-requires
     array-share-prefix-out
     slice-aggregate-write-all
     write-all-requires
