@@ -56,10 +56,10 @@ module _ (s : State) (vs : List ℕ) (g : sound (machine-of s vs) ≡ true) wher
   unfolding sound
   parts = let p = and4 _ _ _ _ g in record { numbers-part = p .0; versions-part = p .2; tasks-part = p .3 }
 
-  bounds : Numbers y
+  pub bounds : Numbers y
   bounds = numbers y (parts .numbers-part)
 
-  tagged : (k : ℕ) → k < s .versions → Tagged vs k
+  pub tagged : (k : ℕ) → k < s .versions → Tagged vs k
   unfolding sound-version sound-tags
   tagged k h =
       let w = drop (66 * k) vs in

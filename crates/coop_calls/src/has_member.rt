@@ -38,11 +38,11 @@ fn line113(s: State, k: u32, c: Task, vs: &[u32]) -> Stepped
     let j = c.o - 1;
     let m = coop_pool::op_word(vs, j);
     let n = op_number(m);
-    let o = coop_state::operation(s, n);
+    let op = coop_state::operation(s, n);
     let there = 2 <= m;
-    let same = o.tag == c.tag;
+    let same = op.tag == c.tag;
     if there & same {
-        let a = coop_lines::yes_no(o.kind == 1);
+        let a = coop_lines::yes_no(op.kind == coop_state::INVOKE_INSERT);
         return coop_lines::end(s, k, c, a);
     }
     let h = coop_pool::has(vs, j, c.tag);

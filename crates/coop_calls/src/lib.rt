@@ -27,7 +27,7 @@ pub fn line117(s: State, k: u32, c: Task) -> Stepped
     requires { ⌜ c .line ≡ 117 ⌝ }
     ensures { λ r. ⌜ ((vs : List ℕ) → reply-of r vs ≡ step-running (machine-of s vs) k c) ⌝ }
 {
-    let o = coop_state::operation(s, c.op);
-    let a = coop_lines::yes_no(o.resp);
+    let op = coop_state::operation(s, c.op);
+    let a = coop_lines::yes_no(op.resp);
     coop_lines::end(s, k, c, a)
 }

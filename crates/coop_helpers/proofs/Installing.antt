@@ -18,24 +18,24 @@ use Rattle.coop_pool.specs.Versions.{made}
 
 -- ---- what it holds
 
-module _ (o : Operation) (ts : List ℕ) where
-  pub made-full : made o ts .full ≡ true → ltb 64 (length (applied o ts)) ≡ true
+module _ (q : Operation) (ts : List ℕ) where
+  pub made-full : made q ts .full ≡ true → ltb 64 (length (applied q ts)) ≡ true
   unfolding made
-  made-full e = go (ltb 64 (length (applied o ts))) refl e
+  made-full e = go (ltb 64 (length (applied q ts))) refl e
     where
-      go : (b : Bool) → ltb 64 (length (applied o ts)) ≡ b → made o ts .full ≡ true → b ≡ true
+      go : (b : Bool) → ltb 64 (length (applied q ts)) ≡ b → made q ts .full ≡ true → b ≡ true
       go true p q = refl
       go false p q = absurd (tf q (rw p))
 
   pub record Fits : Type 0 where
-    pub room : ltb 64 (length (applied o ts)) ≡ false
-    pub words : made o ts .version .words ≡ bucket-of 0 (applied o ts)
+    pub room : ltb 64 (length (applied q ts)) ≡ false
+    pub words : made q ts .version .words ≡ bucket-of 0 (applied q ts)
 
-  pub made-fits : made o ts .full ≡ false → Fits
+  pub made-fits : made q ts .full ≡ false → Fits
   unfolding made
-  made-fits e = go (ltb 64 (length (applied o ts))) refl
+  made-fits e = go (ltb 64 (length (applied q ts))) refl
     where
-      go : (b : Bool) → ltb 64 (length (applied o ts)) ≡ b → Fits
+      go : (b : Bool) → ltb 64 (length (applied q ts)) ≡ b → Fits
       go true p = absurd (tf (rw p) e)
       go false p = record { room = p; words = rw p }
 

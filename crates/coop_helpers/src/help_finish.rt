@@ -48,8 +48,8 @@ fn line138(s: State, k: u32, c: Task, vs: &[u32]) -> Stepped
     }
     let j = pool::number_of(c.o);
     let n = pool::number_of(c.helped);
-    let o = coop_state::operation(s, n);
-    let b = coop_pool::responds(o, vs, j);
+    let op = coop_state::operation(s, n);
+    let b = coop_pool::responds(op, vs, j);
     let t = coop_state::set_resp(s, n, b);
     coop_lines::go_with(t, k, c, 139, c.o)
 }
@@ -80,8 +80,8 @@ fn line140(s: State, k: u32, c: Task, vs: &mut [u32]) -> Stepped
         return coop_lines::return_to(s, k, c);
     }
     let n = pool::number_of(c.helped);
-    let o = coop_state::operation(s, n);
-    let d = coop_pool::made_of(o, vs, j);
+    let op = coop_state::operation(s, n);
+    let d = coop_pool::made_of(op, vs, j);
     let full = d.full;
     if full {
         return coop_lines::refused(s, 8);

@@ -91,13 +91,13 @@ module _ {y : Machine} (f : MemoryFacts y) where
 
     zero-after : (m : ℕ) → At (m ≡ n) q (operation-of y m) (operation-of (set-operation n q y) m) → operation-of (set-operation n q y) m .kind ≡ 0
         → operation-of (set-operation n q y) m ≡ never-invoked
-    zero-after m (hit e g) z = absurd (invoked (ap (λ (o : Operation). o .kind) (sym g) ∙ z))
-    zero-after m (miss d g) z = g ∙ f .untouched m (ap (λ (o : Operation). o .kind) (sym g) ∙ z)
+    zero-after m (hit e g) z = absurd (invoked (ap (λ (x : Operation). x .kind) (sym g) ∙ z))
+    zero-after m (miss d g) z = g ∙ f .untouched m (ap (λ (x : Operation). x .kind) (sym g) ∙ z)
 
     still-invoked : (m : ℕ) → At (m ≡ n) q (operation-of y m) (operation-of (set-operation n q y) m) → ¬ (operation-of y m .kind ≡ 0)
         → ¬ (operation-of (set-operation n q y) m .kind ≡ 0)
-    still-invoked m (hit e g) d z = invoked (ap (λ (o : Operation). o .kind) (sym g) ∙ z)
-    still-invoked m (miss e g) d z = d (ap (λ (o : Operation). o .kind) (sym g) ∙ z)
+    still-invoked m (hit e g) d z = invoked (ap (λ (x : Operation). x .kind) (sym g) ∙ z)
+    still-invoked m (miss e g) d z = d (ap (λ (x : Operation). x .kind) (sym g) ∙ z)
 
     pub operation-still : StillInvoked y (set-operation n q y)
     operation-still m = still-invoked m (operation-after y n q in-table m)

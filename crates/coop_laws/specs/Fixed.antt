@@ -28,9 +28,9 @@ use Rattle.coop_spec.specs.declared.Operation.{Operation}
 use Rattle.coop_spec.specs.declared.Task.{Task}
 use Rattle.coop_laws.specs.FactsKept.{operation-after}
 
--- the operation p has the type and tag of o, if o was invoked
+-- the operation p has the type and tag of q, if q was invoked
 abbrev pub SameType : Operation → Operation → Type 0
-SameType o p = ¬ (o .kind ≡ 0) → (p .kind ≡ o .kind) × (p .tag ≡ o .tag)
+SameType q p = ¬ (q .kind ≡ 0) → (p .kind ≡ q .kind) × (p .tag ≡ q .tag)
 
 pub record Fixed (y z : Machine) : Type 0 where
   pub tasks≡ : z .state .tasks ≡ y .state .tasks
@@ -116,11 +116,11 @@ step-fixed y p =
     P r = Fixed y (r .machine)
 
 -- an invoke that may start has its operation's type and tag
-fits-same : (o : Operation) (kind tag : ℕ) → fits-type o kind tag ≡ true → ¬ (o .kind ≡ 0) → (kind ≡ o .kind) × (tag ≡ o .tag)
+fits-same : (q : Operation) (kind tag : ℕ) → fits-type q kind tag ≡ true → ¬ (q .kind ≡ 0) → (kind ≡ q .kind) × (tag ≡ q .tag)
 unfolding fits-type
-fits-same o kind tag e d = elim (or-e (eqb (o .kind) 0) _ e) [
-  | inl a ↦ absurd (d (eqb-true (o .kind) 0 a))
-  | inr a ↦ (sym (eqb-true (o .kind) kind (and-left (eqb (o .kind) kind) _ a)), sym (eqb-true (o .tag) tag (and-right (eqb (o .kind) kind) _ a)))
+fits-same q kind tag e d = elim (or-e (eqb (q .kind) 0) _ e) [
+  | inl a ↦ absurd (d (eqb-true (q .kind) 0 a))
+  | inr a ↦ (sym (eqb-true (q .kind) kind (and-left (eqb (q .kind) kind) _ a)), sym (eqb-true (q .tag) tag (and-right (eqb (q .kind) kind) _ a)))
 ]
 
 fixing-fixed : (y : Machine) (call : Call) (n k : ℕ) → may-start y call n k ≡ true → Fixed y (fixing y call n k)

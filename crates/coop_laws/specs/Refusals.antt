@@ -78,20 +78,20 @@ Allowed y Freeze n k = Unit {0}
 Allowed y HasMember n k = Unit {0}
 Allowed y GetResponse n k = (n < 64) × (operation-of y n .returned ≡ true)
 
-module _ (o : Operation) (kind tag : ℕ) where
-  fits-means : fits-type o kind tag ≡ true → (o .kind ≡ 0) ⊎ ((o .kind ≡ kind) × (o .tag ≡ tag))
+module _ (q : Operation) (kind tag : ℕ) where
+  fits-means : fits-type q kind tag ≡ true → (q .kind ≡ 0) ⊎ ((q .kind ≡ kind) × (q .tag ≡ tag))
   unfolding fits-type
-  fits-means e = elim (or-e (eqb (o .kind) 0) _ e) [
-    | inl a ↦ inl (eqb-true (o .kind) 0 a)
-    | inr a ↦ inr (eqb-true (o .kind) kind (and-left (eqb (o .kind) kind) _ a), eqb-true (o .tag) tag (and-right (eqb (o .kind) kind) _ a))
+  fits-means e = elim (or-e (eqb (q .kind) 0) _ e) [
+    | inl a ↦ inl (eqb-true (q .kind) 0 a)
+    | inr a ↦ inr (eqb-true (q .kind) kind (and-left (eqb (q .kind) kind) _ a), eqb-true (q .tag) tag (and-right (eqb (q .kind) kind) _ a))
   ]
 
-  means-fits : (o .kind ≡ 0) ⊎ ((o .kind ≡ kind) × (o .tag ≡ tag)) → fits-type o kind tag ≡ true
+  means-fits : (q .kind ≡ 0) ⊎ ((q .kind ≡ kind) × (q .tag ≡ tag)) → fits-type q kind tag ≡ true
   unfolding fits-type
-  means-fits (inl a) = or-l (eqb (o .kind) 0) _ (eq-eqb (o .kind) 0 a)
+  means-fits (inl a) = or-l (eqb (q .kind) 0) _ (eq-eqb (q .kind) 0 a)
   means-fits (inr a) =
-      or-r (eqb (o .kind) 0) _
-      (and-i (eqb (o .kind) kind) (eqb (o .tag) tag) (eq-eqb (o .kind) kind (a .0)) (eq-eqb (o .tag) tag (a .1)))
+      or-r (eqb (q .kind) 0) _
+      (and-i (eqb (q .kind) kind) (eqb (q .tag) tag) (eq-eqb (q .kind) kind (a .0)) (eq-eqb (q .tag) tag (a .1)))
 
 pub allowed-iff : (y : Machine) (call : Call) (n k : ℕ) → (may-start y call n k ≡ true) ↔ Allowed y call n k
 unfolding may-start

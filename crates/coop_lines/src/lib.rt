@@ -46,8 +46,8 @@ fn no_op(c: Task, vs: &[u32]) -> bool
 pub fn own_done(s: State, c: Task) -> bool
     ensures { λ r. ⌜ ((vs : List ℕ) → r ≡ own-done (machine-of s vs) c) ⌝ }
 {
-    let o = coop_state::operation(s, c.op);
-    o.done
+    let op = coop_state::operation(s, c.op);
+    op.done
 }
 
 // CAS(&o.op, nil, m): whether o had no operation.

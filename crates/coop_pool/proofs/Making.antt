@@ -76,19 +76,19 @@ module _ (ts : List ℕ) (x : ℕ) (h : length ts ≤ 64) where
   unfolding removed bucket-of
   removed-words = ap removing (tags-of-bucket 1 ts)
 
-module _ (o : Operation) (ts : List ℕ) (h : length ts ≤ 64) (u : ascending ts ≡ true) where
+module _ (q : Operation) (ts : List ℕ) (h : length ts ≤ 64) (u : ascending ts ≡ true) where
   abbrev by : Bucket → Changed
-  by p = if eqb (o .kind) 1 then added p (o .tag) else removed p (o .tag)
+  by p = if eqb (q .kind) 1 then added p (q .tag) else removed p (q .tag)
 
-  at-words : made-from (by (record { words = bucket-of 1 ts })) ≡ made o ts
+  at-words : made-from (by (record { words = bucket-of 1 ts })) ≡ made q ts
   unfolding made applied
-  at-words = go (eqb (o .kind) 1)
+  at-words = go (eqb (q .kind) 1)
     where
       go : (b : Bool)
-          → made-from (if b then added (record { words = bucket-of 1 ts }) (o .tag) else removed (record { words = bucket-of 1 ts }) (o .tag))
-          ≡ leaving ts (if b then add-tag (o .tag) ts else remove-tag (o .tag) ts)
-      go true = ap made-from (added-words ts (o .tag) h) ∙ adds ts (o .tag) h (found (o .tag) ts) (leb 64 (length ts)) refl refl
-      go false = ap made-from (removed-words ts (o .tag) h) ∙ removes ts (o .tag) h (found (o .tag) ts) refl u
+          → made-from (if b then added (record { words = bucket-of 1 ts }) (q .tag) else removed (record { words = bucket-of 1 ts }) (q .tag))
+          ≡ leaving ts (if b then add-tag (q .tag) ts else remove-tag (q .tag) ts)
+      go true = ap made-from (added-words ts (q .tag) h) ∙ adds ts (q .tag) h (found (q .tag) ts) (leb 64 (length ts)) refl refl
+      go false = ap made-from (removed-words ts (q .tag) h) ∙ removes ts (q .tag) h (found (q .tag) ts) refl u
 
-  pub makes : (p : Bucket) → p .words ≡ bucket-of 1 ts → made-from (by p) ≡ made o ts
+  pub makes : (p : Bucket) → p .words ≡ bucket-of 1 ts → made-from (by p) ≡ made q ts
   makes p e = ap (λ (w : List ℕ). made-from (by (record { words = w }))) e ∙ at-words

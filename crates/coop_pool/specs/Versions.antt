@@ -32,4 +32,4 @@ abbrev pub version-of : Bool → List ℕ → Made
 version-of full ts = record { full = full; version = record { words = bucket-of 0 ts } }
 
 unfoldable pub made : Operation → List ℕ → Made
-made o ts = if ltb 64 (length (applied o ts)) then version-of true ts else version-of false (applied o ts)
+made q ts = if ltb 64 (length (applied q ts)) then version-of true ts else version-of false (applied q ts)

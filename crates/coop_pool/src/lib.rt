@@ -54,12 +54,12 @@ pub fn has(vs: &[u32], k: u32, tag: u32) -> bool
 }
 
 // What an operation responds to version k's set: lines 132 to 137.
-pub fn responds(o: Operation, vs: &[u32], k: u32) -> bool
+pub fn responds(op: Operation, vs: &[u32], k: u32) -> bool
     requires { ⌜ Tagged (now vs) k ⌝ }
-    ensures { λ r. ⌜ r ≡ response o (tags (now (vs .entry)) k) ⌝ }
+    ensures { λ r. ⌜ r ≡ response op (tags (now (vs .entry)) k) ⌝ }
 {
-    let h = has(vs, k, o.tag);
-    if o.kind == 1 {
+    let h = has(vs, k, op.tag);
+    if op.kind == coop_state::INVOKE_INSERT {
         return !h;
     }
     h
@@ -84,24 +84,25 @@ fn full(a: Response) -> bool
     }
 }
 
-fn changed_by(o: Operation, b: Bucket) -> Changed
-    ensures { λ r. ⌜ r ≡ (if eqb (o .kind) 1 then added b (o .tag) else removed b (o .tag)) ⌝ }
+fn changed_by(op: Operation, b: Bucket) -> Changed
+    ensures { λ r. ⌜ r ≡ (if eqb (op .kind) 1 then added b (op .tag) else removed b (op .tag)) ⌝ }
 {
-    if o.kind == 1 {
-        return b.add(o.tag);
+    if op.kind == coop_state::INVOKE_INSERT {
+        return b.add(op.tag);
     }
-    b.remove(o.tag)
+    b.remove(op.tag)
 }
 
-fn made_by(o: Operation, b: Bucket) -> Made
+fn made_by(op: Operation, b: Bucket) -> Made
     requires { ⌜ (length (tags-in (b .words)) ≤ 64) × (ascending (tags-in (b .words)) ≡ true) ⌝ }
-    ensures { λ r. ⌜ r ≡ made o (tags-in (b .words)) ⌝ }
+    ensures { λ r. ⌜ r ≡ made op (tags-in (b .words)) ⌝ }
 {
     let p = bucket::opened(b);
-    let d = changed_by(o, p);
+    let d = changed_by(op, p);
     let a = d.answer;
     let n = d.bucket;
     let f = full(a);
+    // a first word of 0: frozen for a bucket, for a version that no operation is being applied to it
     let v = n.freeze();
     Made {
         full: f,
@@ -110,12 +111,12 @@ fn made_by(o: Operation, b: Bucket) -> Made
 }
 
 // The version that an operation makes of version k.
-pub fn made_of(o: Operation, vs: &[u32], k: u32) -> Made
+pub fn made_of(op: Operation, vs: &[u32], k: u32) -> Made
     requires { ⌜ Tagged (now vs) k ⌝ }
-    ensures { λ r. ⌜ r ≡ made o (tags (now (vs .entry)) k) ⌝ }
+    ensures { λ r. ⌜ r ≡ made op (tags (now (vs .entry)) k) ⌝ }
 {
     let b = pool::buckets::load(vs, k as usize);
-    made_by(o, b)
+    made_by(op, b)
 }
 
 // Version k gets these words, and the bucket has it.

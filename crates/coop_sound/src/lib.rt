@@ -32,14 +32,14 @@ fn numbers_ok(s: State, vs: &[u32]) -> bool
 
 // ---- operations
 
-fn operation_ok(o: Operation) -> bool
-    ensures { λ r. ⌜ r ≡ sound-operation o ⌝ }
+fn operation_ok(op: Operation) -> bool
+    ensures { λ r. ⌜ r ≡ sound-operation op ⌝ }
 {
-    let known = o.kind <= 2;
-    let never = o.kind == 0;
-    let z = o.tag == 0;
-    let zeros = z & !o.resp & !o.done & !o.returned;
-    known & (!never | zeros) & (!o.returned | o.done)
+    let known = op.kind <= coop_state::INVOKE_REMOVE;
+    let never = op.kind == 0;
+    let z = op.tag == 0;
+    let zeros = z & !op.resp & !op.done & !op.returned;
+    known & (!never | zeros) & (!op.returned | op.done)
 }
 
 fn operations_ok(s: State) -> bool
@@ -48,8 +48,8 @@ fn operations_ok(s: State) -> bool
     let ops = s.operation;
     let mut k: usize = 0;
     while k < 64 {
-        let o = ops[k];
-        if !operation_ok(o) {
+        let op = ops[k];
+        if !operation_ok(op) {
             return false;
         }
         k += 1;
@@ -65,8 +65,8 @@ fn kinds_of(s: State) -> [u32; 64]
     let mut kinds = [0u32; 64];
     let mut k: usize = 0;
     while k < 64 {
-        let o = ops[k];
-        kinds[k] = o.kind;
+        let op = ops[k];
+        kinds[k] = op.kind;
         k += 1;
     }
     kinds
@@ -123,10 +123,10 @@ fn versions_ok(kinds: &[u32], vs: &[u32], n: usize) -> bool
 fn line_ok(call: u32, line: u32) -> bool
     ensures { λ r. ⌜ r ≡ member line (lines-of call) ⌝ }
 {
-    if call < 1 {
+    if call < coop_state::INVOKE_INSERT {
         return false;
     }
-    if call < 3 {
+    if call <= coop_state::INVOKE_REMOVE {
         let w: [u32; 17] = [
             95,
             96,
@@ -148,15 +148,15 @@ fn line_ok(call: u32, line: u32) -> bool
         ];
         return sound_records::among(line, &w);
     }
-    if call < 4 {
+    if call <= coop_state::FREEZE {
         let w: [u32; 11] = [109, 120, 121, 122, 123, 127, 129, 130, 138, 139, 140];
         return sound_records::among(line, &w);
     }
-    if call < 5 {
+    if call <= coop_state::HAS_MEMBER {
         let w: [u32; 2] = [112, 113];
         return sound_records::among(line, &w);
     }
-    if call < 6 {
+    if call <= coop_state::GET_RESPONSE {
         return line == 117;
     }
     false
@@ -182,12 +182,12 @@ fn op_ok(s: State, c: Task) -> bool
     if 64 <= c.op {
         return false;
     }
-    let o = coop_state::operation(s, c.op);
+    let op = coop_state::operation(s, c.op);
     if coop_state::is_invoke(c.call) {
-        return o.kind == c.call;
+        return op.kind == c.call;
     }
-    if c.call == 5 {
-        return o.returned;
+    if c.call == coop_state::GET_RESPONSE {
+        return op.returned;
     }
     c.op == 0
 }
@@ -207,12 +207,12 @@ fn running_ok(s: State, kinds: &[u32], k: u32, c: Task) -> bool
     let t = k < s.tasks;
     let l = line_ok(c.call, c.line);
     let b = back_ok(c);
-    let o = op_ok(s, c);
-    let m = c.call == 4;
+    let p = op_ok(s, c);
+    let m = c.call == coop_state::HAS_MEMBER;
     let z = c.tag == 0;
     let v = c.o <= s.versions;
     let h = helped_ok(kinds, c);
-    t & l & b & o & (m | z) & v & h
+    t & l & b & p & (m | z) & v & h
 }
 
 fn idle_ok(c: Task) -> bool

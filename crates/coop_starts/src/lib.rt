@@ -19,11 +19,11 @@ ghost use Rattle.coop_starts.specs.Starts.{start-of-task};
 fn fits_type(s: State, n: u32, kind: u32, tag: u32) -> bool
     ensures { λ r. ⌜ ((vs : List ℕ) → r ≡ (ltb n 64 && fits-type (operation-of (machine-of s vs) n) kind tag)) ⌝ }
 {
-    let o = coop_state::operation(s, n);
+    let op = coop_state::operation(s, n);
     let low = n < 64;
-    let never = o.kind == 0;
-    let same_kind = o.kind == kind;
-    let same_tag = o.tag == tag;
+    let never = op.kind == 0;
+    let same_kind = op.kind == kind;
+    let same_tag = op.tag == tag;
     low & (never | (same_kind & same_tag))
 }
 
@@ -31,14 +31,14 @@ fn may_start(s: State, call: Call, n: u32, tag: u32) -> bool
     ensures { λ r. ⌜ ((vs : List ℕ) → r ≡ may-start (machine-of s vs) call n tag) ⌝ }
 {
     match call {
-        Call::InvokeInsert => fits_type(s, n, 1, tag),
-        Call::InvokeRemove => fits_type(s, n, 2, tag),
+        Call::InvokeInsert => fits_type(s, n, coop_state::INVOKE_INSERT, tag),
+        Call::InvokeRemove => fits_type(s, n, coop_state::INVOKE_REMOVE, tag),
         Call::Freeze => true,
         Call::HasMember => true,
         Call::GetResponse => {
-            let o = coop_state::operation(s, n);
+            let op = coop_state::operation(s, n);
             let low = n < 64;
-            low & o.returned
+            low & op.returned
         }
     }
 }
@@ -48,11 +48,11 @@ fn begun(call: Call, n: u32, tag: u32) -> Task
     ensures { λ r. ⌜ r ≡ started call n tag ⌝ }
 {
     match call {
-        Call::InvokeInsert => coop_state::fresh_task(1, n, 0, 95),
-        Call::InvokeRemove => coop_state::fresh_task(2, n, 0, 95),
-        Call::Freeze => coop_state::fresh_task(3, 0, 0, 109),
-        Call::HasMember => coop_state::fresh_task(4, 0, tag, 112),
-        Call::GetResponse => coop_state::fresh_task(5, n, 0, 117),
+        Call::InvokeInsert => coop_state::fresh_task(coop_state::INVOKE_INSERT, n, 0, 95),
+        Call::InvokeRemove => coop_state::fresh_task(coop_state::INVOKE_REMOVE, n, 0, 95),
+        Call::Freeze => coop_state::fresh_task(coop_state::FREEZE, 0, 0, 109),
+        Call::HasMember => coop_state::fresh_task(coop_state::HAS_MEMBER, 0, tag, 112),
+        Call::GetResponse => coop_state::fresh_task(coop_state::GET_RESPONSE, n, 0, 117),
     }
 }
 
@@ -61,8 +61,8 @@ fn fixed(s: State, call: Call, n: u32, tag: u32) -> State
     ensures { λ r. ⌜ ((vs : List ℕ) → machine-of r vs ≡ fixing (machine-of s vs) call n tag) ⌝ }
 {
     match call {
-        Call::InvokeInsert => coop_state::set_type(s, n, 1, tag),
-        Call::InvokeRemove => coop_state::set_type(s, n, 2, tag),
+        Call::InvokeInsert => coop_state::set_type(s, n, coop_state::INVOKE_INSERT, tag),
+        Call::InvokeRemove => coop_state::set_type(s, n, coop_state::INVOKE_REMOVE, tag),
         Call::Freeze => s,
         Call::HasMember => s,
         Call::GetResponse => s,

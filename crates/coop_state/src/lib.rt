@@ -37,19 +37,19 @@ pub fn operation(s: State, n: u32) -> Operation
         return never();
     }
     let i = n as usize;
-    let o = s.operation[i];
-    o
+    let op = s.operation[i];
+    op
 }
 
-fn with_operation(s: State, n: u32, o: Operation) -> State
-    ensures { λ r. ⌜ ((vs : List ℕ) → machine-of r vs ≡ set-operation n o (machine-of s vs)) ⌝ }
+fn with_operation(s: State, n: u32, op: Operation) -> State
+    ensures { λ r. ⌜ ((vs : List ℕ) → machine-of r vs ≡ set-operation n op (machine-of s vs)) ⌝ }
 {
     if OPERATIONS <= n {
         return s;
     }
     let i = n as usize;
     let mut t = s;
-    t.operation[i] = o;
+    t.operation[i] = op;
     t
 }
 
@@ -57,39 +57,50 @@ fn with_operation(s: State, n: u32, o: Operation) -> State
 pub fn set_type(s: State, n: u32, kind: u32, tag: u32) -> State
     ensures { λ r. ⌜ ((vs : List ℕ) → machine-of r vs ≡ set-operation n (with-type kind tag (operation-of (machine-of s vs) n)) (machine-of s vs)) ⌝ }
 {
-    let mut o = operation(s, n);
-    o.kind = kind;
-    o.tag = tag;
-    with_operation(s, n, o)
+    let mut op = operation(s, n);
+    op.kind = kind;
+    op.tag = tag;
+    with_operation(s, n, op)
 }
 
 pub fn set_resp(s: State, n: u32, b: bool) -> State
     ensures { λ r. ⌜ ((vs : List ℕ) → machine-of r vs ≡ apply (set-resp n b) (machine-of s vs)) ⌝ }
 {
-    let mut o = operation(s, n);
-    o.resp = b;
-    with_operation(s, n, o)
+    let mut op = operation(s, n);
+    op.resp = b;
+    with_operation(s, n, op)
 }
 
 pub fn set_done(s: State, n: u32) -> State
     ensures { λ r. ⌜ ((vs : List ℕ) → machine-of r vs ≡ apply (set-done n) (machine-of s vs)) ⌝ }
 {
-    let mut o = operation(s, n);
-    o.done = true;
-    with_operation(s, n, o)
+    let mut op = operation(s, n);
+    op.done = true;
+    with_operation(s, n, op)
 }
 
 pub fn set_returned(s: State, n: u32) -> State
     ensures { λ r. ⌜ ((vs : List ℕ) → machine-of r vs ≡ apply (set-returned n) (machine-of s vs)) ⌝ }
 {
-    let mut o = operation(s, n);
-    o.returned = true;
-    with_operation(s, n, o)
+    let mut op = operation(s, n);
+    op.returned = true;
+    with_operation(s, n, op)
 }
 
 // ---- a task's record
 
 const TASKS: u32 = 8;
+
+// The numbers of the calls in a task's record (`call-number`). Those of the two invokes are the kinds of their operations too.
+pub const INVOKE_INSERT: u32 = 1;
+
+pub const INVOKE_REMOVE: u32 = 2;
+
+pub const FREEZE: u32 = 3;
+
+pub const HAS_MEMBER: u32 = 4;
+
+pub const GET_RESPONSE: u32 = 5;
 
 // A task that runs nothing.
 pub fn idle() -> Task
@@ -129,8 +140,8 @@ pub fn fresh_task(call: u32, op: u32, tag: u32, line: u32) -> Task
 pub fn is_invoke(call: u32) -> bool
     ensures { λ r. ⌜ r ≡ invokes call ⌝ }
 {
-    let inserts = call == 1;
-    let removes = call == 2;
+    let inserts = call == INVOKE_INSERT;
+    let removes = call == INVOKE_REMOVE;
     inserts | removes
 }
 
@@ -163,7 +174,7 @@ pub fn with_task(s: State, k: u32, c: Task) -> State
 pub fn fresh_state(t: u32, v: u32) -> State
     ensures { λ r. ⌜ r ≡ state-of t v ⌝ }
 {
-    let o = never();
+    let op = never();
     let c = idle();
     State {
         tasks: t,
@@ -171,7 +182,7 @@ pub fn fresh_state(t: u32, v: u32) -> State
         node: 0,
         last: 0,
         flag: false,
-        operation: [o; 64],
+        operation: [op; 64],
         task: [c; 8],
     }
 }

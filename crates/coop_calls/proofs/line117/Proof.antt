@@ -30,7 +30,7 @@ returns c =
     let a = start .args in
     λ vs.
     let y = machine-of (a .s) vs in
-    let r = at-yes-no .yes-no .ensures ∙ ap (λ (o : Operation). yes-no (o .resp)) (at-operation .operation .ensures vs) in
+    let r = at-yes-no .yes-no .ensures ∙ ap (λ (q : Operation). yes-no (q .resp)) (at-operation .operation .ensures vs) in
     c .end .ensures vs ∙ ap (λ (x : Answer). accept y (a .k) (a .c .own) (answers x)) r ∙ sym (plain (machine-of (a .s) vs) (a .k) (a .c) 117 (start .pre) refl)
 
 pub line117-spec : {M : Type 1} → statement M

@@ -26,7 +26,7 @@ returns c =
     let start = at-opened .before in
     let a = start .args in
     let ts = tags-in (a .b .words) in
-    let m = makes (a .o) ts (start .pre .0) (start .pre .1) (at-opened .opened .result) (at-opened .opened .ensures) in
+    let m = makes (a .op) ts (start .pre .0) (start .pre .1) (at-opened .opened .result) (at-opened .opened .ensures) in
     rw (at-full .full .ensures, c .freeze .ensures) (ap made-from (at-changed-by .changed-by .ensures) ∙ m)
 
 pub made-by-spec : {M : Type 1} → statement M

@@ -36,7 +36,7 @@ returns c =
     let a = start .args in
     let v = start .pre in
     let same = ap (λ (b : Bucket). tags-in (b .words)) (at-load .load .ensures) ∙ tags-at (now (a .vs)) (a .k) (v .few) (v .fits) in
-    c .made-by .ensures ∙ ap (made (a .o)) same
+    c .made-by .ensures ∙ ap (made (a .op)) same
 
 pub made-of-spec : {M : Type 1} → statement M
 made-of-spec = tie.close (tie.spec load-requires made-by-requires returns)

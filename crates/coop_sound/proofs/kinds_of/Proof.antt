@@ -38,11 +38,11 @@ stored kinds ops k v e h before n below = go (ℕ-discrete n k)
 loop-holds : tie.Need-loop-holds Inv-loop μ-loop
 loop-holds c = (omega arith, refl, λ n h. absurd (omega arith))
 
-mul-o : tie.Need-mul-o Inv-loop μ-loop
-mul-o c = search needs
+mul-op : tie.Need-mul-op Inv-loop μ-loop
+mul-op c = search needs
 
-array-copy-out-o : tie.Need-array-copy-out-o Inv-loop μ-loop
-array-copy-out-o c = search needs
+array-copy-out-op : tie.Need-array-copy-out-op Inv-loop μ-loop
+array-copy-out-op c = search needs
 
 mul-kinds : tie.Need-mul-kinds Inv-loop μ-loop
 mul-kinds c = search needs
@@ -63,7 +63,7 @@ loop-again c =
     let l = at-loop .loop in
     let ops = start .args .s .operation in
     let in-ops : l .k < length ops = omega (arith, len start) in
-    let read = ap (λ (o : Operation). o .kind) (same-default ops (l .k) _ never-invoked in-ops) in
+    let read = ap (λ (q : Operation). q .kind) (same-default ops (l .k) _ never-invoked in-ops) in
     (omega arith, length-set (l .kinds) (l .k) _ ∙ l .inv .1, λ n h. stored (l .kinds) ops (l .k) _ read (omega arith) (l .inv .2) n (omega arith))
 
 returns : tie.Need-returns Inv-loop μ-loop
@@ -81,8 +81,8 @@ kinds-of-spec =
     Inv-loop
     μ-loop
     loop-holds
-    mul-o
-    array-copy-out-o
+    mul-op
+    array-copy-out-op
     mul-kinds
     array-write-kinds
     add-k

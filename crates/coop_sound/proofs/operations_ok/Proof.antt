@@ -24,11 +24,11 @@ len c = search (needs, length-mapped)
 loop-holds : tie.Need-loop-holds Inv-loop μ-loop
 loop-holds c = (omega arith, refl)
 
-mul-o : tie.Need-mul-o Inv-loop μ-loop
-mul-o c = search needs
+mul-op : tie.Need-mul-op Inv-loop μ-loop
+mul-op c = search needs
 
-array-copy-out-o : tie.Need-array-copy-out-o Inv-loop μ-loop
-array-copy-out-o c = search needs
+array-copy-out-op : tie.Need-array-copy-out-op Inv-loop μ-loop
+array-copy-out-op c = search needs
 
 operation-ok-requires : tie.Need-operation-ok-requires Inv-loop μ-loop
 operation-ok-requires c κs = search needs
@@ -68,8 +68,8 @@ operations-ok-spec =
     Inv-loop
     μ-loop
     loop-holds
-    mul-o
-    array-copy-out-o
+    mul-op
+    array-copy-out-op
     operation-ok-requires
     returns
     add-k

@@ -23,11 +23,11 @@ returns c =
     let a = start .args in
     λ vs. c .never .ensures ∙ sym (List·getD-eq-default (a .t1 .operation) never-invoked (omega (arith, len start)))
 
-mul-o : tie.Need-mul-o
-mul-o c = search needs
+mul-op : tie.Need-mul-op
+mul-op c = search needs
 
-element-copy-out-o : tie.Need-element-copy-out-o
-element-copy-out-o c = search (needs, length-mapped)
+element-copy-out-op : tie.Need-element-copy-out-op
+element-copy-out-op c = search (needs, length-mapped)
 
 returns-2 : tie.Need-returns-2
 unfolding operation-of
@@ -38,4 +38,4 @@ returns-2 c =
 
 pub operation-spec : {M : Type 1} → statement M
 operation-spec =
-    tie.close (tie.spec never-requires returns mul-o element-copy-out-o returns-2)
+    tie.close (tie.spec never-requires returns mul-op element-copy-out-op returns-2)

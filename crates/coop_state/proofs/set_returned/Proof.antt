@@ -19,7 +19,7 @@ returns c =
     let at-operation = c .before in
     let a = at-operation .before .args in
     λ vs. c .with-operation .ensures vs
-    ∙ ap (λ (o : Operation). set-operation (a .n) (as-returned o) (machine-of (a .s) vs)) (at-operation .operation .ensures vs)
+    ∙ ap (λ (q : Operation). set-operation (a .n) (as-returned q) (machine-of (a .s) vs)) (at-operation .operation .ensures vs)
 
 pub set-returned-spec : {M : Type 1} → statement M
 set-returned-spec = tie.close (tie.spec operation-requires with-operation-requires returns)

@@ -18,7 +18,7 @@ returns c =
     let at-operation = c .before in
     let a = at-operation .before .args in
     λ vs. c .with-operation .ensures vs
-    ∙ ap (λ (o : Operation). set-operation (a .n) (with-type (a .kind) (a .tag) o) (machine-of (a .s) vs)) (at-operation .operation .ensures vs)
+    ∙ ap (λ (q : Operation). set-operation (a .n) (with-type (a .kind) (a .tag) q) (machine-of (a .s) vs)) (at-operation .operation .ensures vs)
 
 pub set-type-spec : {M : Type 1} → statement M
 set-type-spec = tie.close (tie.spec operation-requires with-operation-requires returns)

@@ -75,7 +75,7 @@ returns-2 c =
     let ts = old-set y (a .c) in
     let helped = at-operation .operation .ensures vs ∙ ap (operation-of y) (at-helped .number-of2 .ensures) in
     let of-o = at-responds .responds .ensures ∙ ap (λ (j : ℕ). response (at-operation .operation .result) (tags-of y j)) (at-o .number-of .ensures) in
-    let responds = of-o ∙ ap (λ (o : Operation). response o ts) helped in
+    let responds = of-o ∙ ap (λ (q : Operation). response q ts) helped in
     let stored = at-set-resp .set-resp .ensures vs
     ∙ ap (λ (i : ℕ). apply (set-resp i (at-responds .responds .result)) y) (at-helped .number-of2 .ensures)
     ∙ ap (λ (b : Bool). apply (set-resp n b) y) responds in

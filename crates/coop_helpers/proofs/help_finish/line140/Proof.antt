@@ -63,7 +63,7 @@ makes p =
     let vs = y .versions in
     let operation = at-operation .operation .ensures vs ∙ ap (operation-of y) (at-helped .number-of2 .ensures) in
     p .made-of .ensures ∙ ap (λ (j : ℕ). made (at-operation .operation .result) (tags vs j)) (at-o .number-of .ensures)
-    ∙ ap (λ (o : Operation). made o (set-of p)) operation
+    ∙ ap (λ (q : Operation). made q (set-of p)) operation
 
 both-filled-requires : tie.Need-both-filled-requires
 both-filled-requires c κs = search needs

@@ -1,0 +1,5 @@
+pub mod Answers
+pub mod Calls
+pub mod Unchanged
+pub mod Fits
+pub mod Schedules

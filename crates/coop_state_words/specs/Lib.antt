@@ -1,0 +1,4 @@
+pub mod StateWords
+pub mod WordRows
+pub mod RoundTrip
+pub mod EntriesStore
