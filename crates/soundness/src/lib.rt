@@ -19,7 +19,7 @@ pub struct Checked {
 }
 
 // Memory is not sound.
-fn unsound() -> Checked
+pub fn unsound() -> Checked
     ensures { λ r. ⌜ ((c : Task) → r ≡ told false c) ⌝ }
 {
     let c = state::idle();
@@ -102,7 +102,7 @@ fn running_ok(c: Task, k: u32, t: u32, ns: &[u32], h: u32, b: u32) -> bool
     sound_records::all_within(&w, b)
 }
 
-fn task_ok(c: Task, k: u32, t: u32, ns: &[u32], h: u32, b: u32) -> bool
+pub fn task_ok(c: Task, k: u32, t: u32, ns: &[u32], h: u32, b: u32) -> bool
     ensures { λ r. ⌜ ((y : Machine) → y .nodes ≡ now (ns .entry) → y .state .config .tasks ≡ t → y .state .nodes ≡ h → y .state .buckets ≡ b
         → r ≡ sound-task y k c) ⌝ }
 {

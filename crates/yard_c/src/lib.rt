@@ -57,8 +57,7 @@ fn started(
     if !ok {
         return SPOILT;
     }
-    let s = yard_words::state_of_words(w);
-    let m = hashset::moved_by_start(s, k, call, tag, ns, bs);
+    let m = hashset_words::moved_by_start(w, k, call, tag, ns, bs);
     yard_answers::put_moved(w, k, m);
     let o = m.out;
     yard_answers::put_output(out, o)
@@ -154,15 +153,13 @@ pub extern "C" fn yard_step(
     if !ok {
         return SPOILT;
     }
-    let s = yard_words::state_of_words(w);
-    let m = hashset::moved_by_step(s, k, ns, bs);
+    let m = hashset_words::moved_by_step(w, k, ns, bs);
     yard_answers::put_moved(w, k, m);
     let o = m.out;
     yard_answers::put_output(out, o)
 }
 
-// One turn of the dispatcher, as `turn` of dispatch has it: memory is looked through a second time only after an 8, which is the step's in sound memory
-// and the turn's own in spoilt memory. Only the words that change are written.
+// One turn of the dispatcher, as `turn` of dispatch has it. Only the words that change are written.
 #[no_mangle]
 pub extern "C" fn yard_turn(w: &mut [u32], ns: &mut [u32], bs: &mut [u32], out: &mut [u32]) -> u32
     ensures { λ r. ⌜ called r (now (w .exit)) (now (ns .exit)) (now (bs .exit)) (now (out .exit))
@@ -172,24 +169,23 @@ pub extern "C" fn yard_turn(w: &mut [u32], ns: &mut [u32], bs: &mut [u32], out: 
     if !ok {
         return SPOILT;
     }
-    let s = yard_words::state_of_words(w);
-    let l = dispatch::next_task(s);
-    if l == 0 {
-        if soundness::sound(s, ns, bs) {
-            return 0;
-        }
+    let e = sound_words::check(w, 0, ns, bs);
+    if !e.sound {
         return SPOILT;
     }
+    let s = sound_words::state_of_words(w);
+    let l = dispatch::next_task(s);
+    if l == 0 {
+        return 0;
+    }
     let k = l - 1;
-    let m = hashset::moved_by_step(s, k, ns, bs);
+    let d = sound_words::known(w, k);
+    let m = checked_step::step(s, d, k, ns, bs);
     let o = m.out;
     if dispatch::uses_turn(o) {
         yard_answers::put_turned(w, k, m);
         yard_answers::put_named(out, 0, k, o);
         return 1;
-    }
-    if !soundness::sound(s, ns, bs) {
-        return SPOILT;
     }
     yard_answers::put_named(out, 0, k, o);
     1

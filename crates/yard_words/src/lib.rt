@@ -14,7 +14,7 @@ ghost use Rattle.state_words.specs.Changes.{changed};
 pub const STATE_WORDS: usize = 113;
 
 // The task whose words begin there.
-fn task_at(w: &[u32], at: usize) -> Task
+pub fn task_at(w: &[u32], at: usize) -> Task
     requires { ⌜ at + 13 ≤ length (now w) ⌝ }
     ensures { λ r. ⌜ r ≡ task-at (now (w .entry)) at ⌝ }
 {

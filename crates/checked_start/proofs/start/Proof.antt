@@ -1,92 +1,16 @@
--- `checked_start::start` meets its contract: each return is the case of `start` that its tests lead to. Assumes nothing.
-use mathlib.Core.Path.{refl, sym, _∙_}
+-- `checked_start::start` meets its contract: the state has its own opening and numbers. Assumes nothing.
+use mathlib.Core.Path.{refl}
 use borrow.Author.Needs.{needs}
-use borrow.Author.Tests.{lt-ltb}
-use Rattle.spec.specs.Machine.{with-task, with-state, state-head, state-last-node, state-last-bucket, state-task, set-task, machine-of}
-use Rattle.lines.specs.Reply.{changes, settled}
-use Rattle.lines.proofs.Giving.{refusing, going}
-use Rattle.checked_start.proofs.Laws.{start-busy, start-withdrawn, start-goes, below-8, tells, runs-as}
 use Rattle.checked_start.proofs.start.Statement.{statement}
 use Rattle.checked_start.proofs.start.Tie as tie
 
-barred-requires : tie.Need-barred-requires
-barred-requires c κs = search needs
-
-refused-requires : tie.Need-refused-requires
-refused-requires c κs = search needs
+start-of-requires : tie.Need-start-of-requires
+start-of-requires c κs = search needs
 
 returns : tie.Need-returns
 returns c =
-    let p = c .before .before in
-    let a = p .before .before .args in
-    λ ns bs e.
-    let y = machine-of (a .s) ns bs in
-    let bars = p .barred .ensures y (tells y (a .k) (a .d) e) refl in
-    refusing _ (c .refused .ensures) (bars .starts (c .before .if1 .taken) (a .call) (a .tag))
-
-refused-requires-2 : tie.Need-refused-requires-2
-refused-requires-2 c κs = search needs
-
-returns-2 : tie.Need-returns-2
-returns-2 c =
-    let at-if1 = c .before .before .before in
-    let p = at-if1 .before in
-    let a = p .before .before .args in
-    λ ns bs e.
-    let y = machine-of (a .s) ns bs in
-    let passed = p .barred .ensures y (tells y (a .k) (a .d) e) refl .passed (at-if1 .if1 .left) in
-    let runs = runs-as y (a .k) (a .d) e (passed .0) (c .before .if2 .taken) in
-    refusing 5 (c .refused2 .ensures) (start-busy y (a .k) (a .call) (a .tag) (passed .0) (passed .1) runs)
-
-withdrawn-requires : tie.Need-withdrawn-requires
-withdrawn-requires c κs = search needs
-
-refused-requires-3 : tie.Need-refused-requires-3
-refused-requires-3 c κs = search needs
-
-returns-3 : tie.Need-returns-3
-returns-3 c =
-    let at-if2 = c .before .before .before in
-    let at-if1 = at-if2 .before .before in
-    let p = at-if1 .before in
-    let a = p .before .before .args in
-    λ ns bs e.
-    let y = machine-of (a .s) ns bs in
-    let passed = p .barred .ensures y (tells y (a .k) (a .d) e) refl .passed (at-if1 .if1 .left) in
-    let rests = runs-as y (a .k) (a .d) e (passed .0) (at-if2 .if2 .left) in
-    let w = sym (c .before .before .withdrawn .ensures) ∙ c .before .if3 .taken in
-    refusing 14 (c .refused3 .ensures) (start-withdrawn y (a .k) (a .call) (a .tag) (passed .0) (passed .1) rests w)
-
-begun-requires : tie.Need-begun-requires
-begun-requires c κs = search needs
-
-returns-4 : tie.Need-returns-4
-unfolding set-task with-task with-state state-head state-last-node state-last-bucket state-task settled changes
-returns-4 c =
-    let at-if2 = c .before .before .before in
-    let at-if1 = at-if2 .before .before in
-    let p = at-if1 .before in
-    let a = p .before .before .args in
-    λ ns bs e.
-    let y = machine-of (a .s) ns bs in
-    let passed = p .barred .ensures y (tells y (a .k) (a .d) e) refl .passed (at-if1 .if1 .left) in
-    let rests = runs-as y (a .k) (a .d) e (passed .0) (at-if2 .if2 .left) in
-    let low = lt-ltb _ _ (below-8 y _ passed) in
-    let w = sym (c .before .before .withdrawn .ensures) ∙ c .before .if3 .left in
-    let goes = start-goes y (a .k) (a .call) (a .tag) (passed .0) (passed .1) rests w in
-    going low (rw (c .begun .ensures, low) (sym goes))
+    let a = c .before .before .args in
+    λ ns bs e. c .start-of .ensures (a .s) ns bs refl refl refl refl e
 
 pub start-spec : {M : Type 1} → statement M
-start-spec =
-    tie.close
-    (tie.spec
-    barred-requires
-    refused-requires
-    returns
-    refused-requires-2
-    returns-2
-    withdrawn-requires
-    refused-requires-3
-    returns-3
-    begun-requires
-    returns-4)
+start-spec = tie.close (tie.spec start-of-requires returns)

@@ -1,19 +1,26 @@
 -- `yard_step` meets its contract: a step of the machine that the words are. Assumes nothing.
 use Prim.Native.Nat.{ℕ, _≤_}
-use mathlib.Core.Path.{sym, ap, subst, _∙_}
+use mathlib.Core.Path.{refl, sym, ap, subst, _∙_}
 use denote.Ref.{now}
 use borrow.Author.Tests.{not-true, not-false}
 use Rattle.spec.specs.declared.State.{State}
 use Rattle.spec.specs.Machine.{machine-of}
 use Rattle.spec.specs.Entries.{Reply, step}
-use Rattle.state_words.specs.RoundTrip.{fits-long}
 use Rattle.yard_answers.specs.Answers.{out-number}
-use Rattle.state_words.specs.StateWords.{state-fits}
-use Rattle.yard_answers.specs.CallLaws.{ready, tested}
+use Rattle.state_words.specs.StateWords.{state-of-words, state-fits}
+use Rattle.yard_answers.specs.CallLaws.{Ready, ready, tested}
 use Rattle.yard_c.proofs.Laws.{step-small, moved-called, step-called, step-spoilt}
 use borrow.Author.Needs.{needs}
 use Rattle.yard_c.proofs.yard_step.Statement.{statement}
 use Rattle.yard_c.proofs.yard_step.Tie as tie
+
+-- past the first test: the words are such that a call may go by
+module _ (p : tie.Else1) where
+  abbrev entry : tie.Start
+  entry = p .before .before .before .before .before .before .before
+
+  ready-now : Ready state-fits (now (entry .args .w)) (now (entry .args .out)) 4
+  ready-now = ready state-fits (now (entry .args .w)) (now (entry .args .out)) 4 _ (p .before .state-fits .ensures) (not-false _ (p .if1 .left))
 
 state-fits-requires : tie.Need-state-fits-requires
 state-fits-requires c κs = search needs
@@ -24,91 +31,56 @@ same-length c = search needs
 returns : tie.Need-returns
 returns c =
     let at-fits = c .before in
-    let entry = at-fits .before .before .before .before .before .before in
-    let a = entry .args in
+    let a = at-fits .before .before .before .before .before .before .args in
     let w = now (a .w) in
     let out = now (a .out) in
-    let ns = now (a .ns) in
-    let bs = now (a .bs) in
-    step-spoilt w out ns bs (a .k) (tested state-fits w out 4 _ (at-fits .state-fits .ensures) (not-true _ (c .if1 .taken)))
-
-state-of-words-requires : tie.Need-state-of-words-requires
-state-of-words-requires c κs =
-    let at-if = c .before in
-    let at-fits = at-if .before in
-    let entry = at-fits .before .before .before .before .before .before in
-    let ready-now = ready state-fits (now (entry .args .w)) (now (entry .args .out)) 4 _ (at-fits .state-fits .ensures) (not-false _ (at-if .if1 .left)) in
-    fits-long _ (ready-now .is-state)
+    step-spoilt w out (now (a .ns)) (now (a .bs)) (a .k) (tested state-fits w out 4 _ (at-fits .state-fits .ensures) (not-true _ (c .if1 .taken)))
 
 moved-by-step-requires : tie.Need-moved-by-step-requires
-moved-by-step-requires c κs = search needs
+moved-by-step-requires c κs = ready-now (c .before .before .before) .is-state
 
 put-moved-requires : tie.Need-put-moved-requires
 put-moved-requires c κs =
-    let at-if = c .before .before .before .before .before .before .before .before .before .before in
-    let at-fits = at-if .before in
-    let entry = at-fits .before .before .before .before .before .before in
-    let ready-now = ready state-fits (now (entry .args .w)) (now (entry .args .out)) 4 _ (at-fits .state-fits .ensures) (not-false _ (at-if .if1 .left)) in
-    ready-now .is-state
+    let at-moved = c .before .before .before .before .before in
+    ready-now (at-moved .before .before .before .before) .is-state
 
 put-output-requires : tie.Need-put-output-requires
 put-output-requires c κs =
     let at-moved = c .before .before .before .before .before .before .before .before .before in
-    let at-state = at-moved .before .before .before in
-    let at-if = at-state .before .before in
-    let at-fits = at-if .before in
-    let entry = at-fits .before .before .before .before .before .before in
-    let ready-now = ready state-fits (now (entry .args .w)) (now (entry .args .out)) 4 _ (at-fits .state-fits .ensures) (not-false _ (at-if .if1 .left)) in
-    let a = entry .args in
-    let ns = now (a .ns) in
-    let bs = now (a .bs) in
-    let s = at-state .state-of-words .result in
-    let m = at-moved .moved-by-step in
-    let small = step-small (machine-of s ns bs) (a .k) in
-    let same = ap (λ (x : Reply). out-number (x .out)) (m .ensures .reply) in
-    (ready-now .room, subst (λ (n : ℕ). n ≤ 511) (sym same) small)
+    let past = at-moved .before .before .before .before in
+    let a = entry past .args in
+    let small = step-small (machine-of (state-of-words (now (a .w))) (now (a .ns)) (now (a .bs))) (a .k) in
+    let same = ap (λ (x : Reply). out-number (x .out)) (at-moved .moved-by-step .ensures .reply) in
+    (ready-now past .room, subst (λ (n : ℕ). n ≤ 511) (sym same) small)
 
 same-length-2 : tie.Need-same-length-2
-same-length-2 c =
-    let at-put = c .before .before .before .before .before .before in
-    at-put .put-moved .kept .0
+same-length-2 c = search needs
 
 same-length-3 : tie.Need-same-length-3
-same-length-3 c =
-    let at-moved = c .before .before .before .before .before .before .before .before .before .before .before .before in
-    at-moved .moved-by-step .kept .1 .1 .0
+same-length-3 c = search needs
 
 same-length-4 : tie.Need-same-length-4
-same-length-4 c =
-    let at-moved = c .before .before .before .before .before .before .before .before .before .before .before .before in
-    at-moved .moved-by-step .kept .1 .1 .1 .0
+same-length-4 c = search needs
 
 same-length-5 : tie.Need-same-length-5
-same-length-5 c =
-    let at-output = c .before .before in
-    at-output .put-output .kept .0
+same-length-5 c = search needs
 
 returns-2 : tie.Need-returns-2
 returns-2 c =
     let at-output = c .before .before in
     let at-put = at-output .before .before .before .before in
     let at-moved = at-put .before .before .before .before .before .before in
-    let at-state = at-moved .before .before .before in
-    let at-if = at-state .before .before in
-    let at-fits = at-if .before in
-    let entry = at-fits .before .before .before .before .before .before in
-    let ready-now = ready state-fits (now (entry .args .w)) (now (entry .args .out)) 4 _ (at-fits .state-fits .ensures) (not-false _ (at-if .if1 .left)) in
-    let a = entry .args in
+    let past = at-moved .before .before .before .before in
+    let a = entry past .args in
     let w = now (a .w) in
     let out = now (a .out) in
     let ns = now (a .ns) in
     let bs = now (a .bs) in
     let m = at-moved .moved-by-step in
     let o = at-output .put-output in
-    let s = at-state .state-of-words in
     let x : State → Reply = λ z. step (machine-of z ns bs) (a .k) in
-    let settled = moved-called w out (m .last .1 .1 .0) (m .last .1 .1 .1 .0) (a .k) (m .result) (s .result) (s .ensures) x (m .ensures .reply) in
-    settled _ (o .ensures .0) _ (at-put .put-moved .ensures) _ (o .ensures .1) ∙ step-called w out ns bs (a .k) ready-now
+    let settled = moved-called w out (m .last .1 .1 .0) (m .last .1 .1 .1 .0) (a .k) (m .result) (state-of-words w) refl x (m .ensures .reply) in
+    settled _ (o .ensures .0) _ (at-put .put-moved .ensures) _ (o .ensures .1) ∙ step-called w out ns bs (a .k) (ready-now past)
 
 pub yard-step-spec : {M : Type 1} → statement M
 yard-step-spec =
@@ -117,7 +89,6 @@ yard-step-spec =
     state-fits-requires
     same-length
     returns
-    state-of-words-requires
     moved-by-step-requires
     put-moved-requires
     put-output-requires

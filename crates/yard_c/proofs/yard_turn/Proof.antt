@@ -1,18 +1,22 @@
 -- `yard_turn` meets its contract: a turn of the machine that the words are. Assumes nothing.
 use Prim.Native.Nat.{ℕ, _-_}
-use mathlib.Core.Path.{_≡_, sym, ap, _∙_}
+use mathlib.Core.Path.{_≡_, refl, sym, ap, _∙_}
+use mathlib.Core.Bool.{Bool, true}
 use native.Mathlib.Omega.{arith}
 use denote.Ref.{now}
 use borrow.Author.Tests.{not-true, not-false}
+use Rattle.spec.specs.declared.State.{State}
 use Rattle.spec.specs.Machine.{Machine, machine-of, with-chosen, with-state}
 use Rattle.spec.specs.Sound.{sound}
 use Rattle.spec.specs.Words.{link}
-use Rattle.turns.specs.declared.Turn.the-variants.{Of, Refused}
+use Rattle.turns.specs.declared.Turn.the-variants.{Of}
 use Rattle.turns.specs.Turn.{gives}
+use Rattle.soundness.specs.declared.Checked.{Checked}
+use Rattle.soundness.specs.Told.{told}
 use Rattle.state_words.specs.RoundTrip.{fits-long}
 use Rattle.dispatch.specs.Turned.{next-to-step}
 use Rattle.dispatch.proofs.TurnLaws.{spoilt, nothing-runs, used, unused, unused-kept}
-use Rattle.state_words.specs.StateWords.{state-fits}
+use Rattle.state_words.specs.StateWords.{state-of-words, state-fits}
 use Rattle.yard_answers.specs.CallLaws.{Ready, ready, tested}
 use Rattle.yard_c.proofs.Laws.{turn-spoilt, turn-idle, turn-eight, turn-used, turn-unused}
 use borrow.Author.Needs.{needs}
@@ -29,28 +33,52 @@ module _ (p : tie.Else1) where
   ready-now : Ready state-fits (now (start .args .w)) (now (start .args .out)) 5
   ready-now = ready state-fits (now (start .args .w)) (now (start .args .out)) 5 _ (p .before .state-fits .ensures) (not-false _ (p .if1 .left))
 
--- the machine, and the task that is next
-module _ (p : tie.After-next-task) where
+-- the machine that the words are, and the test of it
+module _ (p : tie.After-check) where
   abbrev past-fits : tie.Else1
-  past-fits = p .before .before .before
+  past-fits = p .before .before .before .before
 
   abbrev begun : tie.Start
   begun = start past-fits
 
+  abbrev machine-in-words : Machine
+  machine-in-words = machine-of (state-of-words (now (begun .args .w))) (now (begun .args .ns)) (now (begun .args .bs))
+
+  checked : {b : Bool} → p .check .result .sound ≡ b → sound machine-in-words ≡ b
+  unfolding told
+  checked e = sym (ap (λ (d : Checked). d .sound) (p .check .ensures)) ∙ e
+
+-- the machine of the state made of them, and the task that is next
+module _ (p : tie.After-next-task) where
+  abbrev at-check : tie.After-check
+  at-check = p .before .before .before .before .before
+
   abbrev machine : Machine
-  machine = machine-of (p .before .state-of-words .result) (now (begun .args .ns)) (now (begun .args .bs))
+  machine = let a = begun at-check .args in machine-of (p .before .state-of-words .result) (now (a .ns)) (now (a .bs))
+
+  words-sound : sound (machine-in-words at-check) ≡ true
+  words-sound = checked at-check (not-false _ (p .before .before .before .if2 .left))
+
+  is-sound : sound machine ≡ true
+  is-sound =
+      let a = begun at-check .args in
+      ap (λ (z : State). sound (machine-of z (now (a .ns)) (now (a .bs)))) (p .before .state-of-words .ensures) ∙ words-sound
 
 -- a task is next: its step
-module _ (p : tie.After-moved-by-step) where
+module _ (p : tie.After-step) where
   abbrev at-next : tie.After-next-task
-  at-next = p .before .before .before .before
+  at-next = p .before .before .before .before .before .before
 
   abbrev task : ℕ
   task = at-next .next-task .result - 1
 
   is-next : next-to-step (machine at-next) ≡ link task
   is-next =
-      let some : at-next .next-task .result ≡ link task = omega (arith, p .before .before .before .if2 .left) in sym (at-next .next-task .ensures _ _) ∙ some
+      let some : at-next .next-task .result ≡ link task = omega (arith, p .before .before .before .before .before .if3 .left) in
+      sym (at-next .next-task .ensures _ _) ∙ some
+
+  abbrev ready-there : Ready state-fits (now (begun (at-check at-next) .args .w)) (now (begun (at-check at-next) .args .out)) 5
+  ready-there = ready-now (past-fits (at-check at-next))
 
 -- ---- the needs
 
@@ -68,14 +96,8 @@ returns c =
     let out = now (a .out) in
     turn-spoilt w out (now (a .ns)) (now (a .bs)) (tested state-fits w out 5 _ (at-fits .state-fits .ensures) (not-true _ (c .if1 .taken)))
 
-state-of-words-requires : tie.Need-state-of-words-requires
-state-of-words-requires c κs = fits-long _ (ready-now (c .before) .is-state)
-
-next-task-requires : tie.Need-next-task-requires
-next-task-requires c κs = search needs
-
-sound-requires : tie.Need-sound-requires
-sound-requires c κs = search needs
+check-requires : tie.Need-check-requires
+check-requires c κs = ready-now (c .before .before .before) .is-state
 
 same-length-2 : tie.Need-same-length-2
 same-length-2 c = search needs
@@ -88,13 +110,19 @@ same-length-4 c = search needs
 
 returns-2 : tie.Need-returns-2
 returns-2 c =
-    let at-sound = c .before in
-    let no-task = at-sound .before .before .before in
-    let p = no-task .before in
+    let p = c .before .before in
     let a = begun p .args in
-    let none = sym (p .next-task .ensures _ _) ∙ no-task .if2 .taken in
-    turn-idle (now (a .w)) (now (a .out)) (now (a .ns)) (now (a .bs)) (ready-now (past-fits p)) _ (p .before .state-of-words .ensures)
-    (nothing-runs (machine p) (sym (at-sound .sound .ensures) ∙ c .if3 .taken) none)
+    let no = checked p (not-true _ (c .if2 .taken)) in
+    turn-eight (now (a .w)) (now (a .out)) (now (a .ns)) (now (a .bs)) (ready-now (past-fits p)) _ refl _ _ (spoilt (machine-in-words p) no)
+
+state-of-words-requires : tie.Need-state-of-words-requires
+state-of-words-requires c κs =
+    let p = c .before .before .before in
+    let a = begun p .args in
+    (fits-long (now (a .w)) (ready-now (past-fits p) .is-state), (now (a .ns), now (a .bs), checked p (not-false _ (c .before .if2 .left))))
+
+next-task-requires : tie.Need-next-task-requires
+next-task-requires c κs = search needs
 
 same-length-5 : tie.Need-same-length-5
 same-length-5 c = search needs
@@ -107,31 +135,34 @@ same-length-7 c = search needs
 
 returns-3 : tie.Need-returns-3
 returns-3 c =
-    let at-sound = c .before in
-    let no-task = at-sound .before .before .before in
-    let p = no-task .before in
-    let a = begun p .args in
-    turn-eight (now (a .w)) (now (a .out)) (now (a .ns)) (now (a .bs)) (ready-now (past-fits p)) _ (p .before .state-of-words .ensures) _ _
-    (spoilt (machine p) (sym (at-sound .sound .ensures) ∙ c .if3 .left))
+    let p = c .before in
+    let a = begun (at-check p) .args in
+    let none = sym (p .next-task .ensures _ _) ∙ c .if3 .taken in
+    turn-idle (now (a .w)) (now (a .out)) (now (a .ns)) (now (a .bs)) (ready-now (past-fits (at-check p))) _ (p .before .state-of-words .ensures)
+    (nothing-runs (machine p) (is-sound p) none)
 
 sub-k : tie.Need-sub-k
 sub-k c = search needs
 
-moved-by-step-requires : tie.Need-moved-by-step-requires
-moved-by-step-requires c κs = search needs
+known-requires : tie.Need-known-requires
+known-requires c κs = let p = at-check (c .before .before) in fits-long (now (begun p .args .w)) (ready-now (past-fits p) .is-state)
+
+step-requires : tie.Need-step-requires
+step-requires c κs =
+    let at-known = c .before .before in
+    let p = at-known .before .before .before in
+    let a = begun (at-check p) .args in
+    rw (p .before .state-of-words .ensures) (at-known .known .ensures (now (a .ns)) (now (a .bs)) (words-sound p))
 
 uses-turn-requires : tie.Need-uses-turn-requires
 uses-turn-requires c κs = search needs
 
 put-turned-requires : tie.Need-put-turned-requires
-put-turned-requires c κs =
-    let at-moved = c .before .before .before .before .before .before .before in
-    ready-now (past-fits (at-next at-moved)) .is-state
+put-turned-requires c κs = ready-there (c .before .before .before .before .before .before .before) .is-state
 
 put-named-requires : tie.Need-put-named-requires
 put-named-requires c κs =
-    let at-moved = c .before .before .before .before .before .before .before .before .before .before .before in
-    let room = ready-now (past-fits (at-next at-moved)) .room in
+    let room = ready-there (c .before .before .before .before .before .before .before .before .before .before .before) .room in
     omega (arith, room)
 
 same-length-8 : tie.Need-same-length-8
@@ -152,17 +183,19 @@ returns-4 c =
     let at-put = c .before .before in
     let at-turned = at-put .before .before .before .before in
     let at-uses = at-turned .before .before .before in
-    let at-moved = at-uses .before .before .before .before .before in
-    let p = at-next at-moved in
-    let a = begun p .args in
-    let m = at-moved .moved-by-step in
-    let gave = used (machine p) (task at-moved) (is-next at-moved) (m .result .out) _ (m .ensures .reply)
+    let at-step = at-uses .before .before .before .before .before in
+    let p = at-next at-step in
+    let a = begun (at-check p) .args in
+    let m = at-step .step in
+    let gave = used (machine p) (task at-step) (is-next at-step) (m .result .out) _ (m .ensures .reply)
     (sym (at-uses .uses-turn .ensures) ∙ at-turned .before .before .if4 .taken) in
-    turn-used (now (a .w)) (now (a .out)) (now (a .ns)) (now (a .bs)) (ready-now (past-fits p)) _ (p .before .state-of-words .ensures)
+    turn-used (now (a .w)) (now (a .out)) (now (a .ns)) (now (a .bs)) (ready-there at-step) _ (p .before .state-of-words .ensures)
     _ _ _ (m .result) gave _ (at-turned .put-turned .ensures) _ (at-put .put-named .ensures)
 
-sound-requires-2 : tie.Need-sound-requires-2
-sound-requires-2 c κs = search needs
+put-named-requires-2 : tie.Need-put-named-requires-2
+put-named-requires-2 c κs =
+    let room = ready-there (c .before .before .before .before .before .before .before) .room in
+    omega (arith, room)
 
 same-length-12 : tie.Need-same-length-12
 same-length-12 c = search needs
@@ -173,58 +206,25 @@ same-length-13 c = search needs
 same-length-14 : tie.Need-same-length-14
 same-length-14 c = search needs
 
-returns-5 : tie.Need-returns-5
-returns-5 c =
-    let at-sound = c .before in
-    let at-else = at-sound .before .before .before in
-    let at-uses = at-else .before in
-    let at-moved = at-uses .before .before .before .before .before in
-    let p = at-next at-moved in
-    let a = begun p .args in
-    let m = at-moved .moved-by-step in
-    let s = p .before .state-of-words .result in
-    let no-turn = sym (at-uses .uses-turn .ensures) ∙ at-else .if4 .left in
-    let kept = unused-kept (machine p) (task at-moved) (is-next at-moved) (m .result .out) _ (m .ensures .reply) no-turn in
-    let same = ap (λ (u : Machine). machine-of s (u .nodes) (u .buckets)) kept in
-    let no = sym (ap sound same) ∙ (sym (at-sound .sound2 .ensures) ∙ not-true _ (c .if5 .taken)) in
-    turn-eight (now (a .w)) (now (a .out)) (now (a .ns)) (now (a .bs)) (ready-now (past-fits p)) _ (p .before .state-of-words .ensures) _ _
-    (ap (gives (Refused 8)) same ∙ spoilt (machine p) no)
-
-put-named-requires-2 : tie.Need-put-named-requires-2
-put-named-requires-2 c κs =
-    let at-moved = c .before .before .before .before .before .before .before .before .before .before .before in
-    let room = ready-now (past-fits (at-next at-moved)) .room in
-    omega (arith, room)
-
 same-length-15 : tie.Need-same-length-15
 same-length-15 c = search needs
 
-same-length-16 : tie.Need-same-length-16
-same-length-16 c = search needs
-
-same-length-17 : tie.Need-same-length-17
-same-length-17 c = search needs
-
-same-length-18 : tie.Need-same-length-18
-same-length-18 c = search needs
-
-returns-6 : tie.Need-returns-6
-returns-6 c =
-    let at-sound = c .before .before .before .before .before in
-    let at-else = at-sound .before .before .before in
+returns-5 : tie.Need-returns-5
+returns-5 c =
+    let at-put = c .before .before in
+    let at-else = at-put .before .before in
     let at-uses = at-else .before in
-    let at-moved = at-uses .before .before .before .before .before in
-    let p = at-next at-moved in
-    let a = begun p .args in
-    let m = at-moved .moved-by-step in
+    let at-step = at-uses .before .before .before .before .before in
+    let p = at-next at-step in
+    let a = begun (at-check p) .args in
+    let m = at-step .step in
     let s = p .before .state-of-words .result in
     let no-turn = sym (at-uses .uses-turn .ensures) ∙ at-else .if4 .left in
-    let kept = unused-kept (machine p) (task at-moved) (is-next at-moved) (m .result .out) _ (m .ensures .reply) no-turn in
+    let kept = unused-kept (machine p) (task at-step) (is-next at-step) (m .result .out) _ (m .ensures .reply) no-turn in
     let same = ap (λ (u : Machine). machine-of s (u .nodes) (u .buckets)) kept in
-    let ok = sym (ap sound same) ∙ (sym (at-sound .sound2 .ensures) ∙ not-false _ (c .before .before .before .before .if5 .left)) in
-    let gave = unused (machine p) (task at-moved) (is-next at-moved) (m .result .out) _ (m .ensures .reply) no-turn ok in
-    turn-unused (now (a .w)) (now (a .out)) (now (a .ns)) (now (a .bs)) (ready-now (past-fits p)) _ (p .before .state-of-words .ensures)
-    _ _ _ (m .result .out) (ap (gives (Of (task at-moved) (m .result .out))) same ∙ gave) _ (c .before .before .put-named2 .ensures)
+    let gave = unused (machine p) (task at-step) (is-next at-step) (m .result .out) _ (m .ensures .reply) no-turn (is-sound p) in
+    turn-unused (now (a .w)) (now (a .out)) (now (a .ns)) (now (a .bs)) (ready-there at-step) _ (p .before .state-of-words .ensures)
+    _ _ _ (m .result .out) (ap (gives (Of (task at-step) (m .result .out))) same ∙ gave) _ (at-put .put-named2 .ensures)
 
 pub yard-turn-spec : {M : Type 1} → statement M
 yard-turn-spec =
@@ -233,19 +233,20 @@ yard-turn-spec =
     state-fits-requires
     same-length
     returns
-    state-of-words-requires
-    next-task-requires
-    sound-requires
+    check-requires
     same-length-2
     same-length-3
     same-length-4
     returns-2
+    state-of-words-requires
+    next-task-requires
     same-length-5
     same-length-6
     same-length-7
     returns-3
     sub-k
-    moved-by-step-requires
+    known-requires
+    step-requires
     uses-turn-requires
     put-turned-requires
     put-named-requires
@@ -254,14 +255,9 @@ yard-turn-spec =
     same-length-10
     same-length-11
     returns-4
-    sound-requires-2
+    put-named-requires-2
     same-length-12
     same-length-13
     same-length-14
-    returns-5
-    put-named-requires-2
     same-length-15
-    same-length-16
-    same-length-17
-    same-length-18
-    returns-6)
+    returns-5)
