@@ -13,8 +13,6 @@ use lib.Seq.{drop-cons}
 use Rattle.session.specs.declared.EventLine.{EventLine}
 use Rattle.session.specs.declared.EventLine.the-variants.{Start, Step, Outside as NoEvent}
 use Rattle.session.specs.Grammar.{starts-with, equals, parse-start}
-use Rattle.notes_text.specs.declared.stream.Reading.{Reading}
-use Rattle.notes_text.specs.Reading.{feed, feeds}
 use Rattle.notes.specs.declared.AnswerWord.{AnswerWord}
 use Rattle.notes.specs.declared.AnswerWord.the-variants.{NoWord}
 use Rattle.notes.specs.declared.NoteLine.{NoteLine}
@@ -60,14 +58,3 @@ module _ (s : List ℕ) (p : ℕ) (e : p ≡ last-comma s) where
       → r ≡ noted b w → r ≡ parse-noted s
   unfolding parse-noted
   at-comma b w r f g q = rw (← e, ← f, ← g) q
-
--- ---- bytes fed one after the other
-
-module _ (r : Reading) (xs : List ℕ) (i : ℕ) where
-  pub feeds-on : i < length xs → feeds r (drop i xs) ≡ feeds (feed r (getD xs i 0)) (drop (i + 1) xs)
-  unfolding feeds
-  feeds-on h = ap (feeds r) (drop-cons xs i 0 h) ∙ ap (λ (n : ℕ). feeds (feed r (getD xs i 0)) (drop n xs)) (sym (add-one i))
-
-  pub feeds-end : length xs ≤ i → feeds r (drop i xs) ≡ r
-  unfolding feeds
-  feeds-end h = rw (drop-of-length-le xs h)

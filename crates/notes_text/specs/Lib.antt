@@ -1,5 +1,4 @@
 pub mod Printing
 pub mod Reading
-pub mod KeptLine
-pub mod Streams
+pub mod Lines
 pub mod OutputBound

@@ -1,4 +1,4 @@
--- What the end of an input of notes prints has at most 744 bytes, twelve lines of at most 62: `end-bound`. Assumes nothing.
+-- What is printed for an input of notes has at most 744 bytes, twelve lines of at most 62: `answer-bound`. Assumes nothing.
 use Prim.Native.Nat.{ℕ, _*_, _≤_}
 use native.Mathlib.Omega.{arith}
 use mathlib.Core.Path.{_≡_, refl}
@@ -6,7 +6,7 @@ use mathlib.Core.Logic.{_⊎_, inl, inr}
 use mathlib.Core.List.{List, [], _∷_}
 use mathlib.Core.Bool.{Bool, true, false, not, _||_}
 use borrow.Author.Tests.{ltb-false}
-use lib.Dec.{eqb, ltb}
+use lib.Dec.{ltb}
 use lib.ListN.{length, length-append}
 use Rattle.spec.specs.declared.Answer.{Answer}
 use Rattle.spec.specs.declared.Answer.the-variants.{Yes, No, Full, Done, Lost, Limit}
@@ -14,18 +14,18 @@ use Rattle.spec.specs.declared.Call.{Call}
 use Rattle.spec.specs.declared.Call.the-variants.{Insert, Remove, Contains, Grow, Shrink}
 use Rattle.spec.specs.Lists.{if_then_else_, every}
 use Rattle.spec.specs.History.{set-call}
+use Rattle.session.specs.Grammar.{InputLine}
 use Rattle.session.specs.Print.{decimal, key-line, answer-word, refusal-line}
 use Rattle.session.specs.OutputLengths.{refusal-length}
-use Rattle.partial_line.specs.PartialLines.{line-bytes}
 use Rattle.laws.specs.Tests.{bool?, or-none}
 use Rattle.notes.specs.declared.Note.{Note}
 use Rattle.notes.specs.Orders.{Lane, first, second}
 use Rattle.notes.specs.Merge.{order, none, Outcome, searched, refused, unfit, merge, list-of}
 use Rattle.notes.specs.Search.{order-length}
 use Rattle.notes.specs.Theorems.{unfit-refused, order-iff}
-use Rattle.notes.specs.Text.{call-field, note-line, order-lines, outcome-lines, merge-lines}
-use Rattle.notes_text.specs.declared.stream.Reading.{Reading}
-use Rattle.notes_text.specs.Reading.{end-lines}
+use Rattle.notes.specs.Text.{call-field, note-line, order-lines, outcome-lines, merge-lines, parse-note-line}
+use Rattle.notes_text.specs.declared.reading.Reading.{Reading}
+use Rattle.notes_text.specs.Reading.{add-line, answer}
 
 -- a number has at most 20 digits: `refuse=`, a number and byte 10 are at most 28 bytes
 decimal-length : (n : ℕ) → length (decimal n) ≤ 20
@@ -83,14 +83,11 @@ module _ (xs ys : List Note) where
       go (inl u) = rw (unfit-refused xs ys u) (omega (arith, refusal-length 13))
       go (inr u) = outcome-bound (merge xs ys) refl u
 
-pub end-bound : (r : Reading) → length (end-lines r) ≤ 744
-unfolding end-lines
-end-bound r = go (r .outside) (eqb (length (line-bytes (r .line))) 0)
+pub answer-bound : (r : Reading) (ls : List InputLine) → length (answer r ls) ≤ 744
+unfolding answer
+answer-bound r [] = go (r .outside)
   where
-    both : List ℕ
-    both = merge-lines (list-of (r .one)) (list-of (r .two))
-
-    go : (a b : Bool) → length (if a then refusal-line 10 else if b then both else refusal-line 10) ≤ 744
-    go true b = omega (arith, refusal-length 10)
-    go false true = merge-bound (list-of (r .one)) (list-of (r .two))
-    go false false = omega (arith, refusal-length 10)
+    go : (b : Bool) → length (if b then refusal-line 10 else merge-lines (list-of (r .one)) (list-of (r .two))) ≤ 744
+    go true = omega (arith, refusal-length 10)
+    go false = merge-bound (list-of (r .one)) (list-of (r .two))
+answer-bound r (l ∷ ls) = answer-bound (add-line r (parse-note-line l)) ls

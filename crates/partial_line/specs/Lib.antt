@@ -1,2 +1,3 @@
 pub mod PartialLines
 pub mod LineSoFar
+pub mod Filling

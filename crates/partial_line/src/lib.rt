@@ -6,6 +6,7 @@ ghost use lib.Dec.{eqb};
 ghost use lib.ListN.{length, take};
 ghost use Rattle.session.specs.Keys.{newline};
 ghost use Rattle.partial_line.specs.PartialLines.{empty-line, line-bytes, pushed};
+ghost use Rattle.partial_line.specs.Filling.{Fills};
 
 // The bytes of a line that is not closed yet, and how many they are.
 pub struct PartialLine {
@@ -44,6 +45,46 @@ pub fn push(h: PartialLine, x: u8) -> PartialLine
         };
     }
     h
+}
+
+// A line as far as some bytes bring it: how many of them it takes, with the one that closes it, and whether one does.
+pub struct Filled {
+    pub line: PartialLine,
+    pub used: usize,
+    pub closed: bool,
+}
+
+// The bytes of an input up to the one that closes the line, or to the line's 41st byte, or all of them.
+pub fn fill(h: PartialLine, input: &[u8]) -> Filled
+    ensures { λ r. ⌜ Fills h (now (input .entry)) r ⌝ }
+{
+    let mut line = h;
+    let mut i = 0;
+    while i < input.len() {
+        if 40 < line.len {
+            return Filled {
+                line,
+                used: i,
+                closed: false,
+            };
+        }
+        let x = input[i];
+        i += 1;
+        if closes(x) {
+            return Filled {
+                line,
+                used: i,
+                closed: true,
+            };
+        }
+        let longer = push(line, x);
+        line = longer;
+    }
+    Filled {
+        line,
+        used: i,
+        closed: false,
+    }
 }
 
 // How many of the 41 bytes are the line's.

@@ -1,16 +1,14 @@
 -- Laws that the proofs of the functions cite, in the form in which loops and branches use them. Assumes nothing.
 use Prim.Native.Nat.{ℕ, _+_, _<_, _≤_}
 use native.Mathlib.Numerals.{add-one}
-use mathlib.Core.Path.{_≡_, sym, ap, _∙_}
+use mathlib.Core.Path.{_≡_}
 use mathlib.Core.List.{List}
 use lib.ListN.{length, getD, take, drop, drop-of-length-le}
-use lib.Seq.{drop-cons, slice-cons, length-take-le}
+use lib.Seq.{slice-cons, length-take-le}
 use Rattle.session.specs.Buffer.{Buffer, append}
 use Rattle.session.specs.BufferLaws.{append-both}
 use Rattle.plans.specs.declared.Figures.{Figures}
-use Rattle.plan_text.specs.declared.stream.Reading.{Reading}
 use Rattle.plan_text.specs.Text.{figures-line, figures-lines}
-use Rattle.plan_text.specs.Reading.{feed, feeds}
 
 -- ---- figures printed one after the other
 
@@ -25,14 +23,3 @@ module _ (fs : List Figures) (n : ℕ) (fits : n ≤ length fs) (i : ℕ) (t : B
   figures-end l =
       let k : length (take n fs) ≤ i = rw (length-take-le n fs fits) l in
       rw (drop-of-length-le (take n fs) k)
-
--- ---- bytes fed one after the other
-
-module _ (r : Reading) (xs : List ℕ) (i : ℕ) where
-  pub feeds-on : i < length xs → feeds r (drop i xs) ≡ feeds (feed r (getD xs i 0)) (drop (i + 1) xs)
-  unfolding feeds
-  feeds-on h = ap (feeds r) (drop-cons xs i 0 h) ∙ ap (λ (n : ℕ). feeds (feed r (getD xs i 0)) (drop n xs)) (sym (add-one i))
-
-  pub feeds-end : length xs ≤ i → feeds r (drop i xs) ≡ r
-  unfolding feeds
-  feeds-end h = rw (drop-of-length-le xs h)

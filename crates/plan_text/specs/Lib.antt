@@ -1,4 +1,4 @@
 pub mod Text
 pub mod Reading
-pub mod Streams
+pub mod Lines
 pub mod OutputBound

@@ -1,27 +1,27 @@
--- What the end of an input prints has at most 3,448 bytes, 56 of the two sizes and 64 lines of at most 53: `end-bound`. Assumes nothing.
+-- What is printed for an input has at most 3,448 bytes, 56 of the two sizes and 64 lines of at most 53: `answer-bound`. Assumes nothing.
 use Prim.Native.Nat.{ℕ, _*_, _≤_}
 use native.Mathlib.Omega.{arith}
 use mathlib.Core.Path.{_≡_, refl}
 use mathlib.Core.List.{List, [], _∷_}
 use mathlib.Core.Bool.{Bool, true, false, not}
 use borrow.Author.Tests.{ltb-false}
-use lib.Dec.{eqb, ltb}
+use lib.Dec.{ltb}
 use lib.ListN.{length, length-append}
 use Rattle.spec.specs.declared.Answer.{Answer}
 use Rattle.spec.specs.declared.Answer.the-variants.{Yes, No, Full, Done, Lost, Limit}
 use Rattle.spec.specs.Lists.{if_then_else_}
 use Rattle.spec.specs.Sound.{within, version-known}
+use Rattle.session.specs.Grammar.{InputLine}
 use Rattle.session.specs.Print.{decimal, key-line, answer-word, refusal-line}
 use Rattle.session.specs.OutputLengths.{refusal-length}
-use Rattle.partial_line.specs.PartialLines.{line-bytes}
 use Rattle.bounds.specs.EnoughRecords.{enough-nodes, enough-buckets}
 use Rattle.plans.specs.declared.Planned.{Planned}
 use Rattle.plans.specs.declared.Figures.{Figures}
 use Rattle.plans.specs.Plan.{planned, refused, opened-for, fresh, all-figures, plan, list-of}
 use Rattle.planner.proofs.Stored.{figures-length}
-use Rattle.plan_text.specs.declared.stream.Reading.{Reading}
-use Rattle.plan_text.specs.Text.{figures-line, figures-lines, size-lines, reply-lines, plan-lines, in-grammar}
-use Rattle.plan_text.specs.Reading.{end-lines}
+use Rattle.plan_text.specs.declared.reading.Reading.{Reading}
+use Rattle.plan_text.specs.Text.{line-says, figures-line, figures-lines, size-lines, reply-lines, plan-lines, in-grammar}
+use Rattle.plan_text.specs.Reading.{add-line, answer}
 
 -- a number has at most 20 digits: `refuse=`, a number and byte 10 are at most 28 bytes
 decimal-length : (n : ℕ) → length (decimal n) ≤ 20
@@ -74,14 +74,11 @@ module _ (t version : ℕ) (cs : List Planned) where
       go false = omega (arith, refusal-length 1)
       go true = plan-bound
 
-pub end-bound : (r : Reading) → length (end-lines r) ≤ 3448
-unfolding end-lines
-end-bound r = go (in-grammar (r .due)) (eqb (length (line-bytes (r .line))) 0)
+pub answer-bound : (r : Reading) (ls : List InputLine) → length (answer r ls) ≤ 3448
+unfolding answer
+answer-bound r [] = go (in-grammar (r .due))
   where
-    all : List ℕ
-    all = plan-lines (r .tasks) (r .version) (list-of (r .calls))
-
-    go : (a b : Bool) → length (if not a then refusal-line 10 else if b then all else refusal-line 10) ≤ 3448
-    go false b = omega (arith, refusal-length 10)
-    go true true = lines-bound (r .tasks) (r .version) (list-of (r .calls))
-    go true false = omega (arith, refusal-length 10)
+    go : (b : Bool) → length (if b then plan-lines (r .tasks) (r .version) (list-of (r .calls)) else refusal-line 10) ≤ 3448
+    go true = lines-bound (r .tasks) (r .version) (list-of (r .calls))
+    go false = omega (arith, refusal-length 10)
+answer-bound r (l ∷ ls) = answer-bound (add-line r (line-says (r .due) l)) ls

@@ -1,8 +1,9 @@
-// A list of calls to be planned as text (specs/Text): `parse` reads a line, `print` appends lines to a lent buffer, `stream` takes a whole
-// input one byte at a time.
+// A list of calls to be planned as text (specs/Text): `parse` reads a line, `print` appends lines to a lent buffer, `reading` takes an input line by
+// line, `program` is `yardplan`.
 pub mod parse;
 pub mod print;
-pub mod stream;
+pub mod program;
+pub mod reading;
 
 use plans::Planned;
 

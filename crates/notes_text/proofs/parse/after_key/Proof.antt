@@ -10,9 +10,6 @@ use borrow.Author.Needs.{needs}
 use Rattle.notes_text.proofs.parse.after_key.Statement.{statement}
 use Rattle.notes_text.proofs.parse.after_key.Tie as tie
 
-last-comma-requires : tie.Need-last-comma-requires
-last-comma-requires c κs = search needs
-
 returns : tie.Need-returns
 returns c =
     let at-comma-place = c .before in
@@ -23,27 +20,6 @@ slice-aggregate-start : tie.Need-slice-aggregate-start
 slice-aggregate-start c =
     let at-place = c .before .before in
     sym (length-take-le (at-place .last-comma .result) (now (at-place .before .before .args .s)) (at-place .last-comma .ensures .1))
-
-start-requires : tie.Need-start-requires
-start-requires c κs = search needs
-
-add-a : tie.Need-add-a
-add-a c = search needs
-
-sub-answer : tie.Need-sub-answer
-sub-answer c = search needs
-
-part-answer-start : tie.Need-part-answer-start
-part-answer-start c = search needs
-
-part-answer-end : tie.Need-part-answer-end
-part-answer-end c = search needs
-
-answer-requires : tie.Need-answer-requires
-answer-requires c κs = search needs
-
-noted-requires : tie.Need-noted-requires
-noted-requires c κs = search needs
 
 returns-2 : tie.Need-returns-2
 returns-2 c =
@@ -59,14 +35,14 @@ pub after-key-spec : {M : Type 1} → statement M
 after-key-spec =
     tie.close
     (tie.spec
-    last-comma-requires
+    (λ c κs. search needs)
     returns
     slice-aggregate-start
-    start-requires
-    add-a
-    sub-answer
-    part-answer-start
-    part-answer-end
-    answer-requires
-    noted-requires
+    (λ c κs. search needs)
+    (λ c. search needs)
+    (λ c. search needs)
+    (λ c. search needs)
+    (λ c. search needs)
+    (λ c κs. search needs)
+    (λ c κs. search needs)
     returns-2)

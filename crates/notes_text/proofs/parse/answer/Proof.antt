@@ -43,21 +43,9 @@ not-done c = sym (c .before .equals4 .ensures) ∙ c .if4 .left
 not-lost : (c : tie.Else5) → equals lost-word (bytes (else1 (else2 (else3 (else4 c))))) ≡ false
 not-lost c = sym (c .before .equals5 .ensures) ∙ c .if5 .left
 
-slice-aggregate-equals : tie.Need-slice-aggregate-equals
-slice-aggregate-equals c = search needs
-
-equals-requires : tie.Need-equals-requires
-equals-requires c κs = search needs
-
 returns : tie.Need-returns
 unfolding parse-answer
 returns c = rw (sym (c .before .equals .ensures) ∙ c .if1 .taken)
-
-slice-aggregate-equals-2 : tie.Need-slice-aggregate-equals-2
-slice-aggregate-equals-2 c = search needs
-
-equals-requires-2 : tie.Need-equals-requires-2
-equals-requires-2 c κs = search needs
 
 returns-2 : tie.Need-returns-2
 unfolding parse-answer
@@ -65,24 +53,12 @@ returns-2 c =
     let e1 = c .before .before .before in
     rw (not-yes e1, sym (c .before .equals2 .ensures) ∙ c .if2 .taken)
 
-slice-aggregate-equals-3 : tie.Need-slice-aggregate-equals-3
-slice-aggregate-equals-3 c = search needs
-
-equals-requires-3 : tie.Need-equals-requires-3
-equals-requires-3 c κs = search needs
-
 returns-3 : tie.Need-returns-3
 unfolding parse-answer
 returns-3 c =
     let e2 = c .before .before .before in
     let e1 = else1 e2 in
     rw (not-yes e1, not-no e2, sym (c .before .equals3 .ensures) ∙ c .if3 .taken)
-
-slice-aggregate-equals-4 : tie.Need-slice-aggregate-equals-4
-slice-aggregate-equals-4 c = search needs
-
-equals-requires-4 : tie.Need-equals-requires-4
-equals-requires-4 c κs = search needs
 
 returns-4 : tie.Need-returns-4
 unfolding parse-answer
@@ -92,12 +68,6 @@ returns-4 c =
     let e1 = else1 e2 in
     rw (not-yes e1, not-no e2, not-full e3, sym (c .before .equals4 .ensures) ∙ c .if4 .taken)
 
-slice-aggregate-equals-5 : tie.Need-slice-aggregate-equals-5
-slice-aggregate-equals-5 c = search needs
-
-equals-requires-5 : tie.Need-equals-requires-5
-equals-requires-5 c κs = search needs
-
 returns-5 : tie.Need-returns-5
 unfolding parse-answer
 returns-5 c =
@@ -106,12 +76,6 @@ returns-5 c =
     let e2 = else2 e3 in
     let e1 = else1 e2 in
     rw (not-yes e1, not-no e2, not-full e3, not-done e4, sym (c .before .equals5 .ensures) ∙ c .if5 .taken)
-
-slice-aggregate-equals-6 : tie.Need-slice-aggregate-equals-6
-slice-aggregate-equals-6 c = search needs
-
-equals-requires-6 : tie.Need-equals-requires-6
-equals-requires-6 c κs = search needs
 
 returns-6 : tie.Need-returns-6
 unfolding parse-answer
@@ -137,22 +101,22 @@ pub answer-spec : {M : Type 1} → statement M
 answer-spec =
     tie.close
     (tie.spec
-    slice-aggregate-equals
-    equals-requires
+    (λ c. search needs)
+    (λ c κs. search needs)
     returns
-    slice-aggregate-equals-2
-    equals-requires-2
+    (λ c. search needs)
+    (λ c κs. search needs)
     returns-2
-    slice-aggregate-equals-3
-    equals-requires-3
+    (λ c. search needs)
+    (λ c κs. search needs)
     returns-3
-    slice-aggregate-equals-4
-    equals-requires-4
+    (λ c. search needs)
+    (λ c κs. search needs)
     returns-4
-    slice-aggregate-equals-5
-    equals-requires-5
+    (λ c. search needs)
+    (λ c κs. search needs)
     returns-5
-    slice-aggregate-equals-6
-    equals-requires-6
+    (λ c. search needs)
+    (λ c κs. search needs)
     returns-6
     returns-7)

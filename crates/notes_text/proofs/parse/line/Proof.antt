@@ -15,12 +15,6 @@ returns : tie.Need-returns
 unfolding parse-note-line admissible parse-note
 returns c = rw (lt-leb _ _ (c .if1 .taken))
 
-slice-aggregate-starts-with : tie.Need-slice-aggregate-starts-with
-slice-aggregate-starts-with c = search needs
-
-starts-with-requires : tie.Need-starts-with-requires
-starts-with-requires c κs = search needs
-
 sub-after-key : tie.Need-sub-after-key
 sub-after-key c =
     let entry = c .before .before .before .before .before in
@@ -30,12 +24,6 @@ part-after-key-start : tie.Need-part-after-key-start
 part-after-key-start c =
     let entry = c .before .before .before .before .before in
     omega (arith, starts-long note-key (now (entry .args .s)) (sym (c .before .starts-with .ensures) ∙ c .if2 .taken))
-
-part-after-key-end : tie.Need-part-after-key-end
-part-after-key-end c = search needs
-
-after-key-requires : tie.Need-after-key-requires
-after-key-requires c κs = search needs
 
 returns-2 : tie.Need-returns-2
 unfolding parse-note-line admissible parse-note
@@ -61,11 +49,11 @@ line-spec =
     tie.close
     (tie.spec
     returns
-    slice-aggregate-starts-with
-    starts-with-requires
+    (λ c. search needs)
+    (λ c κs. search needs)
     sub-after-key
     part-after-key-start
-    part-after-key-end
-    after-key-requires
+    (λ c. search needs)
+    (λ c κs. search needs)
     returns-2
     returns-3)

@@ -5,12 +5,6 @@ use borrow.Author.Needs.{needs}
 use Rattle.notes_text.proofs.parse.noted.Statement.{statement}
 use Rattle.notes_text.proofs.parse.noted.Tie as tie
 
-enum-known-e : tie.Need-enum-known-e
-enum-known-e c = search needs
-
-enum-known-w : tie.Need-enum-known-w
-enum-known-w c = search needs
-
 returns : tie.Need-returns
 unfolding noted
 returns c =
@@ -22,15 +16,6 @@ unfolding noted
 returns-2 c =
     let at-w = c .before .before .before in
     rw (at-w .before .before .before .e .given .1, at-w .w .given .1, ne-eqb _ _ (c .before .if1 .left), eq-eqb _ _ (c .if2 .taken))
-
-enum-told : tie.Need-enum-told
-enum-told c = search needs
-
-enum-told-2 : tie.Need-enum-told-2
-enum-told-2 c = search needs
-
-enum-told-3 : tie.Need-enum-told-3
-enum-told-3 c = search needs
 
 returns-3 : tie.Need-returns-3
 unfolding noted
@@ -54,13 +39,13 @@ pub noted-spec : {M : Type 1} → statement M
 noted-spec =
     tie.close
     (tie.spec
-    enum-known-e
-    enum-known-w
+    (λ c. search needs)
+    (λ c. search needs)
     returns
     returns-2
-    enum-told
-    enum-told-2
-    enum-told-3
+    (λ c. search needs)
+    (λ c. search needs)
+    (λ c. search needs)
     returns-3
     returns-4
     returns-5

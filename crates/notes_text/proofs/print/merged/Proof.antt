@@ -4,12 +4,6 @@ use borrow.Author.Needs.{needs}
 use Rattle.notes_text.proofs.print.merged.Statement.{statement}
 use Rattle.notes_text.proofs.print.merged.Tie as tie
 
-merge-requires : tie.Need-merge-requires
-merge-requires c κs = search needs
-
-enum-told : tie.Need-enum-told
-enum-told c = search needs
-
 order-requires : tie.Need-order-requires
 order-requires c κs =
     let at-merge = c .before .before .before .before in
@@ -17,24 +11,6 @@ order-requires c κs =
     let says = c .before .enum-told .given .1 in
     let m = at-merge .merge in
     (short-a (a .a) (a .b) (m .result) (m .ensures) says, short-b (a .a) (a .b) (m .result) (m .ensures) says)
-
-enum-told-2 : tie.Need-enum-told-2
-enum-told-2 c = search needs
-
-slice-aggregate-all-bytes : tie.Need-slice-aggregate-all-bytes
-slice-aggregate-all-bytes c = search needs
-
-all-bytes-requires : tie.Need-all-bytes-requires
-all-bytes-requires c κs = search needs
-
-enum-known-says : tie.Need-enum-known-says
-enum-known-says c = search needs
-
-refusal-requires : tie.Need-refusal-requires
-refusal-requires c κs = search needs
-
-same-length : tie.Need-same-length
-same-length c = search needs
 
 returns : tie.Need-returns
 returns c =
@@ -44,9 +20,6 @@ returns c =
     let a = at-merge .before .before .args in
     rw (order-printed (a .a) (a .b) (at-merge .merge .result) (at-merge .merge .ensures) (at-told .enum-told .given .1)) (at-order .order .ensures)
 
-same-length-2 : tie.Need-same-length-2
-same-length-2 c = search needs
-
 returns-2 : tie.Need-returns-2
 returns-2 c =
     let at-bytes = c .before .before in
@@ -54,9 +27,6 @@ returns-2 c =
     let at-merge = at-told .before .before .before in
     let a = at-merge .before .before .args in
     rw (none-printed (a .a) (a .b) (at-merge .merge .result) (at-merge .merge .ensures) (at-told .enum-told2 .given .1)) (at-bytes .all-bytes .ensures)
-
-same-length-3 : tie.Need-same-length-3
-same-length-3 c = search needs
 
 returns-3 : tie.Need-returns-3
 returns-3 c =
@@ -70,17 +40,17 @@ pub merged-spec : {M : Type 1} → statement M
 merged-spec =
     tie.close
     (tie.spec
-    merge-requires
-    enum-told
+    (λ c κs. search needs)
+    (λ c. search needs)
     order-requires
-    enum-told-2
-    slice-aggregate-all-bytes
-    all-bytes-requires
-    enum-known-says
-    refusal-requires
-    same-length
+    (λ c. search needs)
+    (λ c. search needs)
+    (λ c κs. search needs)
+    (λ c. search needs)
+    (λ c κs. search needs)
+    (λ c. search needs)
     returns
-    same-length-2
+    (λ c. search needs)
     returns-2
-    same-length-3
+    (λ c. search needs)
     returns-3)

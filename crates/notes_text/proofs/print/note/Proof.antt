@@ -8,24 +8,6 @@ use borrow.Author.Needs.{needs}
 use Rattle.notes_text.proofs.print.note.Statement.{statement}
 use Rattle.notes_text.proofs.print.note.Tie as tie
 
-slice-aggregate-keyed : tie.Need-slice-aggregate-keyed
-slice-aggregate-keyed c = search needs
-
-keyed-requires : tie.Need-keyed-requires
-keyed-requires c κs = search needs
-
-call-field-requires : tie.Need-call-field-requires
-call-field-requires c κs = search needs
-
-answer-requires : tie.Need-answer-requires
-answer-requires c κs = search needs
-
-one-byte-requires : tie.Need-one-byte-requires
-one-byte-requires c κs = search needs
-
-same-length : tie.Need-same-length
-same-length c = search needs
-
 returns : tie.Need-returns
 unfolding note-line append
 returns c =
@@ -45,10 +27,10 @@ pub note-spec : {M : Type 1} → statement M
 note-spec =
     tie.close
     (tie.spec
-    slice-aggregate-keyed
-    keyed-requires
-    call-field-requires
-    answer-requires
-    one-byte-requires
-    same-length
+    (λ c. search needs)
+    (λ c κs. search needs)
+    (λ c κs. search needs)
+    (λ c κs. search needs)
+    (λ c κs. search needs)
+    (λ c. search needs)
     returns)

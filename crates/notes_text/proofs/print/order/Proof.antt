@@ -34,15 +34,6 @@ module _ (c : tie.Start Inv-loop μ-loop) where
 loop-holds : tie.Need-loop-holds Inv-loop μ-loop
 loop-holds c = (refl, refl, omega arith)
 
-add-loop : tie.Need-add-loop Inv-loop μ-loop
-add-loop c = search needs
-
-add-k : tie.Need-add-k Inv-loop μ-loop
-add-k c = search needs
-
-array-read-if1 : tie.Need-array-read-if1 Inv-loop μ-loop
-array-read-if1 c = search needs
-
 same-length : tie.Need-same-length Inv-loop μ-loop
 same-length c = c .before .before .before .loop .inv .1
 
@@ -55,21 +46,6 @@ returns c =
     let within : l .i + l .j < length (a .t5) = omega (arith, c .before .before .loop-test .taken, len-lane entry) in
     sym (first-ended (a .t5) (a .t3) (a .t4) (l .i) (l .j) within _ (c .before .if1 .taken) (len-a entry) (entry .pre .0) (c .if2 .taken))
     ∙ l .inv .0
-
-mul-note : tie.Need-mul-note Inv-loop μ-loop
-mul-note c = search needs
-
-element-copy-out-note : tie.Need-element-copy-out-note Inv-loop μ-loop
-element-copy-out-note c = search needs
-
-note-requires : tie.Need-note-requires Inv-loop μ-loop
-note-requires c κs = search needs
-
-add-i : tie.Need-add-i Inv-loop μ-loop
-add-i c = search needs
-
-loop-less : tie.Need-loop-less Inv-loop μ-loop
-loop-less c = search needs
 
 loop-again : tie.Need-loop-again Inv-loop μ-loop
 loop-again c =
@@ -96,21 +72,6 @@ returns-2 c =
     let within : l .i + l .j < length (a .t5) = omega (arith, c .before .before .loop-test .taken, len-lane entry) in
     sym (second-ended (a .t5) (a .t3) (a .t4) (l .i) (l .j) within _ (c .before .if1 .left) (len-b entry) (entry .pre .1) (c .if3 .taken))
     ∙ l .inv .0
-
-mul-note-2 : tie.Need-mul-note-2 Inv-loop μ-loop
-mul-note-2 c = search needs
-
-element-copy-out-note-2 : tie.Need-element-copy-out-note-2 Inv-loop μ-loop
-element-copy-out-note-2 c = search needs
-
-note-requires-2 : tie.Need-note-requires-2 Inv-loop μ-loop
-note-requires-2 c κs = search needs
-
-add-j : tie.Need-add-j Inv-loop μ-loop
-add-j c = search needs
-
-loop-less-2 : tie.Need-loop-less-2 Inv-loop μ-loop
-loop-less-2 c = search needs
 
 loop-again-2 : tie.Need-loop-again-2 Inv-loop μ-loop
 loop-again-2 c =
@@ -143,24 +104,24 @@ order-spec =
     Inv-loop
     μ-loop
     loop-holds
-    add-loop
-    add-k
-    array-read-if1
+    (λ c. search needs)
+    (λ c. search needs)
+    (λ c. search needs)
     same-length
     returns
-    mul-note
-    element-copy-out-note
-    note-requires
-    add-i
-    loop-less
+    (λ c. search needs)
+    (λ c. search needs)
+    (λ c κs. search needs)
+    (λ c. search needs)
+    (λ c. search needs)
     loop-again
     same-length-2
     returns-2
-    mul-note-2
-    element-copy-out-note-2
-    note-requires-2
-    add-j
-    loop-less-2
+    (λ c. search needs)
+    (λ c. search needs)
+    (λ c κs. search needs)
+    (λ c. search needs)
+    (λ c. search needs)
     loop-again-2
     same-length-3
     returns-3)

@@ -15,12 +15,6 @@ returns : tie.Need-returns
 unfolding parse-call-line admissible
 returns c = rw (lt-leb _ _ (c .if1 .taken))
 
-slice-aggregate-starts-with : tie.Need-slice-aggregate-starts-with
-slice-aggregate-starts-with c = search needs
-
-starts-with-requires : tie.Need-starts-with-requires
-starts-with-requires c κs = search needs
-
 sub-call : tie.Need-sub-call
 sub-call c =
     let at-starts-with = c .before in
@@ -32,15 +26,6 @@ part-call-start c =
     let at-starts-with = c .before in
     let s = now (at-starts-with .before .before .before .before .args .s) in
     omega (arith, starts-long call-key s (sym (at-starts-with .starts-with .ensures) ∙ c .if2 .taken))
-
-part-call-end : tie.Need-part-call-end
-part-call-end c = search needs
-
-call-requires : tie.Need-call-requires
-call-requires c κs = search needs
-
-call-said-requires : tie.Need-call-said-requires
-call-said-requires c κs = search needs
 
 returns-2 : tie.Need-returns-2
 unfolding parse-call-line admissible
@@ -67,12 +52,12 @@ call-line-spec =
     tie.close
     (tie.spec
     returns
-    slice-aggregate-starts-with
-    starts-with-requires
+    (λ c. search needs)
+    (λ c κs. search needs)
     sub-call
     part-call-start
-    part-call-end
-    call-requires
-    call-said-requires
+    (λ c. search needs)
+    (λ c κs. search needs)
+    (λ c κs. search needs)
     returns-2
     returns-3)

@@ -4,15 +4,6 @@ use borrow.Author.Needs.{needs}
 use Rattle.plan_text.proofs.parse.call_said.Statement.{statement}
 use Rattle.plan_text.proofs.parse.call_said.Tie as tie
 
-enum-known-e : tie.Need-enum-known-e
-enum-known-e c = search needs
-
-enum-told : tie.Need-enum-told
-enum-told c = search needs
-
-enum-told-2 : tie.Need-enum-told-2
-enum-told-2 c = search needs
-
 returns : tie.Need-returns
 unfolding call-said
 returns c = rw (c .before .e .given .1)
@@ -27,4 +18,4 @@ returns-3 c = rw (c .enum-told2 .given .1)
 
 pub call-said-spec : {M : Type 1} → statement M
 call-said-spec =
-    tie.close (tie.spec enum-known-e enum-told enum-told-2 returns returns-2 returns-3)
+    tie.close (tie.spec (λ c. search needs) (λ c. search needs) (λ c. search needs) returns returns-2 returns-3)

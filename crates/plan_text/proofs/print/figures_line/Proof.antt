@@ -7,36 +7,6 @@ use borrow.Author.Needs.{needs}
 use Rattle.plan_text.proofs.print.figures_line.Statement.{statement}
 use Rattle.plan_text.proofs.print.figures_line.Tie as tie
 
-slice-aggregate-all-bytes : tie.Need-slice-aggregate-all-bytes
-slice-aggregate-all-bytes c = search needs
-
-all-bytes-requires : tie.Need-all-bytes-requires
-all-bytes-requires c κs = search needs
-
-answer-requires : tie.Need-answer-requires
-answer-requires c κs = search needs
-
-slice-aggregate-keyed : tie.Need-slice-aggregate-keyed
-slice-aggregate-keyed c = search needs
-
-cast-keyed : tie.Need-cast-keyed
-cast-keyed c = search needs
-
-keyed-requires : tie.Need-keyed-requires
-keyed-requires c κs = search needs
-
-slice-aggregate-key-line : tie.Need-slice-aggregate-key-line
-slice-aggregate-key-line c = search needs
-
-cast-key-line : tie.Need-cast-key-line
-cast-key-line c = search needs
-
-key-line-requires : tie.Need-key-line-requires
-key-line-requires c κs = search needs
-
-same-length : tie.Need-same-length
-same-length c = search needs
-
 returns : tie.Need-returns
 unfolding figures-line key-line
 returns c =
@@ -55,14 +25,14 @@ pub figures-line-spec : {M : Type 1} → statement M
 figures-line-spec =
     tie.close
     (tie.spec
-    slice-aggregate-all-bytes
-    all-bytes-requires
-    answer-requires
-    slice-aggregate-keyed
-    cast-keyed
-    keyed-requires
-    slice-aggregate-key-line
-    cast-key-line
-    key-line-requires
-    same-length
+    (λ c. search needs)
+    (λ c κs. search needs)
+    (λ c κs. search needs)
+    (λ c. search needs)
+    (λ c. search needs)
+    (λ c κs. search needs)
+    (λ c. search needs)
+    (λ c. search needs)
+    (λ c κs. search needs)
+    (λ c. search needs)
     returns)

@@ -26,21 +26,6 @@ fits c = let room : length (c .args .t3) ≡ 64 = search (needs, length-mapped) 
 loop-holds : tie.Need-loop-holds Inv-loop μ-loop
 loop-holds c = (refl, refl)
 
-mul-figures-line : tie.Need-mul-figures-line Inv-loop μ-loop
-mul-figures-line c = search needs
-
-array-copy-out-figures-line : tie.Need-array-copy-out-figures-line Inv-loop μ-loop
-array-copy-out-figures-line c = search needs
-
-figures-line-requires : tie.Need-figures-line-requires Inv-loop μ-loop
-figures-line-requires c κs = search needs
-
-add-i : tie.Need-add-i Inv-loop μ-loop
-add-i c = search needs
-
-loop-less : tie.Need-loop-less Inv-loop μ-loop
-loop-less c = search needs
-
 loop-again : tie.Need-loop-again Inv-loop μ-loop
 loop-again c =
     let at-line = c .before .before in
@@ -70,11 +55,11 @@ figures-lines-spec =
     Inv-loop
     μ-loop
     loop-holds
-    mul-figures-line
-    array-copy-out-figures-line
-    figures-line-requires
-    add-i
-    loop-less
+    (λ c. search needs)
+    (λ c. search needs)
+    (λ c κs. search needs)
+    (λ c. search needs)
+    (λ c. search needs)
     loop-again
     same-length
     returns)

@@ -13,12 +13,6 @@ use Rattle.plan_text.proofs.print.planned.Tie as tie
 room : (c : tie.Start) → length (c .args .calls .call) ≡ 64
 room c = search (needs, length-mapped)
 
-refusal-requires : tie.Need-refusal-requires
-refusal-requires c κs = search needs
-
-same-length : tie.Need-same-length
-same-length c = search needs
-
 returns : tie.Need-returns
 returns c =
     let at-refusal = c .before .before in
@@ -26,27 +20,12 @@ returns c =
     let a = at-if1 .before .before .args in
     rw (tasks-none (a .tasks) (a .version) (list-of (a .calls)) (at-if1 .if1 .taken)) (at-refusal .refusal .ensures)
 
-refusal-requires-2 : tie.Need-refusal-requires-2
-refusal-requires-2 c κs = search needs
-
-same-length-2 : tie.Need-same-length-2
-same-length-2 c = search needs
-
 returns-2 : tie.Need-returns-2
 returns-2 c =
     let at-refusal = c .before .before in
     let at-if2 = at-refusal .before .before in
     let a = at-if2 .before .before .before .args in
     rw (tasks-many (a .tasks) (a .version) (list-of (a .calls)) (at-if2 .before .if1 .left) (at-if2 .if2 .taken)) (at-refusal .refusal2 .ensures)
-
-plan-requires : tie.Need-plan-requires
-plan-requires c κs = search needs
-
-refusal-requires-3 : tie.Need-refusal-requires-3
-refusal-requires-3 c κs = search needs
-
-same-length-3 : tie.Need-same-length-3
-same-length-3 c = search needs
 
 returns-3 : tie.Need-returns-3
 returns-3 c =
@@ -58,18 +37,12 @@ returns-3 c =
     let printed = refusal-printed (a .tasks) (a .version) (a .calls) (at-plan .plan .result) (at-plan .plan .ensures) in
     rw (printed (at-if2 .before .if1 .left) (at-if2 .if2 .left) (at-if3 .if3 .taken)) (at-refusal .refusal3 .ensures)
 
-sizes-requires : tie.Need-sizes-requires
-sizes-requires c κs = search needs
-
 figures-lines-requires : tie.Need-figures-lines-requires
 figures-lines-requires c κs =
     let at-if3 = c .before .before .before .before .before .before in
     let at-plan = at-if3 .before .before in
     let a = at-plan .before .before .before .before .args in
     few-calls (a .tasks) (a .version) (a .calls) (at-plan .plan .result) (at-plan .plan .ensures) (at-if3 .if3 .left)
-
-same-length-4 : tie.Need-same-length-4
-same-length-4 c = search needs
 
 returns-4 : tie.Need-returns-4
 returns-4 c =
@@ -90,17 +63,17 @@ pub planned-spec : {M : Type 1} → statement M
 planned-spec =
     tie.close
     (tie.spec
-    refusal-requires
-    same-length
+    (λ c κs. search needs)
+    (λ c. search needs)
     returns
-    refusal-requires-2
-    same-length-2
+    (λ c κs. search needs)
+    (λ c. search needs)
     returns-2
-    plan-requires
-    refusal-requires-3
-    same-length-3
+    (λ c κs. search needs)
+    (λ c κs. search needs)
+    (λ c. search needs)
     returns-3
-    sizes-requires
+    (λ c κs. search needs)
     figures-lines-requires
-    same-length-4
+    (λ c. search needs)
     returns-4)

@@ -1,0 +1,192 @@
+-- Line by line, an input of notes prints its transcript: `lines-print-transcript`. A seventh note of a lane, and those after it, change nothing but
+-- that the list is longer. A line that is too long or not closed is outside the grammar (`notes-reader`), after which the answer is fixed
+-- (`outside-decides`). Assumes nothing.
+use mathlib.Core.Path.{_≡_, refl, sym, ap, _∙_}
+use mathlib.Core.Logic.{_⊎_, inl, inr}
+use mathlib.Core.List.{List, [], _∷_, _++_, append-assoc, append-nil}
+use mathlib.Core.Bool.{Bool, true, false, _||_}
+use Prim.Native.Nat.{ℕ, _+_, _<_, _≤_, min}
+use native.Mathlib.Numerals.{add-one}
+use native.Mathlib.Omega.{arith}
+use borrow.Author.Tests.{lt-leb, lt-ltb, le-ltb, ltb-true, ltb-false}
+use lib.Dec.{ltb}
+use lib.IntN.{ℤ}
+use lib.ListN.{length, take, set, length-append, length-set}
+use lib.Seq.{take-all, take-append-le, take-suc-set}
+use Rattle.spec.specs.Lists.{if_then_else_}
+use Rattle.session.specs.Grammar.{InputLine, input-lines, admissible}
+use Rattle.session.specs.Print.{refusal-line}
+use Rattle.stdio.specs.Readers.{LineReader}
+use Rattle.stdio.specs.Outcomes.{Ran}
+use Rattle.stdio.specs.Runs.{Prints, ran-prints}
+use Rattle.laws.specs.Tests.{bool?, or-l, or-r}
+use Rattle.notes.specs.declared.Note.{Note}
+use Rattle.notes.specs.declared.Notes.{Notes}
+use Rattle.notes.specs.declared.NoteLine.{NoteLine}
+use Rattle.notes.specs.declared.NoteLine.the-variants.{First, Second, Outside}
+use Rattle.notes.specs.Merge.{unfit, merge, list-of}
+use Rattle.notes.specs.Text.{parse-note-line, outcome-lines, merge-lines, add-first, first-notes, add-second, second-notes, is-note, all-notes}
+use Rattle.notes.specs.Text.{notes-output, notes-transcript}
+use Rattle.notes_text.specs.declared.reading.Reading.{Reading}
+use Rattle.notes_text.specs.Reading.{notes-of, add-note, no-notes, new-reading, add-line, take-line, answer}
+
+-- ---- a line outside the grammar
+
+outside-kept : (r : Reading) → r .outside ≡ true → (n : NoteLine) → add-line r n .outside ≡ true
+unfolding add-line
+outside-kept r e (First x) = e
+outside-kept r e (Second x) = e
+outside-kept r e Outside = refl
+
+pub outside-refused : (r : Reading) → r .outside ≡ true → (ls : List InputLine) → answer r ls ≡ refusal-line 10
+unfolding answer
+outside-refused r e [] = rw e
+outside-refused r e (l ∷ ls) = outside-refused (add-line r (parse-note-line l)) (outside-kept r e (parse-note-line l)) ls
+
+-- the answer is fixed: "a line outside the grammar" goes before 13
+pub outside-decides : (r : Reading) → r .outside ≡ true → (ls : List InputLine) → answer r ls ≡ answer r []
+outside-decides r e ls = outside-refused r e ls ∙ sym (outside-refused r e [])
+
+pub notes-reader : LineReader answer take-line
+unfolding answer take-line add-line parse-note-line admissible
+notes-reader =
+    record {
+      takes = λ r l ls short. refl;
+      too-long = λ r l x ls long out.
+          let h : 40 < length l = omega (arith, long) in rw (lt-leb _ _ h, out) (outside-decides (add-line r Outside) refl ls);
+    }
+
+-- ---- a lane's notes, and what is kept of them
+
+record Keeps (l : Notes) (xs : List Note) : Type 0 where
+  room : length (l .note) ≡ 6
+  counted : l .count ≡ min 7 (length xs)
+  same : take (l .count) (l .note) ≡ take 6 xs
+
+keeps-none : Keeps no-notes []
+unfolding no-notes
+keeps-none = record { room = refl; counted = refl; same = refl }
+
+keeps-more : (l : Notes) (xs : List Note) (x : Note) → Keeps l xs → Keeps (add-note l x) (xs ++ (x ∷ []))
+unfolding add-note
+keeps-more l xs x o = go (ltb (l .count) 6) refl
+  where
+    n : length (xs ++ (x ∷ [])) ≡ length xs + 1
+    n = simp length-append (omega arith)
+
+    go : (b : Bool) → ltb (l .count) 6 ≡ b
+        → Keeps (if b then notes-of (l .count + 1) (set (l .note) (l .count) x) else notes-of 7 (l .note)) (xs ++ (x ∷ []))
+    go true e =
+        let f : l .count < 6 = ltb-true _ _ e in
+        let g : length xs < 6 = omega (arith, o .counted) in
+        record {
+          room = length-set (l .note) (l .count) x ∙ o .room;
+          counted = omega (arith, o .counted, n);
+          same =
+              ap (λ (k : ℕ). take k (set (l .note) (l .count) x)) (add-one (l .count))
+              ∙ take-suc-set (l .note) (l .count) x (omega (arith, o .room))
+              ∙ ap (λ (w : List Note). w ++ (x ∷ [])) (o .same ∙ take-all 6 xs (omega arith))
+              ∙ sym (take-all 6 (xs ++ (x ∷ [])) (omega (arith, n)));
+        }
+    go false e =
+        let f : 6 ≤ l .count = ltb-false _ _ e in
+        let g : 6 ≤ length xs = omega (arith, o .counted) in
+        record {
+          room = o .room;
+          counted = omega (arith, o .counted, n);
+          same =
+              take-all 7 (l .note) (omega (arith, o .room))
+              ∙ sym (take-all (l .count) (l .note) (omega (arith, o .room)))
+              ∙ o .same
+              ∙ sym (take-append-le 6 xs (x ∷ []) g);
+        }
+
+-- the same list, or both are too long
+data Kept (l : Notes) (xs : List Note) : Type 0 where
+  whole : list-of l ≡ xs → Kept l xs
+  longer : unfit (list-of l) ≡ true → unfit xs ≡ true → Kept l xs
+
+kept-list : (l : Notes) (xs : List Note) → Keeps l xs → Kept l xs
+unfolding list-of unfit
+kept-list l xs o = go (bool? (ltb 6 (length xs)))
+  where
+    go : (ltb 6 (length xs) ≡ true) ⊎ (ltb 6 (length xs) ≡ false) → Kept l xs
+    go (inl e) =
+        let h = ltb-true 6 (length xs) e in
+        let k : 6 < l .count = omega (arith, o .counted) in
+        longer (rw (lt-ltb _ _ k)) (rw e)
+    go (inr e) =
+        let h = ltb-false 6 (length xs) e in
+        let k : l .count ≤ 6 = omega (arith, o .counted) in
+        whole (rw (le-ltb _ _ k) (o .same ∙ take-all 6 xs h))
+
+refused-lines : (xs ys : List Note) → (unfit xs || unfit ys) ≡ true → merge-lines xs ys ≡ refusal-line 13
+unfolding merge-lines merge outcome-lines
+refused-lines xs ys e = rw e
+
+kept-lines : (a b : Notes) (xs ys : List Note) → Kept a xs → Kept b ys → merge-lines (list-of a) (list-of b) ≡ merge-lines xs ys
+kept-lines a b xs ys (whole e) (whole f) = rw (e, f)
+kept-lines a b xs ys (longer u v) q = refused-lines _ _ (or-l _ (unfit (list-of b)) u) ∙ sym (refused-lines xs ys (or-l _ (unfit ys) v))
+kept-lines a b xs ys (whole e) (longer u v) =
+    refused-lines _ _ (or-r (unfit (list-of a)) _ u) ∙ sym (refused-lines xs ys (or-r (unfit xs) _ v))
+
+-- ---- an input in the middle of it
+
+-- what was read: whether a line was outside the grammar, and the notes of both lanes
+record Read (r : Reading) (outside : Bool) (xs ys : List Note) : Type 0 where
+  out : r .outside ≡ outside
+  one : Keeps (r .one) xs
+  two : Keeps (r .two) ys
+
+-- what is printed if these lines are still to come
+unfoldable output-left : Bool → List Note → List Note → List InputLine → List ℕ
+output-left outside xs ys ls =
+    if outside then refusal-line 10
+    else if all-notes ls then merge-lines (xs ++ first-notes ls) (ys ++ second-notes ls)
+    else refusal-line 10
+
+module _ (outside : Bool) (xs ys : List Note) (l : InputLine) (ls : List InputLine) where
+  first-left : (x : Note) → parse-note-line l ≡ First x → output-left outside (xs ++ (x ∷ [])) ys ls ≡ output-left outside xs ys (l ∷ ls)
+  unfolding output-left all-notes first-notes second-notes is-note add-first add-second
+  first-left x e = rw (e, append-assoc xs (x ∷ []) (first-notes ls))
+
+  second-left : (x : Note) → parse-note-line l ≡ Second x → output-left outside xs (ys ++ (x ∷ [])) ls ≡ output-left outside xs ys (l ∷ ls)
+  unfolding output-left all-notes first-notes second-notes is-note add-first add-second
+  second-left x e = rw (e, append-assoc ys (x ∷ []) (second-notes ls))
+
+  outside-left : parse-note-line l ≡ Outside → output-left true xs ys ls ≡ output-left outside xs ys (l ∷ ls)
+  unfolding output-left all-notes is-note
+  outside-left e = rw e (go outside)
+    where
+      go : (b : Bool) → refusal-line 10 ≡ (if b then refusal-line 10 else refusal-line 10)
+      go true = refl
+      go false = refl
+
+-- what is printed for these lines, whatever was read before them
+abbrev PrintsLines : List InputLine → Type 0
+PrintsLines ls = (r : Reading) (outside : Bool) (xs ys : List Note) → Read r outside xs ys → answer r ls ≡ output-left outside xs ys ls
+
+answer-left : (ls : List InputLine) → PrintsLines ls
+unfolding answer output-left all-notes first-notes second-notes add-line
+answer-left [] r outside xs ys o =
+    let same = kept-lines (r .one) (r .two) xs ys (kept-list (r .one) xs (o .one)) (kept-list (r .two) ys (o .two)) in
+    rw (o .out, append-nil xs, append-nil ys, same)
+answer-left (l ∷ ls) r outside xs ys o = go (answer-left ls) (parse-note-line l) refl
+  where
+    go : PrintsLines ls → (n : NoteLine) → parse-note-line l ≡ n → answer (add-line r n) ls ≡ output-left outside xs ys (l ∷ ls)
+    go ih (First y) e =
+        ih (add-line r (First y)) outside (xs ++ (y ∷ [])) ys (record { out = o .out; one = keeps-more (r .one) xs y (o .one); two = o .two })
+        ∙ first-left outside xs ys l ls y e
+    go ih (Second y) e =
+        ih (add-line r (Second y)) outside xs (ys ++ (y ∷ [])) (record { out = o .out; one = o .one; two = keeps-more (r .two) ys y (o .two) })
+        ∙ second-left outside xs ys l ls y e
+    go ih Outside e = ih (add-line r Outside) true xs ys (record { out = refl; one = o .one; two = o .two }) ∙ outside-left outside xs ys l ls e
+
+pub lines-print-transcript : (input : List ℕ) → answer new-reading (input-lines input) ≡ notes-transcript input
+unfolding new-reading notes-transcript notes-output output-left
+lines-print-transcript input =
+    answer-left (input-lines input) new-reading false [] [] (record { out = refl; one = keeps-none; two = keeps-none })
+
+-- by its contract, `yardnotes` prints the transcript of what it read
+pub yardnotes-prints : (status : ℤ) (r : Ran answer new-reading status) → Prints notes-transcript (r .input) (r .shown ++ r .text)
+yardnotes-prints = ran-prints answer new-reading notes-transcript lines-print-transcript

@@ -1,0 +1,171 @@
+-- Line by line, an input prints its transcript: `lines-print-transcript`. A 65th call, and those after it, change nothing but that the list is
+-- longer. A line that is too long or not closed is outside the grammar (`plan-reader`), after which the answer is fixed (`plan-decides`). Assumes nothing.
+use mathlib.Core.Path.{_≡_, refl, sym, ap, _∙_}
+use mathlib.Core.Logic.{_⊎_, inl, inr}
+use mathlib.Core.List.{List, [], _∷_, _++_}
+use mathlib.Core.Bool.{Bool, true, false}
+use Prim.Native.Nat.{ℕ, _+_, _<_, _≤_, min}
+use native.Mathlib.Numerals.{add-one}
+use native.Mathlib.Omega.{arith}
+use borrow.Author.Tests.{lt-ltb, le-ltb, lt-leb, ltb-true, ltb-false}
+use lib.Dec.{ltb}
+use lib.IntN.{ℤ}
+use lib.ListN.{length, take, set, length-append, length-set}
+use lib.Seq.{take-all, take-append-le, take-suc-set}
+use Rattle.spec.specs.Lists.{if_then_else_}
+use Rattle.session.specs.Grammar.{InputLine, closed-line, input-lines, admissible, parse-header-line}
+use Rattle.session.specs.Print.{refusal-line}
+use Rattle.laws.specs.Tests.{bool?}
+use Rattle.stdio.specs.Readers.{LineReader}
+use Rattle.stdio.specs.Outcomes.{Ran}
+use Rattle.stdio.specs.Runs.{Prints, ran-prints}
+use Rattle.plans.specs.declared.Planned.{Planned}
+use Rattle.plans.specs.declared.Calls.{Calls}
+use Rattle.plans.specs.Plan.{plan, list-of}
+use Rattle.plan_text.specs.declared.Due.{Due}
+use Rattle.plan_text.specs.declared.Due.the-variants.{Tasks, Version, Call, Nothing}
+use Rattle.plan_text.specs.declared.PlanLine.{PlanLine}
+use Rattle.plan_text.specs.declared.PlanLine.the-variants.{Tasks as SaysTasks, Version as SaysVersion, Call as SaysCall, Outside}
+use Rattle.plan_text.specs.declared.reading.Reading.{Reading}
+use Rattle.plan_text.specs.Text.{tasks-said, version-said, parse-call-line, line-says, PlanInput, input-of, no-input, after-line, after-lines}
+use Rattle.plan_text.specs.Text.{plan-lines, in-grammar, plan-output, plan-transcript}
+use Rattle.plan_text.specs.Reading.{calls-of, add-call, no-calls, new-reading, add-line, take-line, answer, decided}
+
+-- ---- a line outside the grammar
+
+outside-line : (due : Due) (x : InputLine) → admissible x ≡ false → line-says due x ≡ Outside
+unfolding line-says tasks-said version-said parse-header-line parse-call-line
+outside-line Tasks x e = rw e
+outside-line Version x e = rw e
+outside-line Call x e = rw e
+outside-line Nothing x e = refl
+
+nothing-refused : (r : Reading) → r .due ≡ Nothing → (ls : List InputLine) → answer r ls ≡ refusal-line 10
+unfolding answer add-line line-says in-grammar
+nothing-refused r e [] = rw e
+nothing-refused r e (l ∷ ls) = rw e (nothing-refused (add-line r Outside) refl ls)
+
+-- the answer is fixed: 10 goes before 1, 11 and 9
+pub plan-decides : (r : Reading) → decided (r .due) ≡ true → (ls : List InputLine) → answer r ls ≡ answer r []
+unfolding decided
+plan-decides r e ls = go (r .due) refl
+  where
+    go : (d : Due) → r .due ≡ d → answer r ls ≡ answer r []
+    go Tasks i = let z : _≡_ {A = ℕ} 0 1 = cc in absurd (omega arith)
+    go Version i = let z : _≡_ {A = ℕ} 0 1 = cc in absurd (omega arith)
+    go Call i = let z : _≡_ {A = ℕ} 0 1 = cc in absurd (omega arith)
+    go Nothing i = nothing-refused r i ls ∙ sym (nothing-refused r i [])
+
+pub outside-refused : (r : Reading) (x : InputLine) (ls : List InputLine) → admissible x ≡ false → answer r (x ∷ ls) ≡ refusal-line 10
+unfolding answer add-line
+outside-refused r x ls e = rw (outside-line (r .due) x e) (nothing-refused (add-line r Outside) refl ls)
+
+pub plan-reader : LineReader answer take-line
+unfolding answer take-line admissible
+plan-reader =
+    record {
+      takes = λ r l ls short. refl;
+      too-long = λ r l x ls long out.
+          let h : 40 < length l = omega (arith, long) in
+          outside-refused r x ls out ∙ sym (outside-refused r (closed-line l) [] (lt-leb _ _ h));
+    }
+
+-- ---- the calls, and what is kept of them
+
+record Keeps (l : Calls) (cs : List Planned) : Type 0 where
+  room : length (l .call) ≡ 64
+  counted : l .count ≡ min 65 (length cs)
+  same : take (l .count) (l .call) ≡ take 64 cs
+
+keeps-none : Keeps no-calls []
+unfolding no-calls
+keeps-none = record { room = refl; counted = refl; same = refl }
+
+keeps-more : (l : Calls) (cs : List Planned) (c : Planned) → Keeps l cs → Keeps (add-call l c) (cs ++ (c ∷ []))
+unfolding add-call
+keeps-more l cs c o = go (ltb (l .count) 64) refl
+  where
+    n : length (cs ++ (c ∷ [])) ≡ length cs + 1
+    n = simp length-append (omega arith)
+
+    go : (b : Bool) → ltb (l .count) 64 ≡ b
+        → Keeps (if b then calls-of (l .count + 1) (set (l .call) (l .count) c) else calls-of 65 (l .call)) (cs ++ (c ∷ []))
+    go true e =
+        let f : l .count < 64 = ltb-true _ _ e in
+        let g : length cs < 64 = omega (arith, o .counted) in
+        record {
+          room = length-set (l .call) (l .count) c ∙ o .room;
+          counted = omega (arith, o .counted, n);
+          same =
+              ap (λ (k : ℕ). take k (set (l .call) (l .count) c)) (add-one (l .count))
+              ∙ take-suc-set (l .call) (l .count) c (omega (arith, o .room))
+              ∙ ap (λ (w : List Planned). w ++ (c ∷ [])) (o .same ∙ take-all 64 cs (omega arith))
+              ∙ sym (take-all 64 (cs ++ (c ∷ [])) (omega (arith, n)));
+        }
+    go false e =
+        let f : 64 ≤ l .count = ltb-false _ _ e in
+        let g : 64 ≤ length cs = omega (arith, o .counted) in
+        record {
+          room = o .room;
+          counted = omega (arith, o .counted, n);
+          same =
+              take-all 65 (l .call) (omega (arith, o .room))
+              ∙ sym (take-all (l .count) (l .call) (omega (arith, o .room)))
+              ∙ o .same
+              ∙ sym (take-append-le 64 cs (c ∷ []) g);
+        }
+
+-- a longer list gives 9, and before it another version 11, whatever its calls are
+long-plans : (version : ℕ) (cs ds : List Planned) → 64 < length cs → 64 < length ds → plan version cs ≡ plan version ds
+unfolding plan
+long-plans version cs ds h k = rw (lt-ltb 64 (length cs) h, lt-ltb 64 (length ds) k)
+
+kept-lines : (t version : ℕ) (l : Calls) (cs : List Planned) → Keeps l cs → plan-lines t version (list-of l) ≡ plan-lines t version cs
+unfolding plan-lines list-of
+kept-lines t version l cs o = go (bool? (ltb 64 (length cs)))
+  where
+    go : (ltb 64 (length cs) ≡ true) ⊎ (ltb 64 (length cs) ≡ false) → plan-lines t version (list-of l) ≡ plan-lines t version cs
+    go (inl e) =
+        let h = ltb-true 64 (length cs) e in
+        let k : 64 < l .count = omega (arith, o .counted) in
+        let long : 64 < length (list-of l) = rw (lt-ltb 64 (l .count) k) (omega arith) in
+        rw (long-plans version (list-of l) cs long h)
+    go (inr e) =
+        let h = ltb-false 64 (length cs) e in
+        let k : l .count ≤ 64 = omega (arith, o .counted) in
+        let whole : list-of l ≡ cs = rw (le-ltb 64 (l .count) k) (o .same ∙ take-all 64 cs h) in
+        rw whole
+
+-- ---- an input in the middle of it
+
+record Read (r : Reading) (p : PlanInput) : Type 0 where
+  due : r .due ≡ p .due
+  tasks : r .tasks ≡ p .tasks
+  version : r .version ≡ p .version
+  calls : Keeps (r .calls) (p .calls)
+
+with-line : (r : Reading) (p : PlanInput) → Read r p → (said : PlanLine) → Read (add-line r said) (after-line p said)
+unfolding add-line after-line
+with-line r p o (SaysTasks n) = record { due = refl; tasks = refl; version = o .version; calls = o .calls }
+with-line r p o (SaysVersion n) = record { due = refl; tasks = o .tasks; version = refl; calls = o .calls }
+with-line r p o (SaysCall c) = record { due = refl; tasks = o .tasks; version = o .version; calls = keeps-more (r .calls) (p .calls) c (o .calls) }
+with-line r p o Outside = record { due = refl; tasks = o .tasks; version = o .version; calls = o .calls }
+
+-- what is printed for these lines, whatever was read before them
+answer-left : (ls : List InputLine) (r : Reading) (p : PlanInput) → Read r p → answer r ls ≡ plan-output (after-lines p ls)
+unfolding answer plan-output after-lines
+answer-left [] r p o =
+    let same = kept-lines (p .tasks) (p .version) (r .calls) (p .calls) (o .calls) in
+    rw (o .due, o .tasks, o .version, same)
+answer-left (l ∷ ls) r p o =
+    let said = line-says (p .due) l in
+    ap (λ (d : Due). answer (add-line r (line-says d l)) ls) (o .due) ∙ answer-left ls (add-line r said) (after-line p said) (with-line r p o said)
+
+pub lines-print-transcript : (input : List ℕ) → answer new-reading (input-lines input) ≡ plan-transcript input
+unfolding new-reading plan-transcript no-input
+lines-print-transcript input =
+    answer-left (input-lines input) new-reading (input-of Tasks 0 1 []) (record { due = refl; tasks = refl; version = refl; calls = keeps-none })
+
+-- by its contract, `yardplan` prints the transcript of what it read
+pub yardplan-prints : (status : ℤ) (r : Ran answer new-reading status) → Prints plan-transcript (r .input) (r .shown ++ r .text)
+yardplan-prints = ran-prints answer new-reading plan-transcript lines-print-transcript

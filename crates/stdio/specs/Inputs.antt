@@ -1,0 +1,164 @@
+-- Standard input by lines: what is given of it call by call, against the paper's lines. What is read no contract can say: `read` stands for it, and the
+-- rest follows from it. Assumes nothing.
+use Prim.Native.Nat.{ℕ, _+_, _-_, _<_, _≤_}
+use mathlib.Core.Path.{_≡_}
+use mathlib.Core.List.{List, [], _∷_, _++_}
+use mathlib.Core.Bool.{Bool, true, false, not, _&&_}
+use lib.Dec.{eqb, ltb}
+use lib.ListN.{length, take, drop}
+use Rattle.spec.specs.Lists.{if_then_else_}
+use Rattle.session.specs.Grammar.{InputLine, closed-line, split-lines}
+use Rattle.partial_line.specs.declared.PartialLine.{PartialLine}
+use Rattle.partial_line.specs.PartialLines.{partial, empty-line, line-bytes}
+use Rattle.stdio.specs.declared.input.Given.{Given}
+use Rattle.stdio.specs.declared.input.Given.the-variants.{Part, Line, TooLong, Ended, Settled, ReadFailed, WriteFailed}
+use Rattle.stdio.specs.declared.input.Input.{Input}
+
+-- ---- one call
+
+abbrev pub most-calls : ℕ
+most-calls = 18446744073709551615
+
+-- standard input, of which nothing is read yet
+unfoldable pub unread : Input
+unread = record { at = 0; end = 0; reads = true; number = 1; left = most-calls; line = empty-line; given = Part }
+
+unfoldable pub is-line : Given → Bool
+is-line Part = false
+is-line Line = true
+is-line TooLong = false
+is-line Ended = false
+is-line Settled = false
+is-line ReadFailed = false
+is-line WriteFailed = false
+
+-- a line is at hand that is to be taken: closed, or too long
+unfoldable pub to-take : Given → Bool
+to-take Part = false
+to-take Line = true
+to-take TooLong = true
+to-take Ended = false
+to-take Settled = false
+to-take ReadFailed = false
+to-take WriteFailed = false
+
+-- more may be asked for
+unfoldable pub goes-on : Given → Bool
+goes-on Part = true
+goes-on Line = true
+goes-on TooLong = false
+goes-on Ended = false
+goes-on Settled = false
+goes-on ReadFailed = false
+goes-on WriteFailed = false
+
+unfoldable pub at-end : Given → Bool
+at-end Part = false
+at-end Line = false
+at-end TooLong = false
+at-end Ended = true
+at-end Settled = false
+at-end ReadFailed = false
+at-end WriteFailed = false
+
+-- the input ended in the middle of a line
+unfoldable pub unclosed-end : Input → Bool
+unclosed-end p = if at-end (p .given) then not (eqb (p .line .len) 0) else false
+
+-- the answer is fixed: by a line that is too long, or by what the program found
+unfoldable pub fixed : Given → Bool
+fixed Part = false
+fixed Line = false
+fixed TooLong = true
+fixed Ended = false
+fixed Settled = true
+fixed ReadFailed = false
+fixed WriteFailed = false
+
+-- a read or a write failed
+unfoldable pub failed : Given → Bool
+failed Part = false
+failed Line = false
+failed TooLong = false
+failed Ended = false
+failed Settled = false
+failed ReadFailed = true
+failed WriteFailed = true
+
+-- the line that is begun: none after one that was given whole
+unfoldable pub begun-line : Input → PartialLine
+begun-line p = if is-line (p .given) then partial (p .line .bytes) 0 else (p .line)
+
+unfoldable pub line-number : Input → ℕ
+line-number p = if is-line (p .given) && ltb (p .number) most-calls then (p .number + 1) else (p .number)
+
+-- a line that byte 10 closed, or a part of one; with its 41st byte it is too long
+unfoldable pub given-of : Bool → ℕ → Given
+given-of closed len = if closed then Line else if ltb len 41 then Part else TooLong
+
+unfoldable pub left-of : Given → ℕ → ℕ
+left-of given n = if goes-on given then n else 0
+
+abbrev pub with-given : Input → Given → Input
+with-given p given =
+    record { at = p .at; end = p .end; reads = p .reads; number = p .number; left = 0; line = p .line; given = given }
+
+-- after a line that fixes the answer, or does not
+unfoldable pub settled-if : Bool → Input → Input
+settled-if b p = if b then with-given p Settled else p
+
+-- ---- what is to come
+
+-- the bytes of the room from one place to another
+abbrev pub at-hand : ℕ → ℕ → List ℕ → List ℕ
+at-hand at end room = take (end - at) (drop at room)
+
+-- what is read and not handed on yet
+abbrev pub pending : Input → List ℕ → List ℕ
+pending p room = at-hand (p .at) (p .end) room
+
+abbrev pub Fits : Input → List ℕ → Type 0
+Fits p room = (p .at ≤ p .end) × (p .end ≤ length room)
+
+-- the lines that are to come, if `more` is what is read from here on
+unfoldable pub lines-left : Input → List ℕ → List ℕ → List InputLine
+lines-left p room more = split-lines (line-bytes (begun-line p)) (pending p room ++ more)
+
+-- and the line that is given before them
+unfoldable pub with-line : Input → List InputLine → List InputLine
+with-line p ls = if is-line (p .given) then (closed-line (line-bytes (p .line)) ∷ ls) else ls
+
+-- no more is to be asked for
+abbrev pub stopped-at : PartialLine → ℕ → Bool → ℕ → ℕ → Given → Input
+stopped-at h number reads at end given = record { at = at; end = end; reads = reads; number = number; left = 0; line = h; given = given }
+
+-- bytes at hand, those of the room from `at` to `end`, after the line that is begun
+pub record Taken (h : PartialLine) (at end : ℕ) (reads : Bool) (n : ℕ) (room : List ℕ) (q : Input) : Type 0 where
+  pub source : q .reads ≡ reads
+  pub fits : Fits q room
+  pub same : (more : List ℕ) → split-lines (line-bytes h) (at-hand at end room ++ more) ≡ with-line q (lines-left q room more)
+  pub short : q .given ≡ Line → length (line-bytes (q .line)) ≤ 40
+  pub long : q .given ≡ TooLong → length (line-bytes (q .line)) ≡ 41
+  pub left : q .left ≡ left-of (q .given) n
+  pub not-ended : q .given ≡ Ended → ⊥
+  pub not-settled : fixed (q .given) ≡ true → q .given ≡ TooLong
+  pub onward : (at ≤ q .at) × (q .end ≡ end)
+  pub uses : q .given ≡ Line → at < q .at
+
+-- one call: `read` is what was read
+pub record Gives (p : Input) (room : List ℕ) (q : Input) (room' : List ℕ) : Type 0 where
+  pub read : List ℕ
+  pub none-read : p .reads ≡ false → read ≡ []
+  pub source : q .reads ≡ p .reads
+  pub fits : Fits q room'
+  pub same : (more : List ℕ) → lines-left p room (read ++ more) ≡ with-line q (lines-left q room' more)
+  pub short : q .given ≡ Line → length (line-bytes (q .line)) ≤ 40
+  pub long : q .given ≡ TooLong → length (line-bytes (q .line)) ≡ 41
+  pub ended : q .given ≡ Ended → pending q room' ≡ []
+  pub not-settled : fixed (q .given) ≡ true → q .given ≡ TooLong
+  pub fewer : q .left ≤ p .left - 1
+  pub over : goes-on (q .given) ≡ false → q .left ≡ 0
+  pub on : goes-on (q .given) ≡ true → 0 < q .left
+  -- bytes at hand are taken before any are read, and a line takes one at least
+  pub onward : p .at < p .end → (p .at ≤ q .at) × (q .end ≡ p .end)
+  pub uses : q .given ≡ Line → (0 < q .at) × (p .at < p .end → p .at < q .at)

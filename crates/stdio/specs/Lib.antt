@@ -1,0 +1,10 @@
+pub mod Inputs
+pub mod Readers
+pub mod LongLines
+pub mod Outcomes
+pub mod Passing
+pub mod AtHand
+pub mod Loops
+pub mod Runs
+pub mod WholeRun
+pub mod Transcripts
