@@ -1,5 +1,4 @@
 pub mod Reading
-pub mod OutsideLines
 pub mod LinesAnswer
-pub mod Stream
-pub mod StreamAnswers
+pub mod OutsideLines
+pub mod Program

@@ -1,13 +1,12 @@
 -- A line that is too long or not closed says the same whatever its bytes are, and refuses the input with the number with which an end there
--- refuses it. So 41 bytes of a line say as much as all of it. Assumes nothing.
+-- refuses it. Assumes nothing.
 use Prim.Native.Nat.{ℕ}
 use mathlib.Core.Path.{_≡_, refl, sym, ap, _∙_}
-use mathlib.Core.List.{List, []}
+use mathlib.Core.List.{List}
 use mathlib.Core.Bool.{Bool, true, false}
 use native.Mathlib.Omega.{arith}
 use borrow.Author.Tests.{eqb-false}
 use lib.Dec.{eqb}
-use lib.ListN.{take}
 use Rattle.spec.specs.Lists.{if_then_else_}
 use Rattle.spec.specs.Entries.{opening}
 use Rattle.session.specs.declared.Decimal.the-variants.{NotDecimal}
@@ -17,9 +16,9 @@ use Rattle.session.specs.declared.Header.{Header}
 use Rattle.session.specs.declared.HeaderLine.{HeaderLine}
 use Rattle.session.specs.declared.HeaderStep.{HeaderStep}
 use Rattle.session.specs.declared.HeaderStep.the-variants.{Absent, Missing}
-use Rattle.session.specs.Grammar.{InputLine, closed-line, open-line, admissible, parse-header-line}
+use Rattle.session.specs.Grammar.{InputLine, admissible, parse-header-line}
 use Rattle.session.specs.Header.{optional}
-use Rattle.session.specs.LineLaws.{outside-step, outside-event, first-bytes}
+use Rattle.session.specs.LineLaws.{outside-step, outside-event}
 use Rattle.session_pools.specs.PoolParts.{node-part, bucket-part}
 use Rattle.session_state.specs.declared.Phase.{Phase}
 use Rattle.session_state.specs.declared.Phase.the-variants.{Due, Events, Stopped}
@@ -127,7 +126,7 @@ module _ (p : Place) where
   phase-refuses l e Events ph = turn-refuses p l ph e
   phase-refuses l e Stopped ph = refl
 
-  same-outside : (l k : InputLine) → admissible l ≡ false → admissible k ≡ false → on-line p l ≡ on-line p k
+  pub same-outside : (l k : InputLine) → admissible l ≡ false → admissible k ≡ false → on-line p l ≡ on-line p k
   unfolding on-line
   same-outside l k e f = ap (λ (q : Place). if eqb (p .standing .refused) 0 then q else p) (phase-line l k e f (p .standing .session .phase) refl)
 
@@ -167,9 +166,3 @@ module _ (p : Place) where
           due-at (optional due) (opening (h .config) (node-part h (p .nodes)) (bucket-part h (p .buckets)) .refusal)
       at Events = ten
       at Stopped = ten
-
-  -- 41 bytes say as much as all of them
-  pub short-line : (line : List ℕ) → on-line p (closed-line (take 41 line)) ≡ on-line p (closed-line line)
-  unfolding admissible
-  short-line line =
-      first-bytes 41 line (omega arith) (λ l. on-line p l) (on-line p (open-line [])) (λ l e. same-outside l (open-line []) e refl)

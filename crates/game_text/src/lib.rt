@@ -1,8 +1,8 @@
 // The text of `yardgame` (Text of game): a session whose last line is `game=N`, and the one line that is printed for it. Here: a closed line
-// at a time, over the machine of a session; `ending` has what is printed at the end, `stream` a whole input one byte at a time. Nothing is
+// at a time, over the machine of a session; `ending` has what is printed at the end, `program` a whole input over standard input. Nothing is
 // printed before the end.
 pub mod ending;
-pub mod stream;
+pub mod program;
 
 use session::Decimal;
 use session::Header;

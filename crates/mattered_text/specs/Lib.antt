@@ -1,5 +1,5 @@
-pub mod Reading
 pub mod KeptEvents
 pub mod LinesVerdict
-pub mod Stream
-pub mod StreamVerdict
+pub mod OutsideLines
+pub mod Program
+pub mod Reading

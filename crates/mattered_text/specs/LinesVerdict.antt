@@ -5,6 +5,7 @@ use mathlib.Core.Path.{_≡_, refl, sym, ap, _∙_}
 use mathlib.Core.List.{List, [], _∷_, _++_, append-assoc, append-nil}
 use mathlib.Core.Bool.{Bool, true, false, not, _&&_}
 use native.Mathlib.Omega.{arith}
+use borrow.Author.Tests.{not-true}
 use lib.Dec.{eqb}
 use lib.ListN.{length}
 use Rattle.spec.specs.declared.Call.{Call}
@@ -81,7 +82,7 @@ module _ (h : Header) where
   opened = session-opening h
 
   -- one was outside the grammar
-  outside-answered : (ls : List InputLine) (n : ℕ) (w : List ℕ) → answered (place (standing Events h true n) w) ls ≡ opened-says opened true []
+  pub outside-answered : (ls : List InputLine) (n : ℕ) (w : List ℕ) → answered (place (standing Events h true n) w) ls ≡ opened-says opened true []
   unfolding after-lines on-line after-line after-event is-event said-at-end header-complete opened-says
   outside-answered [] n w = refl
   outside-answered (l ∷ ls) n w = go (λ m v. outside-answered ls m v) (parse-event-line l)
@@ -91,6 +92,23 @@ module _ (h : Header) where
       go ih (Start k call tag) = ih _ _
       go ih (Step k) = ih _ _
       go ih Outside = ih _ _
+
+  -- the opening was refused
+  module _ (r : not (eqb (opened .refusal) 0) ≡ true) where
+    pub refused-answered : (ls : List InputLine) (outside : Bool) (n : ℕ) (w : List ℕ)
+        → answered (place (standing Events h outside n) w) ls ≡ Refused (opened .refusal)
+    unfolding after-lines on-line after-line after-event said-at-end header-complete opened-says opened-events-verdict
+    refused-answered [] true n w = rw (not-true (eqb (opened .refusal) 0) r)
+    refused-answered [] false n w = rw (not-true (eqb (opened .refusal) 0) r)
+    refused-answered (l ∷ ls) outside n w = go (λ o m v. refused-answered ls o m v) (is-event (parse-event-line l))
+      where
+        x : EventLine
+        x = parse-event-line l
+
+        go : ((o : Bool) (m : ℕ) (v : List ℕ) → answered (place (standing Events h o m) v) ls ≡ Refused (opened .refusal)) → (b : Bool)
+            → answered (place (after-event b h outside n) (stored w n (event-words x))) ls ≡ Refused (opened .refusal)
+        go ih true = ih _ _ _
+        go ih false = ih _ _ _
 
   -- none was so far
   abbrev Answers : List InputLine → Type 0
@@ -126,10 +144,12 @@ opened-answered : (h : Header) (ls : List InputLine) (w : List ℕ) → 1024 ≤
     → answered (place (standing Events h false 0) w) ls ≡ opened-verdict (session-opening h) ls
 opened-answered h ls w fits = events-answered h ls 0 w [] (keeps-none w fits) ∙ says-lines (session-opening h) ls
 
-stopped-answered : (h : Header) (ls : List InputLine) (w : List ℕ) → answered (place (standing Stopped h false 0) w) ls ≡ Refused 10
+-- whatever was counted and kept
+pub stopped-answered : (h : Header) (ls : List InputLine) (outside : Bool) (n : ℕ) (w : List ℕ)
+    → answered (place (standing Stopped h outside n) w) ls ≡ Refused 10
 unfolding after-lines on-line after-line said-at-end header-complete
-stopped-answered h [] w = refl
-stopped-answered h (l ∷ ls) w = stopped-answered h ls _
+stopped-answered h [] outside n w = refl
+stopped-answered h (l ∷ ls) outside n w = stopped-answered h ls outside n _
 
 -- what is said of header lines
 abbrev Headed : List InputLine → Type 0
@@ -160,7 +180,7 @@ header-answered (l ∷ ls) due h w fits = go (header-answered ls) (header-step d
     go ih (Next due' h') = ih due' h' next next-fits
     go ih (Complete h') = opened-answered h' ls next next-fits
     go ih (Absent h') = opened-answered h' (l ∷ ls) w fits
-    go ih Missing = stopped-answered h ls next
+    go ih Missing = stopped-answered h ls false 0 next
 
 pub lines-give-verdict : (w : List ℕ) → 1024 ≤ length w → (ls : List InputLine) → answered (place new-standing w) ls ≡ lines-verdict ls
 unfolding new-standing lines-verdict read-header

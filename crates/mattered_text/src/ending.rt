@@ -38,6 +38,16 @@ fn header_complete(phase: Phase) -> bool
     }
 }
 
+// The refusal of the opening, 0 for none. Writes nothing.
+pub fn header_refusal(h: Header) -> u32
+    ensures { λ r. ⌜ r ≡ session-opening h .refusal ⌝ }
+{
+    let config = h.config;
+    let a = session_pools::node_extent(h.nodes, 2176);
+    let b = session_pools::bucket_extent(h.buckets, 13200);
+    opening::refusal(config, a, b)
+}
+
 // After a complete header, with n events: the opening's own number; else 10 if a line was outside the grammar; else what the events say.
 fn judge(
     h: Header,
@@ -50,17 +60,16 @@ fn judge(
     requires { ⌜ (2176 ≤ length (now ns)) × (13200 ≤ length (now bs)) ⌝ }
     ensures { λ r. ⌜ r ≡ opened-says (session-opening h) outside (events-of n (now (events .entry))) ⌝ }
 {
-    let a = session_pools::node_extent(h.nodes, ns.len());
-    let b = session_pools::bucket_extent(h.buckets, bs.len());
-    let config = h.config;
     if outside {
-        let o = opening::open(config, &mut ns[..a], &mut bs[..b]);
-        let why = o.refusal;
+        let why = header_refusal(h);
         if why != 0 {
             return Verdict::Refused(why);
         }
         return Verdict::Refused(10);
     }
+    let a = session_pools::node_extent(h.nodes, ns.len());
+    let b = session_pools::bucket_extent(h.buckets, bs.len());
+    let config = h.config;
     mattered_run::earliest(config, &mut ns[..a], &mut bs[..b], events, n)
 }
 

@@ -8,24 +8,6 @@ use Rattle.game_text.proofs.Laws.{event-at}
 use Rattle.game_text.proofs.event_line.Statement.{statement}
 use Rattle.game_text.proofs.event_line.Tie as tie
 
-slice-aggregate-handle-line : tie.Need-slice-aggregate-handle-line
-slice-aggregate-handle-line c = search needs
-
-handle-line-requires : tie.Need-handle-line-requires
-handle-line-requires c κs = search needs
-
-reads-events-requires : tie.Need-reads-events-requires
-reads-events-requires c κs = search needs
-
-stands-requires : tie.Need-stands-requires
-stands-requires c κs = search needs
-
-same-length : tie.Need-same-length
-same-length c = search needs
-
-same-length-2 : tie.Need-same-length-2
-same-length-2 c = search needs
-
 returns : tie.Need-returns
 unfolding take-event
 returns c =
@@ -36,15 +18,6 @@ returns c =
     let b = at-reads-events .reads-events in
     event-at _ (d .result) _ _ _ _ (d .ensures) (b .result) (b .ensures) 0 (sym (ap (λ (x : Bool). if x then 0 else 10) (at-if1 .if1 .taken)))
     _ (c .stands .ensures)
-
-stands-requires-2 : tie.Need-stands-requires-2
-stands-requires-2 c κs = search needs
-
-same-length-3 : tie.Need-same-length-3
-same-length-3 c = search needs
-
-same-length-4 : tie.Need-same-length-4
-same-length-4 c = search needs
 
 returns-2 : tie.Need-returns-2
 unfolding take-event
@@ -61,14 +34,14 @@ pub event-line-spec : {M : Type 1} → statement M
 event-line-spec =
     tie.close
     (tie.spec
-    slice-aggregate-handle-line
-    handle-line-requires
-    reads-events-requires
-    stands-requires
-    same-length
-    same-length-2
+    (λ c. search needs)
+    (λ c κs. search needs)
+    (λ c κs. search needs)
+    (λ c κs. search needs)
+    (λ c. search needs)
+    (λ c. search needs)
     returns
-    stands-requires-2
-    same-length-3
-    same-length-4
+    (λ c κs. search needs)
+    (λ c. search needs)
+    (λ c. search needs)
     returns-2)

@@ -7,33 +7,6 @@ use Rattle.game_text.proofs.Laws.{says, next-at, not-opened-at, opened-
 use Rattle.game_text.proofs.header_line.Statement.{statement}
 use Rattle.game_text.proofs.header_line.Tie as tie
 
-header-line-requires : tie.Need-header-line-requires
-header-line-requires c κs = search needs
-
-enum-known-next : tie.Need-enum-known-next
-enum-known-next c = search needs
-
-stands-requires : tie.Need-stands-requires
-stands-requires c κs = search needs
-
-enum-known-h : tie.Need-enum-known-h
-enum-known-h c = search needs
-
-open-machine-requires : tie.Need-open-machine-requires
-open-machine-requires c κs = search needs
-
-enum-known-h-2 : tie.Need-enum-known-h-2
-enum-known-h-2 c = search needs
-
-open-machine-requires-2 : tie.Need-open-machine-requires-2
-open-machine-requires-2 c κs = search needs
-
-same-length : tie.Need-same-length
-same-length c = search needs
-
-same-length-2 : tie.Need-same-length-2
-same-length-2 c = search needs
-
 returns : tie.Need-returns
 unfolding header-taken
 returns c =
@@ -44,15 +17,6 @@ returns c =
     says _ _ (sym (at-header-line .header-line .ensures) ∙ at-h2 .h2 .given .1) _ _ _ _ _
     (not-opened-at _ _ (o .result) _ _ (o .ensures) (c .if1 .taken))
 
-turn-line-requires : tie.Need-turn-line-requires
-turn-line-requires c κs = search needs
-
-enum-told : tie.Need-enum-told
-enum-told c = search needs
-
-outside-requires : tie.Need-outside-requires
-outside-requires c κs = search needs
-
 returns-2 : tie.Need-returns-2
 returns-2 c =
     let at-next = c .before .before .before in
@@ -62,12 +26,6 @@ returns-2 c =
     says _ _ (sym (at-header-line .header-line .ensures) ∙ at-next .next .given .1) _ _ _ _ _
     (next-at (a .t) (now (a .ns)) (now (a .bs)) _ _ _ _ (c .stands .ensures))
 
-same-length-3 : tie.Need-same-length-3
-same-length-3 c = search needs
-
-same-length-4 : tie.Need-same-length-4
-same-length-4 c = search needs
-
 returns-3 : tie.Need-returns-3
 unfolding header-taken
 returns-3 c =
@@ -75,12 +33,6 @@ returns-3 c =
     let at-h = at-open-machine .before .before .before .before in
     let at-header-line = at-h .before .before in
     says _ _ (sym (at-header-line .header-line .ensures) ∙ at-h .h .given .1) _ _ _ _ _ (at-open-machine .open-machine .ensures)
-
-same-length-5 : tie.Need-same-length-5
-same-length-5 c = search needs
-
-same-length-6 : tie.Need-same-length-6
-same-length-6 c = search needs
 
 returns-4 : tie.Need-returns-4
 unfolding header-taken
@@ -108,24 +60,24 @@ pub header-line-spec : {M : Type 1} → statement M
 header-line-spec =
     tie.close
     (tie.spec
-    header-line-requires
-    enum-known-next
-    stands-requires
-    enum-known-h
-    open-machine-requires
-    enum-known-h-2
-    open-machine-requires-2
-    same-length
-    same-length-2
+    (λ c κs. search needs)
+    (λ c. search needs)
+    (λ c κs. search needs)
+    (λ c. search needs)
+    (λ c κs. search needs)
+    (λ c. search needs)
+    (λ c κs. search needs)
+    (λ c. search needs)
+    (λ c. search needs)
     returns
-    turn-line-requires
-    enum-told
-    outside-requires
+    (λ c κs. search needs)
+    (λ c. search needs)
+    (λ c κs. search needs)
     returns-2
-    same-length-3
-    same-length-4
+    (λ c. search needs)
+    (λ c. search needs)
     returns-3
-    same-length-5
-    same-length-6
+    (λ c. search needs)
+    (λ c. search needs)
     returns-4
     returns-5)

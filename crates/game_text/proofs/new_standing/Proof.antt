@@ -7,12 +7,6 @@ use Rattle.game_text.specs.Reading.{standing, new-standing}
 use Rattle.game_text.proofs.new_standing.Statement.{statement}
 use Rattle.game_text.proofs.new_standing.Tie as tie
 
-new-session-requires : tie.Need-new-session-requires
-new-session-requires c κs = search needs
-
-stands-requires : tie.Need-stands-requires
-stands-requires c κs = search needs
-
 returns : tie.Need-returns
 unfolding new-standing
 returns c =
@@ -23,6 +17,6 @@ pub new-standing-spec : {M : Type 1} → statement M
 new-standing-spec =
     tie.close
     (tie.spec
-    new-session-requires
-    stands-requires
+    (λ c κs. search needs)
+    (λ c κs. search needs)
     returns)

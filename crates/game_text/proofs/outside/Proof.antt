@@ -4,9 +4,6 @@ use Rattle.game_text.specs.Reading.{refused-with}
 use Rattle.game_text.proofs.outside.Statement.{statement}
 use Rattle.game_text.proofs.outside.Tie as tie
 
-stands-requires : tie.Need-stands-requires
-stands-requires c κs = search needs
-
 returns : tie.Need-returns
 unfolding refused-with
 returns c = c .stands .ensures
@@ -15,5 +12,5 @@ pub outside-spec : {M : Type 1} → statement M
 outside-spec =
     tie.close
     (tie.spec
-    stands-requires
+    (λ c κs. search needs)
     returns)

@@ -12,30 +12,6 @@ returns c =
     let entry = c .before .before .before .before .before in
     let a = entry .args in refused-at (a .t) (now (a .ns)) (now (a .bs)) _ (c .if1 .taken)
 
-enum-known-phase : tie.Need-enum-known-phase
-enum-known-phase c = search needs
-
-header-line-requires : tie.Need-header-line-requires
-header-line-requires c κs = search needs
-
-enum-told : tie.Need-enum-told
-enum-told c = search needs
-
-turn-line-requires : tie.Need-turn-line-requires
-turn-line-requires c κs = search needs
-
-enum-told-2 : tie.Need-enum-told-2
-enum-told-2 c = search needs
-
-outside-requires : tie.Need-outside-requires
-outside-requires c κs = search needs
-
-same-length : tie.Need-same-length
-same-length c = search needs
-
-same-length-2 : tie.Need-same-length-2
-same-length-2 c = search needs
-
 returns-2 : tie.Need-returns-2
 unfolding phase-taken
 returns-2 c =
@@ -46,12 +22,6 @@ returns-2 c =
     let a = entry .args in
     let told = at-phase .phase .given in
     phase-at (a .t) (now (a .ns)) (now (a .bs)) _ (at-if1 .if1 .left) (Due (told .0 .0)) (told .1) _ _ _ (at-header-line .header-line .ensures)
-
-same-length-3 : tie.Need-same-length-3
-same-length-3 c = search needs
-
-same-length-4 : tie.Need-same-length-4
-same-length-4 c = search needs
 
 returns-3 : tie.Need-returns-3
 unfolding phase-taken
@@ -78,16 +48,16 @@ take-line-spec =
     tie.close
     (tie.spec
     returns
-    enum-known-phase
-    header-line-requires
-    enum-told
-    turn-line-requires
-    enum-told-2
-    outside-requires
-    same-length
-    same-length-2
+    (λ c. search needs)
+    (λ c κs. search needs)
+    (λ c. search needs)
+    (λ c κs. search needs)
+    (λ c. search needs)
+    (λ c κs. search needs)
+    (λ c. search needs)
+    (λ c. search needs)
     returns-2
-    same-length-3
-    same-length-4
+    (λ c. search needs)
+    (λ c. search needs)
     returns-3
     returns-4)

@@ -5,33 +5,6 @@ use Rattle.game_text.proofs.Laws.{game-at, no-game-at, after-game-at}
 use Rattle.game_text.proofs.turn_line.Statement.{statement}
 use Rattle.game_text.proofs.turn_line.Tie as tie
 
-enum-told : tie.Need-enum-told
-enum-told c = search needs
-
-slice-aggregate-header-number : tie.Need-slice-aggregate-header-number
-slice-aggregate-header-number c = search needs
-
-header-number-requires : tie.Need-header-number-requires
-header-number-requires c κs = search needs
-
-enum-known-n : tie.Need-enum-known-n
-enum-known-n c = search needs
-
-stands-requires : tie.Need-stands-requires
-stands-requires c κs = search needs
-
-enum-told-2 : tie.Need-enum-told-2
-enum-told-2 c = search needs
-
-event-line-requires : tie.Need-event-line-requires
-event-line-requires c κs = search needs
-
-enum-told-3 : tie.Need-enum-told-3
-enum-told-3 c = search needs
-
-outside-requires : tie.Need-outside-requires
-outside-requires c κs = search needs
-
 returns : tie.Need-returns
 returns c =
     let at-n = c .before .before .before in
@@ -42,12 +15,6 @@ returns c =
     game-at (a .t) (now (a .ns)) (now (a .bs)) _ (at-enum-told .enum-told .given .1) (at-header-number .header-number .result)
     (at-header-number .header-number .ensures)
     (at-n .n .given .0 .0) (at-n .n .given .1) _ (c .stands .ensures)
-
-same-length : tie.Need-same-length
-same-length c = search needs
-
-same-length-2 : tie.Need-same-length-2
-same-length-2 c = search needs
 
 returns-2 : tie.Need-returns-2
 returns-2 c =
@@ -71,17 +38,17 @@ pub turn-line-spec : {M : Type 1} → statement M
 turn-line-spec =
     tie.close
     (tie.spec
-    enum-told
-    slice-aggregate-header-number
-    header-number-requires
-    enum-known-n
-    stands-requires
-    enum-told-2
-    event-line-requires
-    enum-told-3
-    outside-requires
+    (λ c. search needs)
+    (λ c. search needs)
+    (λ c κs. search needs)
+    (λ c. search needs)
+    (λ c κs. search needs)
+    (λ c. search needs)
+    (λ c κs. search needs)
+    (λ c. search needs)
+    (λ c κs. search needs)
     returns
-    same-length
-    same-length-2
+    (λ c. search needs)
+    (λ c. search needs)
     returns-2
     returns-3)

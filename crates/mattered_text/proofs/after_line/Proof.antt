@@ -4,24 +4,6 @@ use borrow.Author.Needs.{needs}
 use Rattle.mattered_text.proofs.after_line.Statement.{statement}
 use Rattle.mattered_text.proofs.after_line.Tie as tie
 
-enum-known-phase : tie.Need-enum-known-phase
-enum-known-phase c = search needs
-
-header-line-requires : tie.Need-header-line-requires
-header-line-requires c κs = search needs
-
-after-header-requires : tie.Need-after-header-requires
-after-header-requires c κs = search needs
-
-enum-told : tie.Need-enum-told
-enum-told c = search needs
-
-after-event-requires : tie.Need-after-event-requires
-after-event-requires c κs = search needs
-
-enum-told-2 : tie.Need-enum-told-2
-enum-told-2 c = search needs
-
 returns : tie.Need-returns
 unfolding after-line
 returns c =
@@ -44,12 +26,12 @@ pub after-line-spec : {M : Type 1} → statement M
 after-line-spec =
     tie.close
     (tie.spec
-    enum-known-phase
-    header-line-requires
-    after-header-requires
-    enum-told
-    after-event-requires
-    enum-told-2
+    (λ c. search needs)
+    (λ c κs. search needs)
+    (λ c κs. search needs)
+    (λ c. search needs)
+    (λ c κs. search needs)
+    (λ c. search needs)
     returns
     returns-2
     returns-3)

@@ -4,18 +4,6 @@ use borrow.Author.Needs.{needs}
 use Rattle.mattered_text.proofs.event_words.Statement.{statement}
 use Rattle.mattered_text.proofs.event_words.Tie as tie
 
-enum-known-x : tie.Need-enum-known-x
-enum-known-x c = search needs
-
-call-number-requires : tie.Need-call-number-requires
-call-number-requires c κs = search needs
-
-enum-known-x-2 : tie.Need-enum-known-x-2
-enum-known-x-2 c = search needs
-
-enum-told : tie.Need-enum-told
-enum-told c = search needs
-
 returns : tie.Need-returns
 unfolding event-words
 returns c =
@@ -37,10 +25,10 @@ pub event-words-spec : {M : Type 1} → statement M
 event-words-spec =
     tie.close
     (tie.spec
-    enum-known-x
-    call-number-requires
-    enum-known-x-2
-    enum-told
+    (λ c. search needs)
+    (λ c κs. search needs)
+    (λ c. search needs)
+    (λ c. search needs)
     returns
     returns-2
     returns-3)

@@ -4,15 +4,6 @@ use borrow.Author.Needs.{needs}
 use Rattle.mattered_text.proofs.is_event.Statement.{statement}
 use Rattle.mattered_text.proofs.is_event.Tie as tie
 
-enum-told : tie.Need-enum-told
-enum-told c = search needs
-
-enum-told-2 : tie.Need-enum-told-2
-enum-told-2 c = search needs
-
-enum-told-3 : tie.Need-enum-told-3
-enum-told-3 c = search needs
-
 returns : tie.Need-returns
 unfolding is-event
 returns c =
@@ -29,4 +20,4 @@ returns-3 c =
     rw (c .enum-told3 .given .1)
 
 pub is-event-spec : {M : Type 1} → statement M
-is-event-spec = tie.close (tie.spec enum-told enum-told-2 enum-told-3 returns returns-2 returns-3)
+is-event-spec = tie.close (tie.spec (λ c. search needs) (λ c. search needs) (λ c. search needs) returns returns-2 returns-3)

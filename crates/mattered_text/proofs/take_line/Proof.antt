@@ -9,24 +9,6 @@ use borrow.Author.Needs.{needs}
 use Rattle.mattered_text.proofs.take_line.Statement.{statement}
 use Rattle.mattered_text.proofs.take_line.Tie as tie
 
-event-line-requires : tie.Need-event-line-requires
-event-line-requires c κs = search needs
-
-event-words-requires : tie.Need-event-words-requires
-event-words-requires c κs = search needs
-
-store-requires : tie.Need-store-requires
-store-requires c κs = search needs
-
-is-event-requires : tie.Need-is-event-requires
-is-event-requires c κs = search needs
-
-after-line-requires : tie.Need-after-line-requires
-after-line-requires c κs = search needs
-
-same-length : tie.Need-same-length
-same-length c = search needs
-
 returns : tie.Need-returns
 unfolding on-line
 returns c =
@@ -48,10 +30,10 @@ pub take-line-spec : {M : Type 1} → statement M
 take-line-spec =
     tie.close
     (tie.spec
-    event-line-requires
-    event-words-requires
-    store-requires
-    is-event-requires
-    after-line-requires
-    same-length
+    (λ c κs. search needs)
+    (λ c κs. search needs)
+    (λ c κs. search needs)
+    (λ c κs. search needs)
+    (λ c κs. search needs)
+    (λ c. search needs)
     returns)

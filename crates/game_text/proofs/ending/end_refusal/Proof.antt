@@ -13,15 +13,6 @@ returns c =
     let a = c .before .before .before .before .args in
     refused-before (a .t) (now (a .ns)) (now (a .bs)) (c .if1 .taken)
 
-enum-known-phase : tie.Need-enum-known-phase
-enum-known-phase c = search needs
-
-optional-requires : tie.Need-optional-requires
-optional-requires c κs = search needs
-
-judge-opening-requires : tie.Need-judge-opening-requires
-judge-opening-requires c κs = search needs
-
 returns-2 : tie.Need-returns-2
 unfolding phase-refusal
 returns-2 c =
@@ -32,12 +23,6 @@ returns-2 c =
     let a = at-if1 .before .before .before .before .args in
     refused-in (a .t) (now (a .ns)) (now (a .bs)) (at-if1 .if1 .left) (Due (at-phase .phase .given .0 .0)) (at-phase .phase .given .1) _
     (rw (sym (at-optional .optional .ensures) ∙ at-if2 .if2 .taken) (c .judge-opening .ensures))
-
-enum-told : tie.Need-enum-told
-enum-told c = search needs
-
-enum-told-2 : tie.Need-enum-told-2
-enum-told-2 c = search needs
 
 returns-3 : tie.Need-returns-3
 unfolding phase-refusal
@@ -68,12 +53,12 @@ end-refusal-spec =
     tie.close
     (tie.spec
     returns
-    enum-known-phase
-    optional-requires
-    judge-opening-requires
+    (λ c. search needs)
+    (λ c κs. search needs)
+    (λ c κs. search needs)
     returns-2
-    enum-told
-    enum-told-2
+    (λ c. search needs)
+    (λ c. search needs)
     returns-3
     returns-4
     returns-5)

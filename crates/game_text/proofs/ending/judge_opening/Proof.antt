@@ -5,15 +5,6 @@ use Rattle.game_text.proofs.Laws.{judged-refused, judged-accepted}
 use Rattle.game_text.proofs.ending.judge_opening.Statement.{statement}
 use Rattle.game_text.proofs.ending.judge_opening.Tie as tie
 
-node-extent-requires : tie.Need-node-extent-requires
-node-extent-requires c κs = search needs
-
-bucket-extent-requires : tie.Need-bucket-extent-requires
-bucket-extent-requires c κs = search needs
-
-refusal-requires : tie.Need-refusal-requires
-refusal-requires c κs = search needs
-
 returns : tie.Need-returns
 returns c =
     let at-refusal = c .before in
@@ -36,8 +27,8 @@ pub judge-opening-spec : {M : Type 1} → statement M
 judge-opening-spec =
     tie.close
     (tie.spec
-    node-extent-requires
-    bucket-extent-requires
-    refusal-requires
+    (λ c κs. search needs)
+    (λ c κs. search needs)
+    (λ c κs. search needs)
     returns
     returns-2)

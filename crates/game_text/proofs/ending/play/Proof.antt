@@ -7,44 +7,17 @@ use Rattle.game_text.proofs.Laws.{part-played}
 use Rattle.game_text.proofs.ending.play.Statement.{statement}
 use Rattle.game_text.proofs.ending.play.Tie as tie
 
-node-extent-requires : tie.Need-node-extent-requires
-node-extent-requires c κs = search needs
-
-bucket-extent-requires : tie.Need-bucket-extent-requires
-bucket-extent-requires c κs = search needs
-
-slice-relend-prefix-game : tie.Need-slice-relend-prefix-game
-slice-relend-prefix-game c = search needs
-
 slice-aggregate-game : tie.Need-slice-aggregate-game
 slice-aggregate-game c =
     let at-node-extent = c .before .before .before in
     let entry = at-node-extent .before .before .before .before .before in
     sym (length-take-le (at-node-extent .node-extent .result) (now (entry .args .ns)) (at-node-extent .node-extent .ensures .1))
 
-slice-relend-prefix-game-2 : tie.Need-slice-relend-prefix-game-2
-slice-relend-prefix-game-2 c = search needs
-
 slice-aggregate-game-2 : tie.Need-slice-aggregate-game-2
 slice-aggregate-game-2 c =
     let at-bucket-extent = c .before .before .before in
     let entry = at-bucket-extent .before .before .before .before .before .before in
     sym (length-take-le (at-bucket-extent .bucket-extent .result) (now (entry .args .bs)) (at-bucket-extent .bucket-extent .ensures .1))
-
-game-requires : tie.Need-game-requires
-game-requires c κs = search needs
-
-print-requires : tie.Need-print-requires
-print-requires c κs = search needs
-
-same-length : tie.Need-same-length
-same-length c = search needs
-
-same-length-2 : tie.Need-same-length-2
-same-length-2 c = search needs
-
-same-length-3 : tie.Need-same-length-3
-same-length-3 c = search needs
 
 returns : tie.Need-returns
 returns c =
@@ -64,15 +37,15 @@ pub play-spec : {M : Type 1} → statement M
 play-spec =
     tie.close
     (tie.spec
-    node-extent-requires
-    bucket-extent-requires
-    slice-relend-prefix-game
+    (λ c κs. search needs)
+    (λ c κs. search needs)
+    (λ c. search needs)
     slice-aggregate-game
-    slice-relend-prefix-game-2
+    (λ c. search needs)
     slice-aggregate-game-2
-    game-requires
-    print-requires
-    same-length
-    same-length-2
-    same-length-3
+    (λ c κs. search needs)
+    (λ c κs. search needs)
+    (λ c. search needs)
+    (λ c. search needs)
+    (λ c. search needs)
     returns)

@@ -4,18 +4,6 @@ use borrow.Author.Needs.{needs}
 use Rattle.mattered_text.proofs.ending.header_complete.Statement.{statement}
 use Rattle.mattered_text.proofs.ending.header_complete.Tie as tie
 
-enum-known-phase : tie.Need-enum-known-phase
-enum-known-phase c = search needs
-
-optional-requires : tie.Need-optional-requires
-optional-requires c κs = search needs
-
-enum-told : tie.Need-enum-told
-enum-told c = search needs
-
-enum-told-2 : tie.Need-enum-told-2
-enum-told-2 c = search needs
-
 returns : tie.Need-returns
 unfolding header-complete
 returns c =
@@ -35,4 +23,4 @@ returns-3 c =
 pub header-complete-spec : {M : Type 1} → statement M
 header-complete-spec =
     tie.close
-    (tie.spec enum-known-phase optional-requires enum-told enum-told-2 returns returns-2 returns-3)
+    (tie.spec (λ c. search needs) (λ c κs. search needs) (λ c. search needs) (λ c. search needs) returns returns-2 returns-3)

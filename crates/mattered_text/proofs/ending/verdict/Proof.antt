@@ -7,30 +7,12 @@ use borrow.Author.Needs.{needs}
 use Rattle.mattered_text.proofs.ending.verdict.Statement.{statement}
 use Rattle.mattered_text.proofs.ending.verdict.Tie as tie
 
-header-complete-requires : tie.Need-header-complete-requires
-header-complete-requires c κs = search needs
-
 returns : tie.Need-returns
 returns c =
     let at-header-complete = c .before in
     let entry = at-header-complete .before .before in
     let a = entry .args in
     said-incomplete (a .closed) (a .t) (now (a .events)) (sym (at-header-complete .header-complete .ensures) ∙ not-true _ (c .if1 .taken))
-
-node-words-requires : tie.Need-node-words-requires
-node-words-requires c κs = search needs
-
-bucket-words-requires : tie.Need-bucket-words-requires
-bucket-words-requires c κs = search needs
-
-slice-aggregate-judge : tie.Need-slice-aggregate-judge
-slice-aggregate-judge c = search needs
-
-slice-aggregate-judge-2 : tie.Need-slice-aggregate-judge-2
-slice-aggregate-judge-2 c = search needs
-
-judge-requires : tie.Need-judge-requires
-judge-requires c κs = search needs
 
 returns-2 : tie.Need-returns-2
 returns-2 c =
@@ -46,11 +28,11 @@ pub verdict-spec : {M : Type 1} → statement M
 verdict-spec =
     tie.close
     (tie.spec
-    header-complete-requires
+    (λ c κs. search needs)
     returns
-    node-words-requires
-    bucket-words-requires
-    slice-aggregate-judge
-    slice-aggregate-judge-2
-    judge-requires
+    (λ c κs. search needs)
+    (λ c κs. search needs)
+    (λ c. search needs)
+    (λ c. search needs)
+    (λ c κs. search needs)
     returns-2)
