@@ -1,25 +1,21 @@
--- The recorder over lent pools: what a line, a byte and the end of the input do, and what is written for them. These are the definitions
--- that the code is held to; that they write the recording is shown in WritesRecording. Assumes nothing.
+-- The recorder over lent pools: what a line and the end of the input do, and what is written for them. These are the definitions that the code
+-- is held to; that they write the recording is shown in WritesRecording. Assumes nothing.
 use Prim.Native.Nat.{ℕ}
 use mathlib.Core.Path.{_≡_}
 use mathlib.Core.List.{List, [], _∷_, _++_}
 use mathlib.Core.Bool.{Bool, true, false}
-use lib.Dec.{eqb}
 use Rattle.spec.specs.Lists.{if_then_else_}
 use Rattle.session.specs.declared.Header.{Header}
 use Rattle.session.specs.declared.HeaderStep.{HeaderStep}
 use Rattle.session.specs.declared.HeaderStep.the-variants.{Next, Complete, Absent, Missing}
-use Rattle.session.specs.Buffer.{buffer, append, Written}
+use Rattle.session.specs.Buffer.{buffer, append}
 use Rattle.session.specs.Grammar.{InputLine, closed-line, parse-event-line}
 use Rattle.session.specs.Header.{optional, header-step}
-use Rattle.session.specs.Keys.{newline}
 use Rattle.session.specs.Transcript.{is-event}
 use Rattle.session_state.specs.declared.Phase.{Phase}
 use Rattle.session_state.specs.declared.Phase.the-variants.{Due, Events, Stopped}
 use Rattle.session_state.specs.declared.Session.{Session}
-use Rattle.partial_line.specs.declared.PartialLine.{PartialLine}
 use Rattle.session_state.specs.Handling.{session, new-session, LineEffect, pools-kept, stopped, silent, open-then, line-effect, end-effect}
-use Rattle.partial_line.specs.PartialLines.{partial, empty-line, line-bytes, pushed}
 use Rattle.recording.specs.Recording.{close}
 use Rattle.recorder_lines.specs.declared.KeptLines.{KeptLines}
 use Rattle.recorder.specs.declared.Recorder.{Recorder}
@@ -70,78 +66,60 @@ recorded-end (Due due) k s ns bs =
 recorded-end Events k s ns bs = end-effect s ns bs
 recorded-end Stopped k s ns bs = silent s ns bs
 
--- ---- the recorder
+-- ---- the recorder between two lines
 
-abbrev pub recorder : Session → KeptLines → PartialLine → Recorder
-recorder s k h = record { session = s; kept = k; line = h }
+abbrev pub recorder : Session → KeptLines → Recorder
+recorder s k = record { session = s; kept = k }
 
 unfoldable pub new-recorder : Recorder
-new-recorder = recorder new-session no-lines empty-line
+new-recorder = recorder new-session no-lines
 
 abbrev pub recorded : Recorder → ℕ → Recorded
 recorded r n = record { recorder = r; written = n }
 
--- where it stands, what the lent pools hold, and what is written so far
-pub record RecordEffect : Type 0 where
+-- where it stands, what the lent pools hold, and all that is written so far
+pub record Progress : Type 0 where
   pub recorder : Recorder
   pub nodes : List ℕ
   pub buckets : List ℕ
   pub writes : List ℕ
 
-abbrev pub effect : Recorder → List ℕ → List ℕ → List ℕ → RecordEffect
-effect r ns bs writes = record { recorder = r; nodes = ns; buckets = bs; writes = writes }
+abbrev pub progress : Recorder → List ℕ → List ℕ → List ℕ → Progress
+progress r ns bs writes = record { recorder = r; nodes = ns; buckets = bs; writes = writes }
 
-abbrev pub begin : Recorder → List ℕ → List ℕ → RecordEffect
-begin r ns bs = effect r ns bs []
+abbrev pub begin : Recorder → List ℕ → List ℕ → Progress
+begin r ns bs = progress r ns bs []
 
--- the end of the input, also after a last line that is not closed: it gives 10 and is left out
+-- a line: what it does and what is kept then
+abbrev pub line-of : Progress → InputLine → LineEffect
+line-of p l = recorded-line l (p .recorder .kept) (p .recorder .session) (p .nodes) (p .buckets)
+
+unfoldable pub then-line : Progress → InputLine → Progress
+then-line p l =
+    let d = line-of p l in
+    progress (recorder (d .session) (kept-after (p .recorder .session .phase) (p .recorder .kept) (l .bytes))) (d .nodes) (d .buckets) (p .writes ++ d .prints)
+
+-- the bytes of one closed line
+unfoldable pub take-line : Progress → List ℕ → Progress
+take-line p line = then-line p (closed-line line)
+
+-- the end of the input
 unfoldable pub record-end : Recorder → List ℕ → List ℕ → LineEffect
 record-end r ns bs = recorded-end (r .session .phase) (r .kept) (r .session) ns bs
 
--- a line is closed: what it does, what is kept then, and no byte of the next line
-unfoldable pub record-closed : Recorder → List ℕ → List ℕ → RecordEffect
-record-closed r ns bs =
-    let line = line-bytes (r .line) in
-    let d = recorded-line (closed-line line) (r .kept) (r .session) ns bs in
-    let kept = kept-after (r .session .phase) (r .kept) line in
-    effect (recorder (d .session) kept (partial (r .line .bytes) 0)) (d .nodes) (d .buckets) (d .prints)
-
--- a byte: "lines of at most 40 bytes, each closed by byte 10"
-unfoldable pub record-byte : Recorder → List ℕ → List ℕ → ℕ → RecordEffect
-record-byte r ns bs x =
-    if eqb x newline then record-closed r ns bs else begin (recorder (r .session) (r .kept) (pushed (r .line) x)) ns bs
-
--- a byte more
-unfoldable pub then-byte : RecordEffect → ℕ → RecordEffect
-then-byte p x =
-    let d = record-byte (p .recorder) (p .nodes) (p .buckets) x in
-    effect (d .recorder) (d .nodes) (d .buckets) (p .writes ++ d .writes)
-
-unfoldable pub record-bytes : RecordEffect → List ℕ → RecordEffect
-record-bytes p [] = p
-record-bytes p (x ∷ xs) = record-bytes (then-byte p x) xs
-
--- a whole input over lent pools, its end, and all that is written
-unfoldable pub input-recorded : List ℕ → List ℕ → List ℕ → RecordEffect
-input-recorded input ns bs = record-bytes (begin new-recorder ns bs) input
-
-abbrev pub end-of : RecordEffect → LineEffect
+abbrev pub end-of : Progress → LineEffect
 end-of p = record-end (p .recorder) (p .nodes) (p .buckets)
 
-unfoldable pub all-written : RecordEffect → List ℕ
-all-written p = p .writes ++ end-of p .prints
+-- the lines, one after the other, and their end: all that is written
+unfoldable pub all-recorded : Progress → List InputLine → List ℕ
+all-recorded p [] = p .writes ++ end-of p .prints
+all-recorded p (l ∷ ls) = all-recorded (then-line p l) ls
 
--- ---- what the code is held to: what it gives, what it leaves in the pools, and what it appended to the buffer that held `before`
+-- ---- what the code is held to: what it gives, what it leaves in the pools, and what it appended to the buffer that held `before` from `due` on,
 -- and then holds `after`
 
-pub record RecordedAs (d : RecordEffect) (r : Recorded) (ns bs before after : List ℕ) : Type 0 where
+pub record RecordedAs (d : Progress) (r : Recorded) (ns bs : List ℕ) (due : ℕ) (before after : List ℕ) : Type 0 where
   pub next : r .recorder ≡ d .recorder
   pub nodes : ns ≡ d .nodes
   pub buckets : bs ≡ d .buckets
-  pub wrote : buffer after (r .written) ≡ append (d .writes) (buffer before 0)
-
--- a whole input over pools that held `ns` and `bs`
-pub record EndedAs (input ns bs before : List ℕ) (count : ℕ) (ns' bs' after : List ℕ) : Type 0 where
-  pub nodes : ns' ≡ end-of (input-recorded input ns bs) .nodes
-  pub buckets : bs' ≡ end-of (input-recorded input ns bs) .buckets
-  pub wrote : Written (all-written (input-recorded input ns bs)) before after count
+  pub wrote : buffer after (r .written) ≡ append (d .writes) (buffer before due)

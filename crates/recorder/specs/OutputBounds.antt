@@ -1,11 +1,11 @@
--- How many bytes are written at most: `longest-pair` for each byte of an input, and once `longest-last`, the kept header lines and the
--- final listing, whenever these come. So a caller can lend room for all of it: `bytes-bound`, `end-bound`, `output-bound`. Assumes nothing.
+-- How many bytes are written at most: `longest-pair` for each line of an input, and once `longest-last`, the kept header lines and the final
+-- listing, whenever these come. So a caller can lend room for all of it: `line-bound`, `end-bound`, `output-bound`. Assumes nothing.
 use mathlib.Core.Path.{_≡_, refl, sym, ap, subst, _∙_}
 use mathlib.Core.List.{List, [], _∷_, _++_}
 use mathlib.Core.Bool.{Bool, true, false}
-use Prim.Native.Nat.{ℕ, _+_, _*_, _≤_}
+use Prim.Native.Nat.{ℕ, zero, suc, _+_, _*_, _≤_}
 use native.Mathlib.Omega.{arith}
-use borrow.Author.Tests.{leb-true}
+use borrow.Author.Tests.{leb-true, ne-eqb}
 use lib.Dec.{eqb, leb}
 use lib.ListN.{length, replicate, length-append, length-take, length-replicate}
 use Rattle.spec.specs.declared.State.{State}
@@ -17,7 +17,7 @@ use Rattle.session.specs.declared.EventLine.the-variants.{Start, Step, Outside}
 use Rattle.session.specs.declared.Header.{Header}
 use Rattle.session.specs.declared.HeaderLine.{HeaderLine}
 use Rattle.session.specs.declared.HeaderStep.{HeaderStep}
-use Rattle.session.specs.Grammar.{InputLine, closed-line, admissible, parse-event-line}
+use Rattle.session.specs.Grammar.{InputLine, closed-line, open-line, split-lines, input-lines, admissible, parse-event-line}
 use Rattle.session.specs.Header.{optional}
 use Rattle.session.specs.Keys.{newline}
 use Rattle.session.specs.LineLaws.{outside-event}
@@ -30,19 +30,16 @@ use Rattle.session_state.specs.declared.Phase.the-variants.{Due, Events, Stoppe
 use Rattle.session_state.specs.declared.Session.{Session}
 use Rattle.session_state.specs.Handling.{session, new-session, LineEffect, pools-kept, stopped, silent, with-machine, opened-then, open-then, reply-effect}
 use Rattle.session_state.specs.Handling.{event-effect, listing-effect, phase-effect, line-effect, phase-end, end-effect}
-use Rattle.partial_line.specs.PartialLines.{empty-line, line-bytes}
-use Rattle.session_stream.specs.Stream as stream
-use Rattle.session_stream.specs.OutputBounds as session-bounds
+use Rattle.session_lines.specs.OutputBounds as session-bounds
 use Rattle.recording.specs.Recording.{close}
 use Rattle.recording.specs.Recorder.{longest-header, recorder-output}
 use Rattle.recording_laws.specs.HeaderLaws.{TakenLine, HeaderKnown, goes-on, last-taken, left-out, missing, header-known}
 use Rattle.recorder_lines.specs.declared.KeptLines.{KeptLines}
-use Rattle.recorder.specs.declared.Recorder.{Recorder}
 use Rattle.recorder_lines.specs.KeptLines.{no-lines, kept-bytes, kept-after}
 use Rattle.recorder_lines.specs.KeptBytes.{keep-length}
 use Rattle.recorder.specs.LentRecorder.{after-bytes, recorded-event, first-recorded, recorded-opening, recorded-header, recorded-phase, recorded-line}
-use Rattle.recorder.specs.LentRecorder.{recorded-end, new-recorder, RecordEffect, begin, record-end, record-closed, record-byte, then-byte}
-use Rattle.recorder.specs.LentRecorder.{record-bytes, input-recorded, all-written}
+use Rattle.recorder.specs.LentRecorder.{recorded-end, new-recorder, Progress, begin, line-of, then-line, record-end, end-of, all-recorded}
+use Rattle.recorder.specs.LineRecorder.{outside-line, end-stops}
 use Rattle.recorder.specs.WritesRecording.{writes-recording}
 
 -- an event's line, closed, and its output line
@@ -55,19 +52,19 @@ longest-last = 1816
 
 -- ---- a line: what it has written, and what may still come once
 
-unfoldable left : Phase → ℕ
-left (Due due) = longest-last
-left Events = longest-end
-left Stopped = 0
+unfoldable pub still-due : Phase → ℕ
+still-due (Due due) = longest-last
+still-due Events = longest-end
+still-due Stopped = 0
 
-left-most : (p : Phase) → left p ≤ longest-last
-unfolding left
-left-most (Due due) = omega arith
-left-most Events = omega arith
-left-most Stopped = omega arith
+pub due-most : (p : Phase) → still-due p ≤ longest-last
+unfolding still-due
+due-most (Due due) = omega arith
+due-most Events = omega arith
+due-most Stopped = omega arith
 
 abbrev Spends : LineEffect → ℕ → Type 0
-Spends d most = length (d .prints) + left (d .session .phase) ≤ most
+Spends d most = length (d .prints) + still-due (d .session .phase) ≤ most
 
 -- the bytes of an event's line
 event-short : (l : InputLine) → is-event (parse-event-line l) ≡ true → length (close (l .bytes)) ≤ 41
@@ -83,23 +80,19 @@ event-short l e = go (admissible l) refl
         let w : _≡_ {A = ℕ} 0 1 = cc in
         absurd (omega arith)
 
-end-effect-bound : (s : Session) (ns bs : List ℕ) → length (end-effect s ns bs .prints) ≤ longest-end
-unfolding stream.stream-end empty-line
-end-effect-bound s ns bs = session-bounds.end-bound (stream.begin s empty-line ns bs)
-
 module _ (h : Header) (m : State) (ns bs : List ℕ) where
   abbrev s : Session
   s = session Events h m
 
-  event-goes-on : (x : EventLine) → is-event x ≡ true → left (event-effect x s ns bs .session .phase) ≡ longest-end
-  unfolding is-event event-effect reply-effect with-machine left
+  event-goes-on : (x : EventLine) → is-event x ≡ true → still-due (event-effect x s ns bs .session .phase) ≡ longest-end
+  unfolding is-event event-effect reply-effect with-machine still-due
   event-goes-on (Start k call tag) e = refl
   event-goes-on (Step k) e = refl
   event-goes-on Outside e = let w : _≡_ {A = ℕ} 0 1 = cc in absurd (omega arith)
 
   end-spends : Spends (end-effect s ns bs) longest-end
-  unfolding end-effect phase-end listing-effect pools-kept left
-  end-spends = omega (arith, end-effect-bound s ns bs)
+  unfolding end-effect phase-end listing-effect pools-kept still-due
+  end-spends = omega (arith, session-bounds.end-bound s ns bs)
 
   event-spends : (l : InputLine) → Spends (recorded-event l s ns bs) (longest-end + longest-pair)
   unfolding recorded-event after-bytes line-effect phase-effect
@@ -111,9 +104,9 @@ module _ (h : Header) (m : State) (ns bs : List ℕ) where
           let d = event-effect (parse-event-line l) s ns bs in
           let line : length (close (l .bytes)) ≤ 41 = event-short l e in
           let printed : length (d .prints) ≤ longest-line = session-bounds.line-bound s ns bs l in
-          let on : left (d .session .phase) ≡ longest-end = event-goes-on (parse-event-line l) e in
+          let on : still-due (d .session .phase) ≡ longest-end = event-goes-on (parse-event-line l) e in
           let both : length (close (l .bytes) ++ d .prints) ≡ length (close (l .bytes)) + length (d .prints) = length-append (close (l .bytes)) (d .prints) in
-          let all : length (close (l .bytes) ++ d .prints) + left (d .session .phase) ≤ longest-end + longest-pair = omega arith in
+          let all : length (close (l .bytes) ++ d .prints) + still-due (d .session .phase) ≤ longest-end + longest-pair = omega arith in
           all
       go false e = omega (arith, end-spends)
 
@@ -124,7 +117,7 @@ module _ (h : Header) (k : KeptLines) (room : length (k .bytes) ≡ longest-head
   kept-short = omega (arith, length-take (k .len) (k .bytes), room)
 
   open-spends : (ns bs : List ℕ) → Spends (open-then h ns bs (λ s n b. after-bytes (kept-bytes k) (next s n b))) (longest-header + most)
-  unfolding open-then opened-then with-machine after-bytes left
+  unfolding open-then opened-then with-machine after-bytes still-due
   open-spends ns bs = go (eqb (o .refusal) 0)
     where
       o : Opened
@@ -141,13 +134,13 @@ module _ (h : Header) (k : KeptLines) (room : length (k .bytes) ≡ longest-head
 -- the header's last line
 own-spends : (h : Header) (l : InputLine) → TakenLine l → (m : State) (ns bs : List ℕ)
     → Spends (first-recorded true l (session Events h m) ns bs) (longest-end + longest-pair)
-unfolding first-recorded after-bytes silent pools-kept left
+unfolding first-recorded after-bytes silent pools-kept still-due
 own-spends h l t m ns bs = simp length-append (omega (arith, t .short))
 
 -- a line where a header line is due
 header-spends : (due : HeaderLine) (h : Header) (l : InputLine) (x : HeaderStep) → HeaderKnown due h l x → (k : KeptLines) (s : Session) (ns bs : List ℕ)
     → length (k .bytes) ≡ longest-header → Spends (recorded-header x k l s ns bs) (longest-last + longest-pair)
-unfolding recorded-header recorded-opening first-recorded pools-kept stopped left
+unfolding recorded-header recorded-opening first-recorded pools-kept stopped still-due
 header-spends due h l x (goes-on t e) k s ns bs room = omega arith
 header-spends due h l x (last-taken {h' = h'} t) k s ns bs room =
     omega (arith, open-spends h' k room (first-recorded true l) (longest-end + longest-pair) (own-spends h' l t) ns bs)
@@ -156,76 +149,25 @@ header-spends due h l x (left-out e) k s ns bs room =
 header-spends due h l x (missing e) k s ns bs room = omega (arith, refusal-length 10)
 
 line-spends : (p : Phase) (k : KeptLines) (l : InputLine) (s : Session) (ns bs : List ℕ) → s .phase ≡ p → length (k .bytes) ≡ longest-header
-    → Spends (recorded-phase p k l s ns bs) (left p + longest-pair)
-unfolding recorded-phase silent pools-kept left
+    → Spends (recorded-phase p k l s ns bs) (still-due p + longest-pair)
+unfolding recorded-phase silent pools-kept still-due
 line-spends (Due due) k l s ns bs e room = header-spends due (s .header) l _ (header-known due (s .header) l) k s ns bs room
 line-spends Events k l s ns bs e room =
     let same : session Events (s .header) (s .state) ≡ s = ap (λ (q : Phase). session q (s .header) (s .state)) (sym e) in
     subst (λ (t : Session). Spends (recorded-event l t ns bs) (longest-end + longest-pair)) same (event-spends (s .header) (s .state) ns bs l)
-line-spends Stopped k l s ns bs e room = omega (arith, ap left e)
+line-spends Stopped k l s ns bs e room = omega (arith, ap still-due e)
 
--- ---- the bytes of an input
-
-abbrev Room : RecordEffect → Type 0
-Room p = length (p .recorder .kept .bytes) ≡ longest-header
-
-abbrev phase-of : RecordEffect → Phase
-phase-of p = p .recorder .session .phase
-
-kept-room : (p : Phase) (k : KeptLines) (line : List ℕ) → length (kept-after p k line .bytes) ≡ length (k .bytes)
-unfolding kept-after
-kept-room (Due due) k line = keep-length k line
-kept-room Events k line = refl
-kept-room Stopped k line = refl
-
--- a byte spends no more, and what is kept has room again
-record ByteSpends (p q : RecordEffect) : Type 0 where
-  room : Room q
-  spends : length (q .writes) + left (phase-of q) ≤ length (p .writes) + left (phase-of p) + longest-pair
-
-byte-spends : (p : RecordEffect) (x : ℕ) → Room p → ByteSpends p (then-byte p x)
-unfolding then-byte record-byte record-closed recorded-line
-byte-spends p x room = go (eqb x newline) refl
-  where
-    r : Recorder
-    r = p .recorder
-
-    line : List ℕ
-    line = line-bytes (r .line)
-
-    go : (b : Bool) → eqb x newline ≡ b → ByteSpends p (then-byte p x)
-    go true e =
-        let d = line-spends (r .session .phase) (r .kept) (closed-line line) (r .session) (p .nodes) (p .buckets) refl room in
-        rw e
-        (record {
-          room = kept-room (r .session .phase) (r .kept) line ∙ room;
-          spends = simp length-append (omega arith);
-        })
-    go false e = rw e (record { room = room; spends = simp length-append (omega arith) })
-
-bytes-spend : (p : RecordEffect) (xs : List ℕ) → Room p
-    → length (record-bytes p xs .writes) + left (phase-of (record-bytes p xs)) ≤ length (p .writes) + left (phase-of p) + longest-pair * length xs
-unfolding record-bytes
-bytes-spend p [] room = omega arith
-bytes-spend p (x ∷ xs) room =
-    let f = byte-spends p x room in
-    omega (arith, f .spends, bytes-spend (then-byte p x) xs (f .room))
-
-room-after : (p : RecordEffect) (xs : List ℕ) → Room p → Room (record-bytes p xs)
-unfolding record-bytes
-room-after p [] room = room
-room-after p (x ∷ xs) room = room-after (then-byte p x) xs (byte-spends p x room .room)
-
--- what a read of the input can have written
-pub bytes-bound : (r : Recorder) (ns bs xs : List ℕ) → length (r .kept .bytes) ≡ longest-header
-    → length (record-bytes (begin r ns bs) xs .writes) ≤ longest-pair * length xs + longest-last
-bytes-bound r ns bs xs room = omega (arith, bytes-spend (begin r ns bs) xs room, left-most (r .session .phase))
+pub line-bound : (p : Progress) (l : InputLine) → length (p .recorder .kept .bytes) ≡ longest-header
+    → length (line-of p l .prints) + still-due (line-of p l .session .phase) ≤ still-due (p .recorder .session .phase) + longest-pair
+unfolding recorded-line
+line-bound p l room =
+    line-spends (p .recorder .session .phase) (p .recorder .kept) l (p .recorder .session) (p .nodes) (p .buckets) refl room
 
 -- ---- the end of the input
 
 phase-end-bound : (p : Phase) (k : KeptLines) (s : Session) (ns bs : List ℕ) → length (k .bytes) ≡ longest-header
-    → length (recorded-end p k s ns bs .prints) ≤ left p
-unfolding recorded-end silent pools-kept stopped left
+    → length (recorded-end p k s ns bs .prints) ≤ still-due p
+unfolding recorded-end silent pools-kept stopped still-due
 phase-end-bound (Due due) k s ns bs room = go (optional due)
   where
     h : Header
@@ -236,30 +178,69 @@ phase-end-bound (Due due) k s ns bs room = go (optional due)
         ≤ longest-last
     go true = omega (arith, open-spends h k room end-effect longest-end (end-spends h) ns bs)
     go false = omega (arith, refusal-length 10)
-phase-end-bound Events k s ns bs room = end-effect-bound s ns bs
+phase-end-bound Events k s ns bs room = session-bounds.end-bound s ns bs
 phase-end-bound Stopped k s ns bs room = omega arith
 
-pub end-bound : (r : Recorder) (ns bs : List ℕ) → length (r .kept .bytes) ≡ longest-header → length (record-end r ns bs .prints) ≤ longest-last
+pub end-bound : (p : Progress) → length (p .recorder .kept .bytes) ≡ longest-header
+    → length (end-of p .prints) ≤ still-due (p .recorder .session .phase)
 unfolding record-end
-end-bound r ns bs room =
-    omega (arith, phase-end-bound (r .session .phase) (r .kept) (r .session) ns bs room, left-most (r .session .phase))
+end-bound p room = phase-end-bound (p .recorder .session .phase) (p .recorder .kept) (p .recorder .session) (p .nodes) (p .buckets) room
+
+-- a line that is too long or not closed has no more written than the end
+pub outside-bound : (p : Progress) (l : InputLine) → admissible l ≡ false → length (p .recorder .kept .bytes) ≡ longest-header
+    → length (line-of p l .prints) + still-due (line-of p l .session .phase) ≤ still-due (p .recorder .session .phase)
+unfolding still-due
+outside-bound p l e room =
+    let o = outside-line p l e in
+    let s : line-of p l .session .phase ≡ Stopped = ap (λ (d : LineEffect). d .session .phase) o ∙ end-stops p in
+    omega (arith, ap (λ (d : LineEffect). length (d .prints)) o, ap still-due s, end-bound p room)
 
 -- ---- all of it
 
-all-bound : (input ns bs : List ℕ) → length (all-written (input-recorded input ns bs)) ≤ longest-pair * length input + longest-last
-unfolding all-written input-recorded record-end new-recorder new-session no-lines left
-all-bound input ns bs =
-    let p = record-bytes (begin new-recorder ns bs) input in
-    let f = bytes-spend (begin new-recorder ns bs) input refl in
-    let g =
-    phase-end-bound (phase-of p) (p .recorder .kept) (p .recorder .session) (p .nodes) (p .buckets) (room-after (begin new-recorder ns bs) input refl) in
-    simp length-append (omega (arith, f, g))
+-- what is kept has room again
+kept-room : (p : Phase) (k : KeptLines) (line : List ℕ) → length (kept-after p k line .bytes) ≡ length (k .bytes)
+unfolding kept-after
+kept-room (Due due) k line = keep-length k line
+kept-room Events k line = refl
+kept-room Stopped k line = refl
+
+pub line-keeps-room : (p : Progress) (l : InputLine) → length (then-line p l .recorder .kept .bytes) ≡ length (p .recorder .kept .bytes)
+unfolding then-line
+line-keeps-room p l = kept-room (p .recorder .session .phase) (p .recorder .kept) (l .bytes)
+
+lines-bound : (ls : List InputLine) (p : Progress) → length (p .recorder .kept .bytes) ≡ longest-header
+    → length (all-recorded p ls) ≤ length (p .writes) + still-due (p .recorder .session .phase) + longest-pair * length ls
+unfolding all-recorded then-line
+lines-bound [] p room = simp length-append (omega (arith, end-bound p room))
+lines-bound (l ∷ ls) p room =
+    let f = line-bound p l room in
+    let g = lines-bound ls (then-line p l) (line-keeps-room p l ∙ room) in
+    let w : length (then-line p l .writes) ≡ length (p .writes) + length (line-of p l .prints) = length-append (p .writes) (line-of p l .prints) in
+    omega arith
+
+-- a line has one byte at least
+lines-few : (line xs : List ℕ) → length (split-lines line xs) ≤ length line + length xs
+unfolding split-lines
+lines-few line [] = go (length line) refl
+  where
+    go : (n : ℕ) → length line ≡ n → length (if eqb (length line) 0 then [] else (open-line line ∷ [])) ≤ length line + 0
+    go zero e = rw e (omega arith)
+    go (suc n) e = rw (ne-eqb (length line) 0 (λ z. omega arith)) (omega arith)
+lines-few line (x ∷ xs) = go (eqb x newline) (lines-few [] xs) (lines-few (line ++ (x ∷ [])) xs)
+  where
+    go : (b : Bool) → length (split-lines [] xs) ≤ 0 + length xs → length (split-lines (line ++ (x ∷ [])) xs) ≤ length (line ++ (x ∷ [])) + length xs
+        → length (if b then (closed-line line ∷ split-lines [] xs) else split-lines (line ++ (x ∷ [])) xs) ≤ length line + suc (length xs)
+    go true f g = omega arith
+    go false f g = omega (arith, length-append line (x ∷ []))
 
 pub output-bound : (input : List ℕ) → length (recorder-output input) ≤ longest-pair * length input + longest-last
+unfolding new-recorder new-session no-lines still-due input-lines
 output-bound input =
     let ns = replicate {A = ℕ} 2176 0 in
     let bs = replicate {A = ℕ} 13200 0 in
     let ln : 2176 ≤ length ns = omega (arith, length-replicate {A = ℕ} 2176 0) in
     let lb : 13200 ≤ length bs = omega (arith, length-replicate {A = ℕ} 13200 0) in
     let e = ap length (writes-recording ns bs ln lb input) in
-    omega (arith, all-bound input ns bs)
+    let f = lines-bound (input-lines input) (begin new-recorder ns bs) refl in
+    let g = lines-few [] input in
+    omega arith

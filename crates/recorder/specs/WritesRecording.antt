@@ -1,14 +1,14 @@
 -- Over lent pools of at least 64 nodes and 200 buckets, whatever they hold, what is written for an input is its recording, and where there
 -- is none the session's refusal: `writes-recording`. The recorder over lent pools stands where that of the definition does, line by
--- line and byte by byte. Assumes nothing.
+-- line. Assumes nothing.
 use mathlib.Core.Path.{_≡_, refl, sym, ap, subst, _∙_}
-use mathlib.Core.List.{List, [], _∷_, _++_, append-nil}
+use mathlib.Core.List.{List, [], _∷_, _++_, append-assoc, append-nil}
 use mathlib.Core.Bool.{Bool, true, false}
 use Prim.Native.Nat.{ℕ, _≤_}
 use native.Mathlib.Omega.{arith}
 use borrow.Author.Tests.{eq-eqb, ne-eqb, eqb-true, eqb-false}
 use lib.Dec.{eqb}
-use lib.ListN.{length, replicate}
+use lib.ListN.{length}
 use Rattle.spec.specs.declared.State.{State}
 use Rattle.spec.specs.Lists.{if_then_else_}
 use Rattle.spec.specs.Machine.{Machine}
@@ -20,9 +20,8 @@ use Rattle.session.specs.declared.Header.{Header}
 use Rattle.session.specs.declared.HeaderLine.{HeaderLine}
 use Rattle.session.specs.declared.HeaderStep.{HeaderStep}
 use Rattle.session.specs.declared.HeaderStep.the-variants.{Next, Complete, Absent, Missing}
-use Rattle.session.specs.Grammar.{InputLine, closed-line, parse-event-line}
+use Rattle.session.specs.Grammar.{InputLine, input-lines, parse-event-line}
 use Rattle.session.specs.Header.{optional, header-step}
-use Rattle.session.specs.Keys.{newline}
 use Rattle.session.specs.Print.{refusal-line, output-line}
 use Rattle.session.specs.Transcript.{is-event, task-in, pool-words, session-opening}
 use Rattle.session_pools.specs.PoolParts.{node-extent, bucket-extent, node-part, bucket-part}
@@ -30,7 +29,6 @@ use Rattle.session_state.specs.declared.Phase.the-variants.{Due, Events, Stoppe
 use Rattle.session_state.specs.declared.Session.{Session}
 use Rattle.session_state.specs.Handling.{session, new-session, LineEffect, pools-kept, stopped, silent, session-machine, with-machine, opened-then, open-then}
 use Rattle.session_state.specs.Handling.{reply-effect, event-effect, listing-effect, phase-effect, line-effect, phase-end, end-effect}
-use Rattle.partial_line.specs.PartialLines.{empty-line, line-bytes}
 use Rattle.session_lines.specs.PoolLengths.{event-lengths}
 use Rattle.session_lines.specs.Openings.{part-length, part-words, machine-back, Alike, opening-same, opening-lengths}
 use Rattle.recording.specs.declared.RecorderPhase.the-variants.{Header as HeaderDue, Events as EventsDue, Ended}
@@ -38,16 +36,13 @@ use Rattle.recording.specs.Recording.{close}
 use Rattle.recording.specs.Verdict.{printed-for}
 use Rattle.recording.specs.Recorder as defined
 use Rattle.recording.specs.Recorder.{RecorderEffect, recorder-effect, record-last, write-listing, write-pair, record-event, after-kept, record-opened}
-use Rattle.recording.specs.Recorder.{record-header-line, record-phase, record-phase-end, ByteRecorder, new-byte-recorder, line-closed}
-use Rattle.recording.specs.Recorder.{record-input, recorder-output}
-use Rattle.recording_laws.specs.ByteRecorder.{bytes-write-recording}
+use Rattle.recording.specs.Recorder.{record-header-line, record-phase, record-phase-end, recorder-output}
+use Rattle.recording_laws.specs.RecorderRecords.{recorder-writes}
 use Rattle.recorder_lines.specs.declared.KeptLines.{KeptLines}
-use Rattle.recorder.specs.declared.Recorder.{Recorder}
 use Rattle.recorder_lines.specs.KeptLines.{kept-bytes, keep-line, kept-after}
-use Rattle.recorder_lines.specs.KeptBytes.{LineIs, line-none, line-more, KeptIs, kept-none, kept-more}
+use Rattle.recorder_lines.specs.KeptBytes.{KeptIs, kept-none, kept-more}
 use Rattle.recorder.specs.LentRecorder.{after-bytes, recorded-event, first-recorded, recorded-opening, recorded-header, recorded-phase, recorded-line}
-use Rattle.recorder.specs.LentRecorder.{recorded-end, new-recorder, RecordEffect, begin, record-end, record-closed, record-byte, then-byte}
-use Rattle.recorder.specs.LentRecorder.{record-bytes, input-recorded, end-of, all-written}
+use Rattle.recorder.specs.LentRecorder.{recorded-end, new-recorder, Progress, begin, line-of, then-line, record-end, all-recorded}
 
 -- ---- where the recorder over lent pools stands, and where that of the definition does
 
@@ -212,62 +207,29 @@ end-follows s k ns bs q (in-events {h = h} {m = m} {kept = kept} e) =
     subst (λ (z : Machine). Follows (end-effect s ns bs) k (write-listing (defined.recorder EventsDue h z kept))) e (listing-follows h m ns bs kept k)
 end-follows s k ns bs q at-end = record { writes = refl; stands = at-end }
 
--- ---- a byte at a time
+-- ---- the lines, one after the other
 
-record ByteFollows (p : RecordEffect) (q : ByteRecorder) : Type 0 where
-  stands : Stands (p .recorder .session) (p .recorder .kept) (p .nodes) (p .buckets) (q .recorder)
-  line : LineIs (p .recorder .line) (q .line)
-  writes : p .writes ≡ q .written
+-- what is written so far, and what the definition writes for these lines
+lines-follow : (ls : List InputLine) (p : Progress) (q : defined.Recorder) → Stands (p .recorder .session) (p .recorder .kept) (p .nodes) (p .buckets) q
+    → all-recorded p ls ≡ p .writes ++ defined.record-lines q ls
+unfolding all-recorded record-end then-line recorded-line defined.record-lines
+lines-follow [] p q f =
+    let e = end-follows (p .recorder .session) (p .recorder .kept) (p .nodes) (p .buckets) q f in ap (λ (w : List ℕ). p .writes ++ w) (e .writes)
+lines-follow (l ∷ ls) p q f =
+    let d = line-follows (p .recorder .session) (p .recorder .kept) (p .nodes) (p .buckets) q f l in
+    let e = defined.record-line q l in
+    lines-follow ls (then-line p l) (e .next) (d .stands)
+    ∙ append-assoc (p .writes) (line-of p l .prints) (defined.record-lines (e .next) ls)
+    ∙ ap (λ (w : List ℕ). p .writes ++ (w ++ defined.record-lines (e .next) ls)) (d .writes)
 
-byte-follows : (p : RecordEffect) (q : ByteRecorder) (x : ℕ) → ByteFollows p q → ByteFollows (then-byte p x) (defined.record-byte q x)
-unfolding then-byte record-byte record-closed recorded-line defined.record-byte line-closed
-byte-follows p q x f = go (eqb x newline) refl
-  where
-    r : Recorder
-    r = p .recorder
-
-    closed : InputLine
-    closed = closed-line (line-bytes (r .line))
-
-    line-done : Follows (recorded-phase (r .session .phase) (r .kept) closed (r .session) (p .nodes) (p .buckets))
-        (kept-after (r .session .phase) (r .kept) (line-bytes (r .line))) (defined.record-line (q .recorder) (closed-line (q .line)))
-    line-done =
-        subst (λ (w : List ℕ). Follows (recorded-phase (r .session .phase) (r .kept) closed (r .session) (p .nodes) (p .buckets))
-        (kept-after (r .session .phase) (r .kept) (line-bytes (r .line))) (defined.record-line (q .recorder) (closed-line w))) (f .line .same)
-        (line-follows (r .session) (r .kept) (p .nodes) (p .buckets) (q .recorder) (f .stands) closed)
-
-    go : (b : Bool) → eqb x newline ≡ b → ByteFollows (then-byte p x) (defined.record-byte q x)
-    go true e =
-        let d = recorded-phase (r .session .phase) (r .kept) closed (r .session) (p .nodes) (p .buckets) in
-        rw e
-        (record {
-          stands = line-done .stands;
-          line = line-none (r .line .bytes) (f .line .room);
-          writes = ap (λ (w : List ℕ). w ++ d .prints) (f .writes) ∙ ap (λ (w : List ℕ). q .written ++ w) (line-done .writes);
-        })
-    go false e =
-        rw e
-        (record {
-          stands = f .stands;
-          line = line-more (r .line) (q .line) x (f .line);
-          writes = append-nil (p .writes) ∙ f .writes;
-        })
-
-bytes-follow : (xs : List ℕ) (p : RecordEffect) (q : ByteRecorder) → ByteFollows p q → ByteFollows (record-bytes p xs) (defined.record-bytes q xs)
-unfolding record-bytes defined.record-bytes
-bytes-follow [] p q f = f
-bytes-follow (x ∷ xs) p q f = bytes-follow xs (then-byte p x) (defined.record-byte q x) (byte-follows p q x f)
+pub writes-lines : (ns bs : List ℕ) → 2176 ≤ length ns → 13200 ≤ length bs → (ls : List InputLine)
+    → all-recorded (begin new-recorder ns bs) ls ≡ defined.record-lines defined.new-recorder ls
+unfolding new-recorder new-session defined.new-recorder
+writes-lines ns bs nodes-fit buckets-fit ls =
+    lines-follow ls (begin new-recorder ns bs) defined.new-recorder (in-header nodes-fit buckets-fit kept-none)
 
 -- ---- a whole input
 
 pub writes-recording : (ns bs : List ℕ) → 2176 ≤ length ns → 13200 ≤ length bs → (input : List ℕ)
-    → all-written (input-recorded input ns bs) ≡ recorder-output input
-unfolding all-written input-recorded record-input record-end new-recorder new-session new-byte-recorder defined.new-recorder empty-line
-writes-recording ns bs nodes-fit buckets-fit input =
-    let p = record-bytes (begin new-recorder ns bs) input in
-    let q = defined.record-bytes new-byte-recorder input in
-    let start : ByteFollows (begin new-recorder ns bs) new-byte-recorder =
-    record { stands = in-header nodes-fit buckets-fit kept-none; line = line-none (replicate 41 0) refl; writes = refl } in
-    let f = bytes-follow input (begin new-recorder ns bs) new-byte-recorder start in
-    let e = end-follows (p .recorder .session) (p .recorder .kept) (p .nodes) (p .buckets) (q .recorder) (f .stands) in
-    ap (λ (w : List ℕ). w ++ end-of p .prints) (f .writes) ∙ ap (λ (w : List ℕ). q .written ++ w) (e .writes) ∙ bytes-write-recording input
+    → all-recorded (begin new-recorder ns bs) (input-lines input) ≡ recorder-output input
+writes-recording ns bs nodes-fit buckets-fit input = writes-lines ns bs nodes-fit buckets-fit (input-lines input) ∙ recorder-writes input

@@ -6,7 +6,7 @@ ghost use Rattle.session_state.specs.Handling.{LineHandled};
 ghost use mathlib.Core.Bool.{true};
 ghost use Rattle.session_lines.specs.KnownMemory.{KnownIn};
 ghost use Rattle.recorder_lines.specs.KeptLines.{kept-bytes};
-ghost use Rattle.recorder.specs.LentRecorder.{after-bytes, recorded-event, first-recorded, recorded-opening, recorded-header, recorded-phase};
+ghost use Rattle.recorder.specs.LentRecorder.{after-bytes, recorded-event, first-recorded, recorded-opening, recorded-header};
 use recorder_lines::KeptLines;
 use session::Header;
 use session::HeaderLine;

@@ -1,67 +1,21 @@
--- What is kept in arrays is what the definition keeps in lists: of the line that is not closed yet, `line-more`, and of the header's lines,
--- `kept-more`. Assumes nothing.
+-- What is kept of the header's lines in an array is what the definition keeps in a list: `kept-more`. Assumes nothing.
 use mathlib.Core.Path.{_≡_, refl, sym, ap, _∙_}
 use mathlib.Core.List.{List, [], _∷_, _++_, append-assoc}
 use mathlib.Core.Bool.{Bool, true, false}
 use Prim.Native.Nat.{ℕ, _+_, _-_, _<_, _≤_, min}
-use native.Mathlib.Numerals.{add-one}
 use native.Mathlib.Omega.{arith}
-use borrow.Author.Tests.{leb-true, leb-false, ltb-true, ltb-false}
+use borrow.Author.Tests.{leb-true, leb-false}
 use lib.Dec.{leb, ltb}
 use lib.ListN.{length, take, drop, set, length-append, length-set, length-drop}
-use lib.Seq.{length-take-le, take-all, take-at, take-append-le, take-append-add, take-suc-set}
+use lib.Seq.{length-take-le, take-all, take-at, take-append-add}
 use Rattle.spec.specs.Lists.{if_then_else_}
 use Rattle.session.specs.Buffer.{Buffer, buffer, append-byte, append}
 use Rattle.session.specs.BufferLaws.{append-first, append-rest}
-use Rattle.partial_line.specs.declared.PartialLine.{PartialLine}
-use Rattle.partial_line.specs.PartialLines.{partial, line-bytes, pushed}
-use Rattle.recording.specs.Recorder.{longest-header, longest-read}
+use Rattle.recording.specs.Recorder.{longest-header}
 use Rattle.recording.specs.Reader.{keep}
 use Rattle.recording.specs.Recording.{close}
 use Rattle.recorder_lines.specs.declared.KeptLines.{KeptLines}
 use Rattle.recorder_lines.specs.KeptLines.{no-lines, kept-bytes, keep-line}
-
--- ---- the line that is not closed yet
-
-pub record LineIs (h : PartialLine) (line : List ℕ) : Type 0 where
-  pub room : length (h .bytes) ≡ longest-read
-  pub some : h .len ≤ longest-read
-  pub same : line-bytes h ≡ line
-
-pub line-none : (b : List ℕ) → length b ≡ longest-read → LineIs (partial b 0) []
-line-none b e = record { room = e; some = omega arith; same = refl }
-
-pub line-more : (h : PartialLine) (line : List ℕ) (x : ℕ) → LineIs h line → LineIs (pushed h x) (keep longest-read line (x ∷ []))
-unfolding pushed keep
-line-more h line x o = go (ltb (h .len) 41) refl
-  where
-    long : length line ≡ h .len
-    long = ap length (sym (o .same)) ∙ length-take-le (h .len) (h .bytes) (omega (arith, o .room, o .some))
-
-    go : (b : Bool) → ltb (h .len) 41 ≡ b
-        → LineIs (if b then partial (set (h .bytes) (h .len) x) (h .len + 1) else h) (take longest-read (line ++ (x ∷ [])))
-    go true e =
-        let f : h .len < 41 = ltb-true _ _ e in
-        let l : length (line ++ (x ∷ [])) ≡ length line + 1 = simp length-append (omega arith) in
-        record {
-          room = length-set (h .bytes) (h .len) x ∙ o .room;
-          some = omega arith;
-          same =
-              ap (λ (n : ℕ). take n (set (h .bytes) (h .len) x)) (add-one (h .len))
-              ∙ take-suc-set (h .bytes) (h .len) x (omega (arith, o .room))
-              ∙ ap (λ (w : List ℕ). w ++ (x ∷ [])) (o .same)
-              ∙ sym (take-all 41 (line ++ (x ∷ [])) (omega (arith, l, long)));
-        }
-    go false e =
-        let f : 41 ≤ h .len = ltb-false _ _ e in
-        record {
-          room = o .room;
-          some = o .some;
-          same =
-              o .same ∙ sym (take-all 41 line (omega (arith, long, o .some))) ∙ sym (take-append-le 41 line (x ∷ []) (omega (arith, long)));
-        }
-
--- ---- the header's lines
 
 pub record KeptIs (k : KeptLines) (kept : List ℕ) : Type 0 where
   pub room : length (k .bytes) ≡ longest-header
@@ -101,18 +55,18 @@ keep-length k line = append-length (close line) (buffer (k .bytes) (k .len))
 
 -- bytes appended after the first n of a buffer
 module _ (xs w : List ℕ) (n : ℕ) (fits : n ≤ length w) where
-  abbrev room : ℕ
+  abbrev pub room : ℕ
   room = min (length xs) (length (drop n w))
 
   long : length (take n w) ≡ n
   long = length-take-le n w fits
 
-  appended : append xs (buffer w n) ≡ buffer (take n w ++ (take room xs ++ drop room (drop n w))) (length (take n w) + room)
+  pub appended : append xs (buffer w n) ≡ buffer (take n w ++ (take room xs ++ drop room (drop n w))) (length (take n w) + room)
   appended =
       append-rest xs w n fits
       ∙ ap (λ (t : Buffer). buffer (take n w ++ t .bytes) (length (take n w) + t .at)) (append-first xs (drop n w))
 
-  appended-bytes : take (append xs (buffer w n) .at) (append xs (buffer w n) .bytes) ≡ take (length w) (take n w ++ xs)
+  pub appended-bytes : take (append xs (buffer w n) .at) (append xs (buffer w n) .bytes) ≡ take (length w) (take n w ++ xs)
   appended-bytes =
       let front = take n w ++ take room xs in
       let l : length (take room xs) ≡ room = length-take-le room xs (omega arith) in

@@ -1,5 +1,5 @@
 -- One name that opens every definition of recordings: `unfolding everything session-definitions recording-definitions` lets antt
--- compute a recording and a verdict, whole or byte by byte. Assumes nothing.
+-- compute a recording and a verdict, whole, line by line or byte by byte. Assumes nothing.
 use Prim.Native.Nat.{ℕ}
 use Rattle.recording.specs.Header.{with-line, after-step, take-from, take-header}
 use Rattle.recording.specs.Recording.{input-again, bytes-of, event-pairs, tag-listing, listing-of, listing, ran-recording, recorded-events}
@@ -11,8 +11,8 @@ use Rattle.recording.specs.Reader.{read-opened, read-header-line, read-p
 use Rattle.recording.specs.Reader.{read-phase-unclosed, read-unclosed, read-lines, keep, new-byte-reader, read-byte, read-bytes, bytes-end}
 use Rattle.recording.specs.Reader.{read-input}
 use Rattle.recording.specs.Recorder.{new-recorder, record-last, write-listing, write-pair, record-event, after-kept, record-opened}
-use Rattle.recording.specs.Recorder.{record-header-line, record-phase, record-line, record-phase-end, record-end, record-lines, new-byte-recorder}
-use Rattle.recording.specs.Recorder.{line-closed, record-byte, record-bytes, record-input, recorded-or, recorder-output}
+use Rattle.recording.specs.Recorder.{record-header-line, record-phase, record-line, record-phase-end, record-end, record-lines}
+use Rattle.recording.specs.Recorder.{record-input, recorded-or, recorder-output}
 
 unfoldable pub recording-definitions : ℕ
 unfolding with-line after-step take-from take-header input-again bytes-of event-pairs tag-listing listing-of listing ran-recording recorded-events
@@ -20,6 +20,6 @@ unfolding with-line after-step take-from take-header input-again bytes-of event-
     turn-verdict events-verdict output-verdict opened-verdict header-verdict lines-verdict verdict no-machine new-reader moved decided after-comparing
     compare-listed read-listed run-event read-turn read-opened read-header-line read-phase read-line answers listing-end opened-end read-phase-end read-end
     read-phase-unclosed read-unclosed read-lines keep new-byte-reader read-byte read-bytes bytes-end read-input new-recorder record-last write-listing
-    write-pair record-event after-kept record-opened record-header-line record-phase record-line record-phase-end record-end record-lines new-byte-recorder
-    line-closed record-byte record-bytes record-input recorded-or recorder-output
+    write-pair record-event after-kept record-opened record-header-line record-phase record-line record-phase-end record-end record-lines
+    record-input recorded-or recorder-output
 recording-definitions = 0

@@ -1,7 +1,6 @@
--- The recorder, one line at a time, and one byte at a time with at most 41 bytes of a line kept: where it stands, what a line or a
--- byte has it write, and what it writes at the end. The header's lines are kept until the opening is accepted. Where nothing is
--- recorded it writes what the session prints, a refusal's line: `recorder-output` has the whole. It is what code is held to; that it
--- writes that is shown in RecorderRecords and ByteRecorder. Assumes nothing.
+-- The recorder, one line at a time: where it stands, what a line has it write, and what it writes at the end. The header's lines are kept until
+-- the opening is accepted. Where nothing is recorded it writes what the session prints, a refusal's line: `recorder-output` has the whole. It is
+-- what code is held to; that it writes that is shown in RecorderRecords. Assumes nothing.
 use Prim.Native.Nat.{ℕ}
 use mathlib.Core.List.{List, [], _∷_, _++_}
 use lib.Dec.{eqb}
@@ -16,8 +15,7 @@ use Rattle.session.specs.declared.Header.{Header}
 use Rattle.session.specs.declared.HeaderLine.the-variants.{Tasks}
 use Rattle.session.specs.declared.HeaderStep.{HeaderStep}
 use Rattle.session.specs.declared.HeaderStep.the-variants.{Next, Complete, Absent, Missing}
-use Rattle.session.specs.Keys.{newline}
-use Rattle.session.specs.Grammar.{InputLine, closed-line, parse-event-line}
+use Rattle.session.specs.Grammar.{InputLine, input-lines, parse-event-line}
 use Rattle.session.specs.Header.{empty-header, optional, header-step}
 use Rattle.session.specs.Print.{refusal-line}
 use Rattle.session.specs.Transcript.{final-listing, session-opening, transcript}
@@ -119,41 +117,9 @@ record-lines r (l ∷ ls) =
     let d = record-line r l in
     d .writes ++ record-lines (d .next) ls
 
--- ---- a byte: of a line that is not closed yet, its first bytes are kept
-
--- the longest line of the grammar, and a byte more
-abbrev pub longest-read : ℕ
-longest-read = 41
-
--- where it stands, what is kept of the line, and what is written so far
-pub record ByteRecorder : Type 0 where
-  pub recorder : Recorder
-  pub line : List ℕ
-  pub written : List ℕ
-
-abbrev pub byte-recorder : Recorder → List ℕ → List ℕ → ByteRecorder
-byte-recorder r line written = record { recorder = r; line = line; written = written }
-
-unfoldable pub new-byte-recorder : ByteRecorder
-new-byte-recorder = byte-recorder new-recorder [] []
-
-unfoldable pub line-closed : ByteRecorder → RecorderEffect → ByteRecorder
-line-closed p d = byte-recorder (d .next) [] (p .written ++ d .writes)
-
-unfoldable pub record-byte : ByteRecorder → ℕ → ByteRecorder
-record-byte p x =
-    if eqb x newline then line-closed p (record-line (p .recorder) (closed-line (p .line)))
-    else byte-recorder (p .recorder) (keep longest-read (p .line) (x ∷ [])) (p .written)
-
-unfoldable pub record-bytes : ByteRecorder → List ℕ → ByteRecorder
-record-bytes p [] = p
-record-bytes p (x ∷ xs) = record-bytes (record-byte p x) xs
-
--- a whole input; a last line that is not closed gives 10, and is left out
+-- a whole input
 unfoldable pub record-input : List ℕ → List ℕ
-record-input input =
-    let p = record-bytes new-byte-recorder input in
-    p .written ++ record-end (p .recorder) .writes
+record-input input = record-lines new-recorder (input-lines input)
 
 -- ---- what it writes for an input: the recording, and where there is none what the session prints
 

@@ -9,7 +9,6 @@ pub mod RecordedEvents
 pub mod RecorderRecords
 pub mod ReaderVerdict
 pub mod ShortLines
-pub mod ByteRecorder
 pub mod ByteReader
 pub mod ReadToEnd
 pub mod Awaited

@@ -7,30 +7,6 @@ use borrow.Author.Needs.{needs}
 use Rattle.recorder.proofs.record_line.Statement.{statement}
 use Rattle.recorder.proofs.record_line.Tie as tie
 
-enum-known-phase : tie.Need-enum-known-phase
-enum-known-phase c = search needs
-
-header-line-requires : tie.Need-header-line-requires
-header-line-requires c κs = search needs
-
-enum-told : tie.Need-enum-told
-enum-told c = search needs
-
-event-line-requires : tie.Need-event-line-requires
-event-line-requires c κs = search needs
-
-enum-told-2 : tie.Need-enum-told-2
-enum-told-2 c = search needs
-
-same-length : tie.Need-same-length
-same-length c = search needs
-
-same-length-2 : tie.Need-same-length-2
-same-length-2 c = search needs
-
-same-length-3 : tie.Need-same-length-3
-same-length-3 c = search needs
-
 returns : tie.Need-returns
 unfolding recorded-phase
 returns c =
@@ -38,15 +14,6 @@ returns c =
     let at-phase = at-header-line .before .before .before .before .before in
     let entry = at-phase .before .before .before .before .before .before in
     stands-at (Due (at-phase .phase .given .0 .0)) _ _ (entry .args .s) _ _ _ _ _ _ _ (at-phase .phase .given .1) (at-header-line .header-line .ensures)
-
-same-length-4 : tie.Need-same-length-4
-same-length-4 c = search needs
-
-same-length-5 : tie.Need-same-length-5
-same-length-5 c = search needs
-
-same-length-6 : tie.Need-same-length-6
-same-length-6 c = search needs
 
 returns-2 : tie.Need-returns-2
 unfolding recorded-phase
@@ -66,17 +33,17 @@ pub record-line-spec : {M : Type 1} → statement M
 record-line-spec =
     tie.close
     (tie.spec
-    enum-known-phase
-    header-line-requires
-    enum-told
-    event-line-requires
-    enum-told-2
-    same-length
-    same-length-2
-    same-length-3
+    (λ c. search needs)
+    (λ c κs. search needs)
+    (λ c. search needs)
+    (λ c κs. search needs)
+    (λ c. search needs)
+    (λ c. search needs)
+    (λ c. search needs)
+    (λ c. search needs)
     returns
-    same-length-4
-    same-length-5
-    same-length-6
+    (λ c. search needs)
+    (λ c. search needs)
+    (λ c. search needs)
     returns-2
     returns-3)

@@ -8,15 +8,6 @@ use borrow.Author.Needs.{needs}
 use Rattle.recorder_lines.proofs.closed.Statement.{statement}
 use Rattle.recorder_lines.proofs.closed.Tie as tie
 
-all-bytes-requires : tie.Need-all-bytes-requires
-all-bytes-requires c κs = search needs
-
-one-byte-requires : tie.Need-one-byte-requires
-one-byte-requires c κs = search needs
-
-same-length : tie.Need-same-length
-same-length c = search needs
-
 returns : tie.Need-returns
 unfolding append
 returns c =
@@ -26,4 +17,4 @@ returns c =
     append-2 (now (entry .args .line)) (newline ∷ []) _ _ _ (at-all-bytes .all-bytes .ensures) (at-one-byte .one-byte .ensures)
 
 pub closed-spec : {M : Type 1} → statement M
-closed-spec = tie.close (tie.spec all-bytes-requires one-byte-requires same-length returns)
+closed-spec = tie.close (tie.spec (λ c κs. search needs) (λ c κs. search needs) (λ c. search needs) returns)

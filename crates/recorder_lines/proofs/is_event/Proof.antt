@@ -5,18 +5,6 @@ use borrow.Author.Needs.{needs}
 use Rattle.recorder_lines.proofs.is_event.Statement.{statement}
 use Rattle.recorder_lines.proofs.is_event.Tie as tie
 
-event-line-requires : tie.Need-event-line-requires
-event-line-requires c κs = search needs
-
-enum-told : tie.Need-enum-told
-enum-told c = search needs
-
-enum-told-2 : tie.Need-enum-told-2
-enum-told-2 c = search needs
-
-enum-told-3 : tie.Need-enum-told-3
-enum-told-3 c = search needs
-
 returns : tie.Need-returns
 unfolding is-event
 returns c =
@@ -38,4 +26,4 @@ returns-3 c =
 pub is-event-spec : {M : Type 1} → statement M
 is-event-spec =
     tie.close
-    (tie.spec event-line-requires enum-told enum-told-2 enum-told-3 returns returns-2 returns-3)
+    (tie.spec (λ c κs. search needs) (λ c. search needs) (λ c. search needs) (λ c. search needs) returns returns-2 returns-3)

@@ -5,12 +5,6 @@ use borrow.Author.Needs.{needs}
 use Rattle.recorder_lines.proofs.keep.Statement.{statement}
 use Rattle.recorder_lines.proofs.keep.Tie as tie
 
-slice-aggregate-closed : tie.Need-slice-aggregate-closed
-slice-aggregate-closed c = search needs
-
-closed-requires : tie.Need-closed-requires
-closed-requires c κs = search needs
-
 returns : tie.Need-returns
 unfolding keep-line
 returns c =
@@ -18,4 +12,4 @@ returns c =
     ap kept-in (at-closed .closed .ensures)
 
 pub keep-spec : {M : Type 1} → statement M
-keep-spec = tie.close (tie.spec slice-aggregate-closed closed-requires returns)
+keep-spec = tie.close (tie.spec (λ c. search needs) (λ c κs. search needs) returns)

@@ -4,18 +4,6 @@ use borrow.Author.Needs.{needs}
 use Rattle.recorder_lines.proofs.kept_after.Statement.{statement}
 use Rattle.recorder_lines.proofs.kept_after.Tie as tie
 
-enum-told : tie.Need-enum-told
-enum-told c = search needs
-
-keep-requires : tie.Need-keep-requires
-keep-requires c κs = search needs
-
-enum-told-2 : tie.Need-enum-told-2
-enum-told-2 c = search needs
-
-enum-told-3 : tie.Need-enum-told-3
-enum-told-3 c = search needs
-
 returns : tie.Need-returns
 unfolding kept-after
 returns c =
@@ -34,4 +22,4 @@ returns-3 c = rw (c .enum-told3 .given .1)
 pub kept-after-spec : {M : Type 1} → statement M
 kept-after-spec =
     tie.close
-    (tie.spec enum-told keep-requires enum-told-2 enum-told-3 returns returns-2 returns-3)
+    (tie.spec (λ c. search needs) (λ c κs. search needs) (λ c. search needs) (λ c. search needs) returns returns-2 returns-3)

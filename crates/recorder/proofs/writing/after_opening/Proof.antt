@@ -9,7 +9,7 @@ use mathlib.Core.List.{List}
 use Rattle.session.specs.Buffer.{buffer, append}
 use Rattle.session.specs.BufferLaws.{append-within}
 use Rattle.session_state.specs.Handling.{silent, pools-kept}
-use Rattle.session_stream.proofs.Laws.{rest-length}
+use Rattle.session_lines.specs.BufferParts.{rest-length}
 use Rattle.recording.specs.Recorder.{longest-header}
 use Rattle.recorder_lines.specs.KeptLines.{kept-bytes}
 use Rattle.recorder.specs.LentRecorder.{after-bytes, first-recorded}
@@ -21,9 +21,6 @@ use Rattle.recorder.proofs.writing.after_opening.Tie as tie
 
 len : (c : tie.Start) → length (c .args .k .bytes) ≡ longest-header
 len c = search needs
-
-kept-length-requires : tie.Need-kept-length-requires
-kept-length-requires c κs = search needs
 
 array-share-prefix-b : tie.Need-array-share-prefix-b
 array-share-prefix-b c =
@@ -37,15 +34,6 @@ slice-aggregate-all-bytes c =
     let entry = at-kept-length .before .before .before .before .before in
     sym
     (length-take-le (at-kept-length .kept-length .result) (entry .args .k .bytes) (omega (arith, at-kept-length .kept-length .ensures .0, len entry)))
-
-all-bytes-requires : tie.Need-all-bytes-requires
-all-bytes-requires c κs = search needs
-
-closed-requires : tie.Need-closed-requires
-closed-requires c κs = search needs
-
-same-length : tie.Need-same-length
-same-length c = search needs
 
 returns : tie.Need-returns
 unfolding after-bytes first-recorded silent pools-kept
@@ -75,12 +63,6 @@ part-event-line-start c =
     let at-all-bytes = c .before .before .before .before .before in
     omega (arith, append-within _ _ _ _ (at-all-bytes .all-bytes .ensures), at-all-bytes .all-bytes .kept .0)
 
-part-event-line-end : tie.Need-part-event-line-end
-part-event-line-end c = search needs
-
-event-line-requires : tie.Need-event-line-requires
-event-line-requires c κs = search needs
-
 add-t26 : tie.Need-add-t26
 add-t26 c =
     let at-event-line = c .before .before .before .before .before .before .before .before in
@@ -90,15 +72,6 @@ add-t26 c =
     let kept-within = append-within _ _ _ _ (n .ensures) in
     let rest-within = append-within _ _ _ _ (at-event-line .event-line .ensures .wrote) in
     omega (arith, kept-within, rest-within, n .kept .0, rest-length (n .last .0) (n .result), entry)
-
-same-length-2 : tie.Need-same-length-2
-same-length-2 c = search needs
-
-same-length-3 : tie.Need-same-length-3
-same-length-3 c = search needs
-
-same-length-4 : tie.Need-same-length-4
-same-length-4 c = search needs
 
 returns-2 : tie.Need-returns-2
 unfolding first-recorded
@@ -120,19 +93,19 @@ pub after-opening-spec : {M : Type 1} → statement M
 after-opening-spec =
     tie.close
     (tie.spec
-    kept-length-requires
+    (λ c κs. search needs)
     array-share-prefix-b
     slice-aggregate-all-bytes
-    all-bytes-requires
-    closed-requires
-    same-length
+    (λ c κs. search needs)
+    (λ c κs. search needs)
+    (λ c. search needs)
     returns
     sub-event-line
     part-event-line-start
-    part-event-line-end
-    event-line-requires
+    (λ c. search needs)
+    (λ c κs. search needs)
     add-t26
-    same-length-2
-    same-length-3
-    same-length-4
+    (λ c. search needs)
+    (λ c. search needs)
+    (λ c. search needs)
     returns-2)

@@ -4,19 +4,13 @@ use mathlib.Core.Path.{sym, _∙_}
 use denote.Ref.{now}
 use Rattle.session.specs.BufferLaws.{append-within}
 use Rattle.session.specs.Grammar.{closed-line}
-use Rattle.session_stream.proofs.Laws.{rest-length}
+use Rattle.session_lines.specs.BufferParts.{rest-length}
 use Rattle.recording.specs.Recording.{close}
 use Rattle.recorder.proofs.Laws.{written-after, event-is, no-event}
 use native.Mathlib.Omega.{arith}
 use borrow.Author.Needs.{needs}
 use Rattle.recorder.proofs.writing.event_line.Statement.{statement}
 use Rattle.recorder.proofs.writing.event_line.Tie as tie
-
-is-event-requires : tie.Need-is-event-requires
-is-event-requires c κs = search needs
-
-closed-requires : tie.Need-closed-requires
-closed-requires c κs = search needs
 
 sub-known-line : tie.Need-sub-known-line
 sub-known-line c =
@@ -28,12 +22,6 @@ part-known-line-start c =
     let at-closed = c .before .before .before .before in
     omega (arith, append-within _ _ _ _ (at-closed .closed .ensures), at-closed .closed .kept .0)
 
-part-known-line-end : tie.Need-part-known-line-end
-part-known-line-end c = search needs
-
-known-line-requires : tie.Need-known-line-requires
-known-line-requires c κs = search needs
-
 add-t18 : tie.Need-add-t18
 add-t18 c =
     let at-known-line = c .before .before .before .before .before .before .before .before in
@@ -42,15 +30,6 @@ add-t18 c =
     let line-within = append-within _ _ _ _ (at-closed .closed .ensures) in
     let rest-within = append-within _ _ _ _ (at-known-line .known-line .ensures .wrote) in
     omega (arith, line-within, rest-within, at-closed .closed .kept .0, rest-length (at-closed .closed .last .0) (at-closed .closed .result), entry)
-
-same-length : tie.Need-same-length
-same-length c = search needs
-
-same-length-2 : tie.Need-same-length-2
-same-length-2 c = search needs
-
-same-length-3 : tie.Need-same-length-3
-same-length-3 c = search needs
 
 returns : tie.Need-returns
 returns c =
@@ -66,18 +45,6 @@ returns c =
     (written-after (close (l .bytes)) (now (entry .args .out)) (n .last .0) (n .result) (omega (arith, append-within _ _ _ _ (n .ensures), n .kept .0))
     (n .ensures) _ (t .result) _ _ _ (t .ensures))
 
-end-input-requires : tie.Need-end-input-requires
-end-input-requires c κs = search needs
-
-same-length-4 : tie.Need-same-length-4
-same-length-4 c = search needs
-
-same-length-5 : tie.Need-same-length-5
-same-length-5 c = search needs
-
-same-length-6 : tie.Need-same-length-6
-same-length-6 c = search needs
-
 returns-2 : tie.Need-returns-2
 returns-2 c =
     let at-end-input = c .before .before .before .before .before .before in
@@ -91,19 +58,19 @@ pub event-line-spec : {M : Type 1} → statement M
 event-line-spec =
     tie.close
     (tie.spec
-    is-event-requires
-    closed-requires
+    (λ c κs. search needs)
+    (λ c κs. search needs)
     sub-known-line
     part-known-line-start
-    part-known-line-end
-    known-line-requires
+    (λ c. search needs)
+    (λ c κs. search needs)
     add-t18
-    same-length
-    same-length-2
-    same-length-3
+    (λ c. search needs)
+    (λ c. search needs)
+    (λ c. search needs)
     returns
-    end-input-requires
-    same-length-4
-    same-length-5
-    same-length-6
+    (λ c κs. search needs)
+    (λ c. search needs)
+    (λ c. search needs)
+    (λ c. search needs)
     returns-2)

@@ -15,33 +15,6 @@ use borrow.Author.Needs.{needs}
 use Rattle.recorder.proofs.writing.header_line.Statement.{statement}
 use Rattle.recorder.proofs.writing.header_line.Tie as tie
 
-header-line-requires : tie.Need-header-line-requires
-header-line-requires c κs = search needs
-
-enum-known-next : tie.Need-enum-known-next
-enum-known-next c = search needs
-
-after-line-requires : tie.Need-after-line-requires
-after-line-requires c κs = search needs
-
-enum-known-h : tie.Need-enum-known-h
-enum-known-h c = search needs
-
-open-recorded-requires : tie.Need-open-recorded-requires
-open-recorded-requires c κs = search needs
-
-enum-known-h-2 : tie.Need-enum-known-h-2
-enum-known-h-2 c = search needs
-
-open-recorded-requires-2 : tie.Need-open-recorded-requires-2
-open-recorded-requires-2 c κs = search needs
-
-enum-told : tie.Need-enum-told
-enum-told c = search needs
-
-stop-requires : tie.Need-stop-requires
-stop-requires c κs = search needs
-
 returns : tie.Need-returns
 unfolding recorded-header header-effect
 returns c =
@@ -51,15 +24,6 @@ returns c =
     rw (sym (at-header-line .header-line .ensures) ∙ at-next .next .given .1)
     (line-as _ _ _ _ _ _ _ (c .after-line .ensures) (goes-on (entry .args .s) _ _ Outside _ _ _))
 
-same-length : tie.Need-same-length
-same-length c = search needs
-
-same-length-2 : tie.Need-same-length-2
-same-length-2 c = search needs
-
-same-length-3 : tie.Need-same-length-3
-same-length-3 c = search needs
-
 returns-2 : tie.Need-returns-2
 unfolding recorded-header
 returns-2 c =
@@ -68,15 +32,6 @@ returns-2 c =
     let at-header-line = at-h .before .before in
     rw (sym (at-header-line .header-line .ensures) ∙ at-h .h .given .1) (at-open-recorded .open-recorded .ensures)
 
-same-length-4 : tie.Need-same-length-4
-same-length-4 c = search needs
-
-same-length-5 : tie.Need-same-length-5
-same-length-5 c = search needs
-
-same-length-6 : tie.Need-same-length-6
-same-length-6 c = search needs
-
 returns-3 : tie.Need-returns-3
 unfolding recorded-header
 returns-3 c =
@@ -84,9 +39,6 @@ returns-3 c =
     let at-h2 = at-open-recorded2 .before .before .before .before .before in
     let at-header-line = at-h2 .before .before in
     rw (sym (at-header-line .header-line .ensures) ∙ at-h2 .h2 .given .1) (at-open-recorded2 .open-recorded2 .ensures)
-
-same-length-7 : tie.Need-same-length-7
-same-length-7 c = search needs
 
 returns-4 : tie.Need-returns-4
 unfolding recorded-header
@@ -100,23 +52,23 @@ pub header-line-spec : {M : Type 1} → statement M
 header-line-spec =
     tie.close
     (tie.spec
-    header-line-requires
-    enum-known-next
-    after-line-requires
-    enum-known-h
-    open-recorded-requires
-    enum-known-h-2
-    open-recorded-requires-2
-    enum-told
-    stop-requires
+    (λ c κs. search needs)
+    (λ c. search needs)
+    (λ c κs. search needs)
+    (λ c. search needs)
+    (λ c κs. search needs)
+    (λ c. search needs)
+    (λ c κs. search needs)
+    (λ c. search needs)
+    (λ c κs. search needs)
     returns
-    same-length
-    same-length-2
-    same-length-3
+    (λ c. search needs)
+    (λ c. search needs)
+    (λ c. search needs)
     returns-2
-    same-length-4
-    same-length-5
-    same-length-6
+    (λ c. search needs)
+    (λ c. search needs)
+    (λ c. search needs)
     returns-3
-    same-length-7
+    (λ c. search needs)
     returns-4)

@@ -11,12 +11,6 @@ use borrow.Author.Needs.{needs}
 use Rattle.recorder.proofs.writing.open_recorded.Statement.{statement}
 use Rattle.recorder.proofs.writing.open_recorded.Tie as tie
 
-open-machine-requires : tie.Need-open-machine-requires
-open-machine-requires c κs = search needs
-
-reads-events-requires : tie.Need-reads-events-requires
-reads-events-requires c κs = search needs
-
 after-opening-requires : tie.Need-after-opening-requires
 after-opening-requires c κs =
     let at-if1 = c .before .before .before in
@@ -24,15 +18,6 @@ after-opening-requires c κs =
     let t = at-reads-events .before .before .before .before .before .before .before .before .open-machine in
     let reads = sym (at-reads-events .reads-events .ensures) ∙ at-if1 .if1 .taken in
     known-reading true _ _ reads (opened-known _ _ _ (t .result) _ _ _ _ silent (t .ensures) reads)
-
-same-length : tie.Need-same-length
-same-length c = search needs
-
-same-length-2 : tie.Need-same-length-2
-same-length-2 c = search needs
-
-same-length-3 : tie.Need-same-length-3
-same-length-3 c = search needs
 
 returns : tie.Need-returns
 unfolding recorded-opening
@@ -46,15 +31,6 @@ returns c =
     let t = at-open-machine .open-machine in
     opens-then (call .h) (now (call .ns)) (now (call .bs)) (t .result) _ _ _ _ _ (t .ensures)
     (sym (at-reads-events .reads-events .ensures) ∙ at-if1 .if1 .taken) _ _ _ _ (at-after-opening .after-opening .ensures)
-
-same-length-4 : tie.Need-same-length-4
-same-length-4 c = search needs
-
-same-length-5 : tie.Need-same-length-5
-same-length-5 c = search needs
-
-same-length-6 : tie.Need-same-length-6
-same-length-6 c = search needs
 
 returns-2 : tie.Need-returns-2
 unfolding recorded-opening
@@ -71,14 +47,14 @@ pub open-recorded-spec : {M : Type 1} → statement M
 open-recorded-spec =
     tie.close
     (tie.spec
-    open-machine-requires
-    reads-events-requires
+    (λ c κs. search needs)
+    (λ c κs. search needs)
     after-opening-requires
-    same-length
-    same-length-2
-    same-length-3
+    (λ c. search needs)
+    (λ c. search needs)
+    (λ c. search needs)
     returns
-    same-length-4
-    same-length-5
-    same-length-6
+    (λ c. search needs)
+    (λ c. search needs)
+    (λ c. search needs)
     returns-2)
