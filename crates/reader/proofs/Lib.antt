@@ -1,4 +1,4 @@
 pub mod Parts
 pub mod Places
 pub mod Turns
-pub mod Bytes
+pub mod Programs

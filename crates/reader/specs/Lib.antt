@@ -1,4 +1,7 @@
-pub mod Stream
 pub mod Follows
+pub mod LentVerdict
+pub mod OutsideLines
 pub mod GivesVerdict
 pub mod KnownMemory
+pub mod ShortPrinted
+pub mod Verifies

@@ -192,30 +192,7 @@ fn header_line(r: Reader, due: HeaderLine, ns: &mut [u32], bs: &mut [u32], line:
     }
 }
 
-// Whether memory is sound, by a scan of it.
-fn scan(r: Reader, ns: &[u32], bs: &[u32]) -> bool
-    ensures { λ ok. ⌜ ok ≡ sound (part-machine (r .state) (r .header) (now (ns .entry)) (now (bs .entry))) ⌝ }
-{
-    let m = r.state;
-    let header = r.header;
-    session_machine::is_sound(m, header, ns, bs)
-}
-
-// Whether memory is sound: a scan of it once the machine is opened.
-pub fn sound_memory(r: Reader, ns: &[u32], bs: &[u32]) -> bool
-    ensures { λ ok. ⌜ KnownIn ok r (now (ns .entry)) (now (bs .entry)) ⌝ }
-{
-    let phase = r.phase;
-    match phase {
-        ReaderPhase::Due(_) => true,
-        ReaderPhase::Event => scan(r, ns, bs),
-        ReaderPhase::Printed(_, _) => scan(r, ns, bs),
-        ReaderPhase::Listed(_) => scan(r, ns, bs),
-        ReaderPhase::Decided(_) => true,
-    }
-}
-
-// One closed line, without its closing byte 10. `ok` is what `sound_memory` gives before the line, and it gives the same after it (`read-known`).
+// One closed line, without its closing byte 10. `ok` says whether memory is sound, and says the same after the line (`read-known`): no line needs a scan.
 pub fn read_line(ok: bool, r: Reader, ns: &mut [u32], bs: &mut [u32], line: &[u8]) -> Reader
     requires { ⌜ KnownIn ok r (now ns) (now bs) ⌝ }
     ensures { λ s. ⌜ ReadAs (read-line r (now (ns .entry)) (now (bs .entry)) (closed-line (now (line .entry)))) s (now (ns .exit)) (now (bs .exit)) ⌝ }

@@ -1,19 +1,16 @@
--- Laws that the proofs of the functions cite: a line with the byte that closes it, what a buffer holds of a printed line, the bytes
--- that are kept of a line. Assumes nothing.
+-- Laws that the proofs of the functions cite: a line with the byte that closes it. Assumes nothing.
 use mathlib.Core.Path.{_≡_, sym, ap, _∙_}
 use mathlib.Core.List.{List, [], _∷_}
 use mathlib.Core.Bool.{Bool, false, _&&_, and-false}
-use Prim.Native.Nat.{ℕ, _+_, _<_, _≤_}
+use Prim.Native.Nat.{ℕ, _+_}
 use native.Mathlib.Omega.{arith}
-use borrow.Author.Tests.{eq-eqb, ne-eqb, lt-ltb, le-ltb}
+use borrow.Author.Tests.{eq-eqb, ne-eqb}
 use lib.Dec.{eqb}
-use lib.ListN.{length, getD, take, set, length-append}
-use lib.Seq.{take-all, length-take-le}
+use lib.ListN.{length, getD, take, length-append}
+use lib.Seq.{length-take-le}
 use Rattle.session.specs.Keys.{newline}
 use Rattle.session.specs.Grammar.{starts-with, equals}
 use Rattle.recording.specs.Recording.{close}
-use Rattle.reader_state.specs.declared.kept_line.KeptLine.{KeptLine}
-use Rattle.reader_state.specs.KeptLines.{kept-line, pushed}
 
 -- ---- a line with the byte that closes it
 
@@ -48,16 +45,3 @@ module _ (p l : List ℕ) where
   same-last h e =
       let short : length (take (length l) p) ≡ length l = length-take-le (length l) p (omega arith) in
       rw (closes-as p l h e, eq-eqb (length (close l)) (length p) (longer ∙ sym h), eq-eqb (length l) (length (take (length l) p)) (sym short))
-
--- ---- a line that is not closed yet
-
-pub all-kept : (b : List ℕ) (n : ℕ) → length b ≡ 73 → 73 ≤ n → take 73 b ≡ take n b
-all-kept b n e h = take-all 73 b (omega arith) ∙ sym (take-all n b (omega arith))
-
-pub push-in : (h : KeptLine) (x : ℕ) → h .len < 73 → kept-line (set (h .bytes) (h .len) x) (h .len + 1) ≡ pushed h x
-unfolding pushed
-push-in h x l = rw (lt-ltb _ _ l)
-
-pub push-full : (h : KeptLine) (x : ℕ) → 73 ≤ h .len → h ≡ pushed h x
-unfolding pushed
-push-full h x l = rw (le-ltb _ _ l)

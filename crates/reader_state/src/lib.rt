@@ -1,7 +1,6 @@
 // A reader of recordings between two lines, and what it does with a line that is only compared. `comparing` compares a line with what the
-// machine prints, `kept_line` has the bytes of a line that is not closed yet.
+// machine prints.
 pub mod comparing;
-pub mod kept_line;
 
 ghost use mathlib.Core.Path.{_≡_};
 ghost use Rattle.reader_state.specs.Standing.{new-reader, next-number, next-place, missing, awaits-event, answer-at-end, decided, after-comparing};

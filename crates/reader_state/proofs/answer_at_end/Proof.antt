@@ -4,21 +4,6 @@ use borrow.Author.Needs.{needs}
 use Rattle.reader_state.proofs.answer_at_end.Statement.{statement}
 use Rattle.reader_state.proofs.answer_at_end.Tie as tie
 
-enum-told : tie.Need-enum-told
-enum-told c = search needs
-
-enum-told-2 : tie.Need-enum-told-2
-enum-told-2 c = search needs
-
-enum-told-3 : tie.Need-enum-told-3
-enum-told-3 c = search needs
-
-enum-told-4 : tie.Need-enum-told-4
-enum-told-4 c = search needs
-
-enum-known-phase : tie.Need-enum-known-phase
-enum-known-phase c = search needs
-
 returns : tie.Need-returns
 unfolding answer-at-end
 returns c = rw (c .enum-told .given .1)
@@ -43,11 +28,11 @@ pub answer-at-end-spec : {M : Type 1} → statement M
 answer-at-end-spec =
     tie.close
     (tie.spec
-    enum-told
-    enum-told-2
-    enum-told-3
-    enum-told-4
-    enum-known-phase
+    (λ c. search needs)
+    (λ c. search needs)
+    (λ c. search needs)
+    (λ c. search needs)
+    (λ c. search needs)
     returns
     returns-2
     returns-3

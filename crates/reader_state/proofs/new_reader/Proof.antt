@@ -11,12 +11,6 @@ use borrow.Author.Needs.{needs}
 use Rattle.reader_state.proofs.new_reader.Statement.{statement}
 use Rattle.reader_state.proofs.new_reader.Tie as tie
 
-zero-config-requires : tie.Need-zero-config-requires
-zero-config-requires c κs = search needs
-
-zero-state-requires : tie.Need-zero-state-requires
-zero-state-requires c κs = search needs
-
 returns : tie.Need-returns
 unfolding new-reader empty-header
 returns c =
@@ -24,4 +18,4 @@ returns c =
     ∙ ap (λ (m : State). reader-of (Due Tasks) (header zero-config 0 0) m 1) (c .zero-state .ensures)
 
 pub new-reader-spec : {M : Type 1} → statement M
-new-reader-spec = tie.close (tie.spec zero-config-requires zero-state-requires returns)
+new-reader-spec = tie.close (tie.spec (λ c κs. search needs) (λ c κs. search needs) returns)

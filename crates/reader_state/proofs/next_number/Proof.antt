@@ -5,9 +5,6 @@ use borrow.Author.Needs.{needs}
 use Rattle.reader_state.proofs.next_number.Statement.{statement}
 use Rattle.reader_state.proofs.next_number.Tie as tie
 
-add-result : tie.Need-add-result
-add-result c = search needs
-
 returns : tie.Need-returns
 unfolding next-number
 returns c = omega (arith, c .if1 .taken)
@@ -17,4 +14,4 @@ unfolding next-number
 returns-2 c = omega (arith, c .if1 .left, c .before)
 
 pub next-number-spec : {M : Type 1} → statement M
-next-number-spec = tie.close (tie.spec add-result returns returns-2)
+next-number-spec = tie.close (tie.spec (λ c. search needs) returns returns-2)

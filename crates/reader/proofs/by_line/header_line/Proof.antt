@@ -9,45 +9,12 @@ use borrow.Author.Needs.{needs}
 use Rattle.reader.proofs.by_line.header_line.Statement.{statement}
 use Rattle.reader.proofs.by_line.header_line.Tie as tie
 
-header-line-requires : tie.Need-header-line-requires
-header-line-requires c κs = search needs
-
-enum-known-next : tie.Need-enum-known-next
-enum-known-next c = search needs
-
-next-number-requires : tie.Need-next-number-requires
-next-number-requires c κs = search needs
-
-enum-known-h : tie.Need-enum-known-h
-enum-known-h c = search needs
-
-next-number-requires-2 : tie.Need-next-number-requires-2
-next-number-requires-2 c κs = search needs
-
-open-machine-requires : tie.Need-open-machine-requires
-open-machine-requires c κs = search needs
-
-enum-known-h-2 : tie.Need-enum-known-h-2
-enum-known-h-2 c = search needs
-
-open-machine-requires-2 : tie.Need-open-machine-requires-2
-open-machine-requires-2 c κs = search needs
-
-awaits-event-requires : tie.Need-awaits-event-requires
-awaits-event-requires c κs = search needs
-
 turn-line-requires : tie.Need-turn-line-requires
 turn-line-requires c κs =
     let at-if1 = c .before .before in
     let o = at-if1 .before .before .before .before .before .before .open-machine2 in
     awaits-known true _ _ (sym (at-if1 .before .awaits-event .ensures) ∙ at-if1 .if1 .taken)
     (known-as true _ (o .ensures .next) (o .ensures .nodes) (o .ensures .buckets) (opened-known true _ _ _ _ _ refl))
-
-same-length : tie.Need-same-length
-same-length c = search needs
-
-same-length-2 : tie.Need-same-length-2
-same-length-2 c = search needs
 
 returns : tie.Need-returns
 unfolding header-line
@@ -62,12 +29,6 @@ returns c =
     rw told (opened-turn _ (o .result) _ _ (o .ensures) _ (sym (at-if1 .before .awaits-event .ensures) ∙ at-if1 .if1 .taken) _ _ _
     (c .before .before .before .before .turn-line .ensures))
 
-enum-told : tie.Need-enum-told
-enum-told c = search needs
-
-decided-requires : tie.Need-decided-requires
-decided-requires c κs = search needs
-
 returns-2 : tie.Need-returns-2
 returns-2 c =
     let at-match = c .before .before .before in
@@ -75,12 +36,6 @@ returns-2 c =
     let entry = at-header-line .before .before .before .before .before in
     let told = sym (at-header-line .header-line .ensures) ∙ at-match .next .given .1 in
     rw told (next-due (entry .args .r) _ _ _ _ _ _ (c .next-number .ensures))
-
-same-length-3 : tie.Need-same-length-3
-same-length-3 c = search needs
-
-same-length-4 : tie.Need-same-length-4
-same-length-4 c = search needs
 
 returns-3 : tie.Need-returns-3
 returns-3 c =
@@ -91,12 +46,6 @@ returns-3 c =
     let told = sym (at-header-line .header-line .ensures) ∙ at-match .h .given .1 in
     rw told (completes (entry .args .r) _ _ _ _ _ _ _ _ (at-next-number2 .next-number2 .ensures)
     (c .before .before .before .before .open-machine .ensures))
-
-same-length-5 : tie.Need-same-length-5
-same-length-5 c = search needs
-
-same-length-6 : tie.Need-same-length-6
-same-length-6 c = search needs
 
 returns-4 : tie.Need-returns-4
 unfolding header-line
@@ -122,26 +71,26 @@ pub header-line-spec : {M : Type 1} → statement M
 header-line-spec =
     tie.close
     (tie.spec
-    header-line-requires
-    enum-known-next
-    next-number-requires
-    enum-known-h
-    next-number-requires-2
-    open-machine-requires
-    enum-known-h-2
-    open-machine-requires-2
-    awaits-event-requires
+    (λ c κs. search needs)
+    (λ c. search needs)
+    (λ c κs. search needs)
+    (λ c. search needs)
+    (λ c κs. search needs)
+    (λ c κs. search needs)
+    (λ c. search needs)
+    (λ c κs. search needs)
+    (λ c κs. search needs)
     turn-line-requires
-    same-length
-    same-length-2
+    (λ c. search needs)
+    (λ c. search needs)
     returns
-    enum-told
-    decided-requires
+    (λ c. search needs)
+    (λ c κs. search needs)
     returns-2
-    same-length-3
-    same-length-4
+    (λ c. search needs)
+    (λ c. search needs)
     returns-3
-    same-length-5
-    same-length-6
+    (λ c. search needs)
+    (λ c. search needs)
     returns-4
     returns-5)

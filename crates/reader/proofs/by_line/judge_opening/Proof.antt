@@ -4,15 +4,6 @@ use borrow.Author.Needs.{needs}
 use Rattle.reader.proofs.by_line.judge_opening.Statement.{statement}
 use Rattle.reader.proofs.by_line.judge_opening.Tie as tie
 
-node-extent-requires : tie.Need-node-extent-requires
-node-extent-requires c κs = search needs
-
-bucket-extent-requires : tie.Need-bucket-extent-requires
-bucket-extent-requires c κs = search needs
-
-refusal-requires : tie.Need-refusal-requires
-refusal-requires c κs = search needs
-
 returns : tie.Need-returns
 returns c =
     let at-refusal = c .before in
@@ -32,4 +23,4 @@ returns-2 c =
     (at-node-extent .node-extent .ensures .0) (at-bucket-extent .bucket-extent .ensures .0) (c .if1 .left)
 
 pub judge-opening-spec : {M : Type 1} → statement M
-judge-opening-spec = tie.close (tie.spec node-extent-requires bucket-extent-requires refusal-requires returns returns-2)
+judge-opening-spec = tie.close (tie.spec (λ c κs. search needs) (λ c κs. search needs) (λ c κs. search needs) returns returns-2)

@@ -8,12 +8,6 @@ use borrow.Author.Needs.{needs}
 use Rattle.reader.proofs.by_line.listed_end.Statement.{statement}
 use Rattle.reader.proofs.by_line.listed_end.Tie as tie
 
-slice-aggregate-print-listed : tie.Need-slice-aggregate-print-listed
-slice-aggregate-print-listed c = search needs
-
-print-listed-requires : tie.Need-print-listed-requires
-print-listed-requires c κs = search needs
-
 returns : tie.Need-returns
 returns c =
     let at-print = c .before .before in
@@ -32,4 +26,4 @@ returns-2 c =
 
 pub listed-end-spec : {M : Type 1} → statement M
 listed-end-spec =
-    tie.close (tie.spec slice-aggregate-print-listed print-listed-requires returns returns-2)
+    tie.close (tie.spec (λ c. search needs) (λ c κs. search needs) returns returns-2)

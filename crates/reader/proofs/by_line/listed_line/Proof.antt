@@ -21,12 +21,6 @@ use Rattle.reader.proofs.by_line.listed_line.Tie as tie
 number-fits : (c : tie.Start) → c .args .r .number ≤ most-lines
 number-fits c = search needs
 
-slice-aggregate-print-listed : tie.Need-slice-aggregate-print-listed
-slice-aggregate-print-listed c = search needs
-
-print-listed-requires : tie.Need-print-listed-requires
-print-listed-requires c κs = search needs
-
 array-share-prefix-w : tie.Need-array-share-prefix-w
 array-share-prefix-w c =
     let o = c .before .print-listed in
@@ -36,9 +30,6 @@ slice-aggregate-compare-listed : tie.Need-slice-aggregate-compare-listed
 slice-aggregate-compare-listed c =
     let o = c .before .before .print-listed in
     sym (length-take-le (o .result) (o .last .1 .1 .1 .1 .0) (omega (arith, append-within _ _ _ _ (o .ensures), o .kept .1 .1 .1 .1 .0)))
-
-compare-listed-requires : tie.Need-compare-listed-requires
-compare-listed-requires c κs = search needs
 
 returns : tie.Need-returns
 unfolding read-listed
@@ -57,9 +48,9 @@ pub listed-line-spec : {M : Type 1} → statement M
 listed-line-spec =
     tie.close
     (tie.spec
-    slice-aggregate-print-listed
-    print-listed-requires
+    (λ c. search needs)
+    (λ c κs. search needs)
     array-share-prefix-w
     slice-aggregate-compare-listed
-    compare-listed-requires
+    (λ c κs. search needs)
     returns)

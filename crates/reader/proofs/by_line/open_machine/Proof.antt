@@ -16,38 +16,17 @@ number-fits c = search needs
 next-fits : (c : tie.Start) → c .args .next ≤ most-lines
 next-fits c = search needs
 
-node-extent-requires : tie.Need-node-extent-requires
-node-extent-requires c κs = search needs
-
-bucket-extent-requires : tie.Need-bucket-extent-requires
-bucket-extent-requires c κs = search needs
-
-slice-relend-prefix-open : tie.Need-slice-relend-prefix-open
-slice-relend-prefix-open c = search needs
-
 slice-aggregate-open : tie.Need-slice-aggregate-open
 slice-aggregate-open c =
     let at-node-extent = c .before .before .before in
     let entry = at-node-extent .before .before .before in
     sym (length-take-le (at-node-extent .node-extent .result) (now (entry .args .ns)) (at-node-extent .node-extent .ensures .1))
 
-slice-relend-prefix-open-2 : tie.Need-slice-relend-prefix-open-2
-slice-relend-prefix-open-2 c = search needs
-
 slice-aggregate-open-2 : tie.Need-slice-aggregate-open-2
 slice-aggregate-open-2 c =
     let at-bucket-extent = c .before .before .before in
     let entry = at-bucket-extent .before .before .before .before in
     sym (length-take-le (at-bucket-extent .bucket-extent .result) (now (entry .args .bs)) (at-bucket-extent .bucket-extent .ensures .1))
-
-open-requires : tie.Need-open-requires
-open-requires c κs = search needs
-
-same-length : tie.Need-same-length
-same-length c = search needs
-
-same-length-2 : tie.Need-same-length-2
-same-length-2 c = search needs
 
 returns : tie.Need-returns
 returns c =
@@ -61,12 +40,6 @@ returns c =
     let o = at-open .«open» in
     opens (call .h) (now (call .ns)) (now (call .bs)) (a .result) (b .result) (a .ensures .0) (b .ensures .0) (o .result .state) _ _
     (o .result .refusal) (call .n) (call .next) (o .ensures .0) (o .ensures .1) (next-fits entry) (c .if1 .taken)
-
-same-length-3 : tie.Need-same-length-3
-same-length-3 c = search needs
-
-same-length-4 : tie.Need-same-length-4
-same-length-4 c = search needs
 
 returns-2 : tie.Need-returns-2
 returns-2 c =
@@ -85,16 +58,16 @@ pub open-machine-spec : {M : Type 1} → statement M
 open-machine-spec =
     tie.close
     (tie.spec
-    node-extent-requires
-    bucket-extent-requires
-    slice-relend-prefix-open
+    (λ c κs. search needs)
+    (λ c κs. search needs)
+    (λ c. search needs)
     slice-aggregate-open
-    slice-relend-prefix-open-2
+    (λ c. search needs)
     slice-aggregate-open-2
-    open-requires
-    same-length
-    same-length-2
+    (λ c κs. search needs)
+    (λ c. search needs)
+    (λ c. search needs)
     returns
-    same-length-3
-    same-length-4
+    (λ c. search needs)
+    (λ c. search needs)
     returns-2)

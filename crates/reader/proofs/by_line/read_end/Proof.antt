@@ -9,18 +9,6 @@ use borrow.Author.Needs.{needs}
 use Rattle.reader.proofs.by_line.read_end.Statement.{statement}
 use Rattle.reader.proofs.by_line.read_end.Tie as tie
 
-missing-requires : tie.Need-missing-requires
-missing-requires c κs = search needs
-
-enum-known-phase : tie.Need-enum-known-phase
-enum-known-phase c = search needs
-
-optional-requires : tie.Need-optional-requires
-optional-requires c κs = search needs
-
-judge-opening-requires : tie.Need-judge-opening-requires
-judge-opening-requires c κs = search needs
-
 returns : tie.Need-returns
 unfolding phase-end
 returns c =
@@ -33,24 +21,6 @@ returns c =
     (rw (sym (at-if1 .before .optional .ensures) ∙ at-if1 .if1 .taken)
     (ends-judged (call .r .header) _ _ (now (call .ns)) (now (call .bs)) (at-missing .missing .ensures) _ (c .judge-opening .ensures)))
 
-enum-told : tie.Need-enum-told
-enum-told c = search needs
-
-answer-at-end-requires : tie.Need-answer-at-end-requires
-answer-at-end-requires c κs = search needs
-
-enum-told-2 : tie.Need-enum-told-2
-enum-told-2 c = search needs
-
-answer-at-end-requires-2 : tie.Need-answer-at-end-requires-2
-answer-at-end-requires-2 c κs = search needs
-
-enum-known-phase-2 : tie.Need-enum-known-phase-2
-enum-known-phase-2 c = search needs
-
-listed-end-requires : tie.Need-listed-end-requires
-listed-end-requires c κs = search needs
-
 returns-2 : tie.Need-returns-2
 unfolding phase-end
 returns-2 c =
@@ -60,12 +30,6 @@ returns-2 c =
     let call = entry .args in
     reads-end (call .r) (Listed (at-match .phase2 .given .0 .0)) (at-match .phase2 .given .1) _ _ _ _
     (rw (c .before .if2 .taken) (c .listed-end .ensures))
-
-enum-told-3 : tie.Need-enum-told-3
-enum-told-3 c = search needs
-
-answer-at-end-requires-3 : tie.Need-answer-at-end-requires-3
-answer-at-end-requires-3 c κs = search needs
 
 returns-3 : tie.Need-returns-3
 unfolding phase-end
@@ -121,20 +85,20 @@ pub read-end-spec : {M : Type 1} → statement M
 read-end-spec =
     tie.close
     (tie.spec
-    missing-requires
-    enum-known-phase
-    optional-requires
-    judge-opening-requires
+    (λ c κs. search needs)
+    (λ c. search needs)
+    (λ c κs. search needs)
+    (λ c κs. search needs)
     returns
-    enum-told
-    answer-at-end-requires
-    enum-told-2
-    answer-at-end-requires-2
-    enum-known-phase-2
-    listed-end-requires
+    (λ c. search needs)
+    (λ c κs. search needs)
+    (λ c. search needs)
+    (λ c κs. search needs)
+    (λ c. search needs)
+    (λ c κs. search needs)
     returns-2
-    enum-told-3
-    answer-at-end-requires-3
+    (λ c. search needs)
+    (λ c κs. search needs)
     returns-3
     returns-4
     returns-5

@@ -17,42 +17,12 @@ use Rattle.reader.proofs.by_line.read_line.Tie as tie
 number-fits : (c : tie.Start) → c .args .r .number ≤ most-lines
 number-fits c = search needs
 
-enum-known-phase : tie.Need-enum-known-phase
-enum-known-phase c = search needs
-
-header-line-requires : tie.Need-header-line-requires
-header-line-requires c κs = search needs
-
-enum-told : tie.Need-enum-told
-enum-told c = search needs
-
 turn-line-requires : tie.Need-turn-line-requires
 unfolding awaits-event
 turn-line-requires c κs =
     let at-enum-told = c .before .before in
     let entry = at-enum-told .before .before .before .before .before in
     awaits-known _ _ _ (ap awaits-event (at-enum-told .enum-told .given .1)) (entry .pre)
-
-enum-known-phase-2 : tie.Need-enum-known-phase-2
-enum-known-phase-2 c = search needs
-
-compare-output-requires : tie.Need-compare-output-requires
-compare-output-requires c κs = search needs
-
-enum-known-phase-3 : tie.Need-enum-known-phase-3
-enum-known-phase-3 c = search needs
-
-listed-line-requires : tie.Need-listed-line-requires
-listed-line-requires c κs = search needs
-
-enum-told-2 : tie.Need-enum-told-2
-enum-told-2 c = search needs
-
-same-length : tie.Need-same-length
-same-length c = search needs
-
-same-length-2 : tie.Need-same-length-2
-same-length-2 c = search needs
 
 returns : tie.Need-returns
 unfolding phase-line
@@ -61,12 +31,6 @@ returns c =
     let entry = at-match .before .before .before .before .before in
     let call = entry .args in
     reads-line (call .r) (Due (at-match .phase .given .0 .0)) (at-match .phase .given .1) _ _ _ _ _ _ (c .before .before .before .before .header-line .ensures)
-
-same-length-3 : tie.Need-same-length-3
-same-length-3 c = search needs
-
-same-length-4 : tie.Need-same-length-4
-same-length-4 c = search needs
 
 returns-2 : tie.Need-returns-2
 unfolding phase-line
@@ -88,12 +52,6 @@ returns-3 c =
     (read-as _ _ _ _ _ (c .compare-output .ensures)
     (compared-back (call .r) (now (call .ns)) (now (call .bs)) (number-fits entry) (output-line k o) (now (call .line)) Event))
 
-same-length-5 : tie.Need-same-length-5
-same-length-5 c = search needs
-
-same-length-6 : tie.Need-same-length-6
-same-length-6 c = search needs
-
 returns-4 : tie.Need-returns-4
 unfolding phase-line read-phase
 returns-4 c =
@@ -114,23 +72,23 @@ pub read-line-spec : {M : Type 1} → statement M
 read-line-spec =
     tie.close
     (tie.spec
-    enum-known-phase
-    header-line-requires
-    enum-told
+    (λ c. search needs)
+    (λ c κs. search needs)
+    (λ c. search needs)
     turn-line-requires
-    enum-known-phase-2
-    compare-output-requires
-    enum-known-phase-3
-    listed-line-requires
-    enum-told-2
-    same-length
-    same-length-2
+    (λ c. search needs)
+    (λ c κs. search needs)
+    (λ c. search needs)
+    (λ c κs. search needs)
+    (λ c. search needs)
+    (λ c. search needs)
+    (λ c. search needs)
     returns
-    same-length-3
-    same-length-4
+    (λ c. search needs)
+    (λ c. search needs)
     returns-2
     returns-3
-    same-length-5
-    same-length-6
+    (λ c. search needs)
+    (λ c. search needs)
     returns-4
     returns-5)

@@ -6,12 +6,6 @@ use borrow.Author.Needs.{needs}
 use Rattle.reader.proofs.by_line.start_task.Statement.{statement}
 use Rattle.reader.proofs.by_line.start_task.Tie as tie
 
-start-requires : tie.Need-start-requires
-start-requires c κs = search needs
-
-next-number-requires : tie.Need-next-number-requires
-next-number-requires c κs = search needs
-
 returns : tie.Need-returns
 unfolding event task-in
 returns c =
@@ -22,4 +16,4 @@ returns c =
     (c .next-number .ensures)
 
 pub start-task-spec : {M : Type 1} → statement M
-start-task-spec = tie.close (tie.spec start-requires next-number-requires returns)
+start-task-spec = tie.close (tie.spec (λ c κs. search needs) (λ c κs. search needs) returns)

@@ -7,18 +7,6 @@ use borrow.Author.Needs.{needs}
 use Rattle.reader.proofs.by_line.step_task.Statement.{statement}
 use Rattle.reader.proofs.by_line.step_task.Tie as tie
 
-step-requires : tie.Need-step-requires
-step-requires c κs = search needs
-
-next-number-requires : tie.Need-next-number-requires
-next-number-requires c κs = search needs
-
-same-length : tie.Need-same-length
-same-length c = search needs
-
-same-length-2 : tie.Need-same-length-2
-same-length-2 c = search needs
-
 returns : tie.Need-returns
 unfolding event task-in
 returns c =
@@ -28,4 +16,4 @@ returns c =
 
 pub step-task-spec : {M : Type 1} → statement M
 step-task-spec =
-    tie.close (tie.spec step-requires next-number-requires same-length same-length-2 returns)
+    tie.close (tie.spec (λ c κs. search needs) (λ c κs. search needs) (λ c. search needs) (λ c. search needs) returns)

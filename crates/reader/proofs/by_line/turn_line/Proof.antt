@@ -16,21 +16,6 @@ use Rattle.reader.proofs.by_line.turn_line.Tie as tie
 number-fits : (c : tie.Start) → c .args .r .number ≤ most-lines
 number-fits c = search needs
 
-slice-aggregate-starts-with : tie.Need-slice-aggregate-starts-with
-slice-aggregate-starts-with c = search needs
-
-starts-with-requires : tie.Need-starts-with-requires
-starts-with-requires c κs = search needs
-
-listed-line-requires : tie.Need-listed-line-requires
-listed-line-requires c κs = search needs
-
-same-length : tie.Need-same-length
-same-length c = search needs
-
-same-length-2 : tie.Need-same-length-2
-same-length-2 c = search needs
-
 returns : tie.Need-returns
 unfolding turn-line read-turn
 returns c =
@@ -38,27 +23,6 @@ returns c =
     let at-starts-with = at-if1 .before in
     let entry = at-starts-with .before .before .before .before .before in
     rw (turn-lists (now (entry .args .line)) (sym (at-starts-with .starts-with .ensures) ∙ at-if1 .if1 .taken)) (c .listed-line .ensures)
-
-event-line-requires : tie.Need-event-line-requires
-event-line-requires c κs = search needs
-
-enum-known-k : tie.Need-enum-known-k
-enum-known-k c = search needs
-
-start-task-requires : tie.Need-start-task-requires
-start-task-requires c κs = search needs
-
-enum-known-k-2 : tie.Need-enum-known-k-2
-enum-known-k-2 c = search needs
-
-step-task-requires : tie.Need-step-task-requires
-step-task-requires c κs = search needs
-
-enum-told : tie.Need-enum-told
-enum-told c = search needs
-
-decided-requires : tie.Need-decided-requires
-decided-requires c κs = search needs
 
 returns-2 : tie.Need-returns-2
 unfolding turn-line read-turn event-turn
@@ -72,12 +36,6 @@ returns-2 c =
     let told =
     turn-event line _ (sym (at-starts-with .starts-with .ensures) ∙ at-if1 .if1 .left) (sym (at-event-line .event-line .ensures) ∙ at-match .k .given .1) in
     rw told (c .start-task .ensures _ _ (entry .pre))
-
-same-length-3 : tie.Need-same-length-3
-same-length-3 c = search needs
-
-same-length-4 : tie.Need-same-length-4
-same-length-4 c = search needs
 
 returns-3 : tie.Need-returns-3
 unfolding turn-line read-turn event-turn
@@ -110,21 +68,21 @@ pub turn-line-spec : {M : Type 1} → statement M
 turn-line-spec =
     tie.close
     (tie.spec
-    slice-aggregate-starts-with
-    starts-with-requires
-    listed-line-requires
-    same-length
-    same-length-2
+    (λ c. search needs)
+    (λ c κs. search needs)
+    (λ c κs. search needs)
+    (λ c. search needs)
+    (λ c. search needs)
     returns
-    event-line-requires
-    enum-known-k
-    start-task-requires
-    enum-known-k-2
-    step-task-requires
-    enum-told
-    decided-requires
+    (λ c κs. search needs)
+    (λ c. search needs)
+    (λ c κs. search needs)
+    (λ c. search needs)
+    (λ c κs. search needs)
+    (λ c. search needs)
+    (λ c κs. search needs)
     returns-2
-    same-length-3
-    same-length-4
+    (λ c. search needs)
+    (λ c. search needs)
     returns-3
     returns-4)

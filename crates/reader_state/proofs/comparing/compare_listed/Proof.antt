@@ -8,15 +8,6 @@ use borrow.Author.Needs.{needs}
 use Rattle.reader_state.proofs.comparing.compare_listed.Statement.{statement}
 use Rattle.reader_state.proofs.comparing.compare_listed.Tie as tie
 
-same-line-requires : tie.Need-same-line-requires
-same-line-requires c κs = search needs
-
-next-place-requires : tie.Need-next-place-requires
-next-place-requires c κs = search needs
-
-after-comparing-requires : tie.Need-after-comparing-requires
-after-comparing-requires c κs = search needs
-
 returns : tie.Need-returns
 returns c =
     let at-same-line = c .before .before in
@@ -28,4 +19,4 @@ returns c =
 
 pub compare-listed-spec : {M : Type 1} → statement M
 compare-listed-spec =
-    tie.close (tie.spec same-line-requires next-place-requires after-comparing-requires returns)
+    tie.close (tie.spec (λ c κs. search needs) (λ c κs. search needs) (λ c κs. search needs) returns)

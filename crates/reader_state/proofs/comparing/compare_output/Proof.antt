@@ -16,12 +16,6 @@ use borrow.Author.Needs.{needs}
 use Rattle.reader_state.proofs.comparing.compare_output.Statement.{statement}
 use Rattle.reader_state.proofs.comparing.compare_output.Tie as tie
 
-slice-aggregate-output : tie.Need-slice-aggregate-output
-slice-aggregate-output c = search needs
-
-output-requires : tie.Need-output-requires
-output-requires c κs = search needs
-
 array-share-prefix-w : tie.Need-array-share-prefix-w
 array-share-prefix-w c =
     let o = c .before .output in
@@ -31,12 +25,6 @@ slice-aggregate-same-line : tie.Need-slice-aggregate-same-line
 slice-aggregate-same-line c =
     let o = c .before .before .output in
     sym (length-take-le (o .result) (o .last .0) (omega (arith, append-within _ _ _ _ (o .ensures), o .kept .0)))
-
-same-line-requires : tie.Need-same-line-requires
-same-line-requires c κs = search needs
-
-after-comparing-requires : tie.Need-after-comparing-requires
-after-comparing-requires c κs = search needs
 
 returns : tie.Need-returns
 returns c =
@@ -53,10 +41,10 @@ pub compare-output-spec : {M : Type 1} → statement M
 compare-output-spec =
     tie.close
     (tie.spec
-    slice-aggregate-output
-    output-requires
+    (λ c. search needs)
+    (λ c κs. search needs)
     array-share-prefix-w
     slice-aggregate-same-line
-    same-line-requires
-    after-comparing-requires
+    (λ c κs. search needs)
+    (λ c κs. search needs)
     returns)

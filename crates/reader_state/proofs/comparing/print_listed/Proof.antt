@@ -9,30 +9,12 @@ use borrow.Author.Needs.{needs}
 use Rattle.reader_state.proofs.comparing.print_listed.Statement.{statement}
 use Rattle.reader_state.proofs.comparing.print_listed.Tie as tie
 
-slice-aggregate-key-line : tie.Need-slice-aggregate-key-line
-slice-aggregate-key-line c = search needs
-
-key-line-requires : tie.Need-key-line-requires
-key-line-requires c κs = search needs
-
-same-length : tie.Need-same-length
-same-length c = search needs
-
 returns : tie.Need-returns
 unfolding listed-line
 returns c =
     let at-key-line = c .before .before in
     let at-if1 = at-key-line .before .before .before in
     rw (eq-eqb _ _ (at-if1 .if1 .taken)) (at-key-line .key-line .ensures)
-
-slice-aggregate-key-line-2 : tie.Need-slice-aggregate-key-line-2
-slice-aggregate-key-line-2 c = search needs
-
-key-line-requires-2 : tie.Need-key-line-requires-2
-key-line-requires-2 c κs = search needs
-
-same-length-2 : tie.Need-same-length-2
-same-length-2 c = search needs
 
 returns-2 : tie.Need-returns-2
 unfolding listed-line
@@ -42,31 +24,10 @@ returns-2 c =
     let at-if1 = at-if2 .before in
     rw (ne-eqb _ _ (at-if1 .if1 .left), eq-eqb _ _ (at-if2 .if2 .taken)) (at-key-line .key-line2 .ensures)
 
-sub-j : tie.Need-sub-j
-sub-j c = search needs
-
-cast-j : tie.Need-cast-j
-cast-j c = search needs
-
-slice-aggregate-key-line-3 : tie.Need-slice-aggregate-key-line-3
-slice-aggregate-key-line-3 c = search needs
-
-mul-key-line : tie.Need-mul-key-line
-mul-key-line c = search needs
-
-shared-slice-read-key-line : tie.Need-shared-slice-read-key-line
-shared-slice-read-key-line c = search needs
-
 cast-key-line : tie.Need-cast-key-line
 cast-key-line c =
     let entry = c .before .before .before .before .before .before .before .before in
     omega (arith, c .shared-slice-known2 .given (entry .args .k - 2))
-
-key-line-requires-3 : tie.Need-key-line-requires-3
-key-line-requires-3 c κs = search needs
-
-same-length-3 : tie.Need-same-length-3
-same-length-3 c = search needs
 
 returns-3 : tie.Need-returns-3
 unfolding listed-line
@@ -88,21 +49,21 @@ pub print-listed-spec : {M : Type 1} → statement M
 print-listed-spec =
     tie.close
     (tie.spec
-    slice-aggregate-key-line
-    key-line-requires
-    same-length
+    (λ c. search needs)
+    (λ c κs. search needs)
+    (λ c. search needs)
     returns
-    slice-aggregate-key-line-2
-    key-line-requires-2
-    same-length-2
+    (λ c. search needs)
+    (λ c κs. search needs)
+    (λ c. search needs)
     returns-2
-    sub-j
-    cast-j
-    slice-aggregate-key-line-3
-    mul-key-line
-    shared-slice-read-key-line
+    (λ c. search needs)
+    (λ c. search needs)
+    (λ c. search needs)
+    (λ c. search needs)
+    (λ c. search needs)
     cast-key-line
-    key-line-requires-3
-    same-length-3
+    (λ c κs. search needs)
+    (λ c. search needs)
     returns-3
     returns-4)

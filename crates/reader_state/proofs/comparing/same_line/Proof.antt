@@ -9,16 +9,10 @@ use borrow.Author.Needs.{needs}
 use Rattle.reader_state.proofs.comparing.same_line.Statement.{statement}
 use Rattle.reader_state.proofs.comparing.same_line.Tie as tie
 
-add-if1 : tie.Need-add-if1
-add-if1 c = search needs
-
 returns : tie.Need-returns
 returns c =
     let entry = c .before .before .before in
     sym (other-length (now (entry .args .printed)) (now (entry .args .line)) (c .if1 .taken))
-
-shared-slice-read-if2 : tie.Need-shared-slice-read-if2
-shared-slice-read-if2 c = search needs
 
 returns-2 : tie.Need-returns-2
 returns-2 c =
@@ -33,9 +27,6 @@ slice-aggregate-equals c =
     let line = now (entry .args .line) in
     sym (length-take-le (length line) (now (entry .args .printed)) (omega (arith, at-if1 .if1 .left)))
 
-equals-requires : tie.Need-equals-requires
-equals-requires c κs = search needs
-
 returns-3 : tie.Need-returns-3
 returns-3 c =
     let at-if2 = c .before .before in
@@ -47,10 +38,10 @@ pub same-line-spec : {M : Type 1} → statement M
 same-line-spec =
     tie.close
     (tie.spec
-    add-if1
+    (λ c. search needs)
     returns
-    shared-slice-read-if2
+    (λ c. search needs)
     returns-2
     slice-aggregate-equals
-    equals-requires
+    (λ c κs. search needs)
     returns-3)
