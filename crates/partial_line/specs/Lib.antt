@@ -1,3 +1,2 @@
 pub mod PartialLines
-pub mod LineSoFar
 pub mod Filling

@@ -317,7 +317,7 @@ pub verdicts-hold : map (λ c. verdict (c .input)) verdicts ≡ map (λ c. c .an
 unfolding everything session-definitions recording-definitions codes ascii texts yard yard-2 judged verdicts
 verdicts-hold = refl
 
--- the recorder and the reader, one byte at a time
+-- the recorder, one line at a time, and the reader, one byte at a time
 
 pub recorder-holds : map (λ c. record-input (c .input)) recordings ≡ map (λ c. c .writes) recordings
 unfolding everything session-definitions recording-definitions codes ascii texts yard yard-2 gives recordings

@@ -1,2 +1,2 @@
-pub mod Stopped
+pub mod Running
 pub mod Outcomes

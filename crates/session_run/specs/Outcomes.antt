@@ -1,73 +1,57 @@
--- How a session program ends: its exit status (docs/DECISIONS.md), and what its functions are held to. No contract says which bytes a read
--- gives nor whether a write succeeds: `input` and `shown` below stand for these, and the rest follows from them. Assumes nothing.
-use Prim.Native.Nat.{ℕ}
-use mathlib.Core.Path.{_≡_}
-use mathlib.Core.List.{List}
-use mathlib.Core.Bool.{Bool, true, false, not, _||_}
-use lib.IntN.{ℤ, pos}
-use lib.ListN.{length}
+-- What the functions of the session program are held to. No contract says which bytes a read gives nor whether a write succeeds: stdio's records stand for
+-- these. Assumes nothing.
+use Prim.Native.Nat.{ℕ, _+_, _≤_}
+use mathlib.Core.Path.{_≡_, sym, ap, _∙_}
+use mathlib.Core.List.{List, _++_}
+use mathlib.Core.Bool.{true}
+use lib.IntN.{ℤ}
+use lib.ListN.{length, take}
 use Rattle.spec.specs.Lists.{if_then_else_}
-use Rattle.session_stream.specs.Stream.{Progress, begin, feeds, stream-end, streamed}
-use Rattle.session_run.specs.declared.Outcome.{Outcome}
-use Rattle.session_run.specs.declared.Outcome.the-variants.{More, Ended, Refused, ReadFailed, WriteFailed}
-use Rattle.session_run.specs.declared.Reading.{Reading}
-use Rattle.session_run.specs.Stopped.{has-stopped, begins-refusal}
+use Rattle.session.specs.Grammar.{InputLine}
+use Rattle.session.specs.OutputLengths.{longest-line, longest-end}
+use Rattle.session.specs.Transcript.{transcript, lines-transcript}
+use Rattle.session_state.specs.declared.Session.{Session}
+use Rattle.session_state.specs.declared.Handled.{Handled}
+use Rattle.session_lines.specs.KnownMemory.{KnownIn}
+use Rattle.stdio.specs.declared.input.Given.the-variants.{Ended}
+use Rattle.stdio.specs.declared.input.Input.{Input}
+use Rattle.stdio.specs.Inputs.{to-take, unread}
+use Rattle.stdio.specs.Readers.{Follows, after-call, last-lines, lines-unread}
+use Rattle.stdio.specs.AtHand.{Room}
+use Rattle.stdio.specs.Outcomes.{Ran}
+use Rattle.session_run.specs.declared.Progress.{Progress}
+use Rattle.session_run.specs.Running.{running, begin, output, take-line}
 
--- 0: the input was read to its end and all was written; 1: a read or a write failed; 2: the session was refused. No program ends with More
-unfoldable pub status-number : Outcome → ℕ
-status-number More = 0
-status-number Ended = 0
-status-number Refused = 2
-status-number ReadFailed = 1
-status-number WriteFailed = 1
+-- what a line prints, if one is to be taken
+abbrev pub longest-given : Input → ℕ
+longest-given q = if to-take (q .given) then longest-line else 0
 
--- after a write that succeeded or did not, of a session that was refused or not, whose input may go on or not: a failed write goes first
-unfoldable pub after-write : Bool → Bool → Bool → Outcome
-after-write shown refused more = if not shown then WriteFailed else if refused then Refused else if more then More else Ended
+-- a line that a call gave is handled, if it gave one: what it prints is in the buffer behind the first `due` bytes
+pub record TakenGiven (s : Session) (due : ℕ) (q : Input) (ns bs out : List ℕ) (r : Handled) (ns' bs' out' : List ℕ) : Type 0 where
+  pub stands : (shown : List ℕ)
+      → running (r .session) ns' bs' (shown ++ take (r .printed) out') ≡ after-call output take-line (running s ns bs (shown ++ take due out)) q
+  pub known : KnownIn true (r .session) ns' bs'
+  pub within : r .printed ≤ due + longest-given q
 
--- ---- what was read
+-- a session that began over pools that held ns₀ and bs₀: of what it printed `shown` was passed on, and the rest is in the buffer, which has room for what
+-- the lines at hand and the end print
+pub record ReadTo (ns₀ bs₀ room₀ : List ℕ) (r : Progress) (ns bs out room : List ℕ) : Type 0 where
+  pub shown : List ℕ
+  pub follows : Follows output unread room₀ (begin ns₀ bs₀) (r .input) room (running (r .session) ns bs (shown ++ take (r .due) out))
+  pub known : KnownIn true (r .session) ns bs
+  pub fits : Room longest-line longest-end (r .input) (r .due) (length out)
 
--- without what is printed so far
-abbrev pub still : Progress → Progress
-still p = begin (p .session) (p .line) (p .nodes) (p .buckets)
+-- the end of the input: with it all is printed
+pub record Finished (s : Session) (p : Input) (due : ℕ) (ns bs out : List ℕ) (n : ℕ) (out' : List ℕ) : Type 0 where
+  pub prints : (shown : List ℕ) → shown ++ take n out' ≡ output (running s ns bs (shown ++ take due out)) (last-lines p)
+  pub within : n ≤ length out
+  pub line-room : length (p .line .bytes) ≡ 41
 
--- some bytes were read, `input`, and the session stands where they bring it
-pub record ReadOn (p : Progress) (k : Reading) (ns bs : List ℕ) : Type 0 where
-  pub input : List ℕ
-  pub stands : begin (k .session) (k .line) ns bs ≡ still (feeds p input)
-  pub refused : k .outcome ≡ Refused → has-stopped (k .session .phase) ≡ true
-  pub goes-on : k .outcome ≡ More → has-stopped (k .session .phase) ≡ false
-  pub ended : k .outcome ≡ Ended → has-stopped (k .session .phase) ≡ false
+-- the whole program: what it prints for the lines that it reads is the paper's transcript of them
+abbrev pub SessionRan : ℤ → Type 0
+SessionRan status = Ran (λ (of : List InputLine → List ℕ) (ls : List InputLine). of ls) lines-transcript status
 
--- and none is to be read after them
-pub record ReadAll (p : Progress) (k : Reading) (ns bs : List ℕ) : Type 0 where
-  pub on : ReadOn p k ns bs
-  pub settled : k .outcome ≡ More → ⊥
-
--- ---- the end of the input, and the whole run
-
--- what it printed, `text`, was written or not
-pub record EndShown (text : List ℕ) (o : Outcome) : Type 0 where
-  pub shown : Bool
-  pub outcome : o ≡ after-write shown (begins-refusal text) false
-
--- the session has stopped, or its end is refused
-unfoldable pub refuses : Progress → Bool
-refuses p = has-stopped (p .session .phase) || begins-refusal (stream-end p .prints)
-
--- a session over pools that held `ns` and `bs`: it ends as refused only if what was read is refused, and all well only if it is not
-pub record Ran (ns bs : List ℕ) (o : Outcome) : Type 0 where
-  pub input : List ℕ
-  pub settled : o ≡ More → ⊥
-  pub refused : o ≡ Refused → refuses (streamed input ns bs) ≡ true
-  pub ended : o ≡ Ended → refuses (streamed input ns bs) ≡ false
-
--- the same in pools of 64 nodes and 200 buckets, whatever they held, and the status
-pub record ProgramRan (status : ℤ) : Type 0 where
-  pub nodes : List ℕ
-  pub buckets : List ℕ
-  pub node-room : 2176 ≡ length nodes
-  pub bucket-room : 13200 ≡ length buckets
-  pub outcome : Outcome
-  pub ran : Ran nodes buckets outcome
-  pub gives : status ≡ pos (status-number outcome)
+-- where the input was read to its end, the transcript of all that was read
+pub prints-all : (status : ℤ) (x : SessionRan status) → x .input .given ≡ Ended → transcript (x .answered .read) ≡ x .shown ++ x .text
+unfolding transcript
+prints-all status x e = ap lines-transcript (sym (lines-unread (x .room) (x .answered .read))) ∙ x .answered .whole e

@@ -1,6 +1,5 @@
 -- `checked_start::start_of` meets its contract: each return is the case of `start` that its tests lead to. Assumes nothing.
-use mathlib.Core.Path.{_≡_, sym, ap, _∙_}
-use mathlib.Core.Bool.{Bool}
+use mathlib.Core.Path.{sym, ap, _∙_}
 use Rattle.spec.specs.declared.Config.{Config}
 use Rattle.spec.specs.Entries.{withdrawn}
 use borrow.Author.Needs.{needs}

@@ -1,17 +1,8 @@
 -- `session_run::has_stopped` meets its contract. Each phase, as in the definition. Assumes nothing.
-use Rattle.session_run.specs.Stopped.{has-stopped}
+use Rattle.session_run.specs.Running.{has-stopped}
 use borrow.Author.Needs.{needs}
 use Rattle.session_run.proofs.has_stopped.Statement.{statement}
 use Rattle.session_run.proofs.has_stopped.Tie as tie
-
-enum-told : tie.Need-enum-told
-enum-told c = search needs
-
-enum-told-2 : tie.Need-enum-told-2
-enum-told-2 c = search needs
-
-enum-told-3 : tie.Need-enum-told-3
-enum-told-3 c = search needs
 
 returns : tie.Need-returns
 unfolding has-stopped
@@ -26,4 +17,4 @@ unfolding has-stopped
 returns-3 c = rw (c .enum-told3 .given .1)
 
 pub has-stopped-spec : {M : Type 1} → statement M
-has-stopped-spec = tie.close (tie.spec enum-told enum-told-2 enum-told-3 returns returns-2 returns-3)
+has-stopped-spec = tie.close (tie.spec (λ c. search needs) (λ c. search needs) (λ c. search needs) returns returns-2 returns-3)

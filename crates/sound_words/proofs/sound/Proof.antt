@@ -11,7 +11,6 @@ use Rattle.spec.specs.Sound.{sound-numbers, sound-nodes, sound-buckets, sound}
 use Rattle.pool.proofs.Laws.{Numbers, numbers}
 use Rattle.state_words.specs.StateWords.{state-of-words}
 use Rattle.state_words.specs.RoundTrip.{fits-long}
-use borrow.Author.Needs.{needs}
 use Rattle.sound_words.proofs.sound.Statement.{statement}
 use Rattle.sound_words.proofs.sound.Tie as tie
 
@@ -32,7 +31,8 @@ known p = numbers (machine (start-1 p)) (numbers-sound p)
 abbrev past-1 : tie.Else2 → tie.Else1
 past-1 p = p .before .before .before .before
 
-nodes-sound : (p : tie.Else2) → sound-nodes (machine (start-1 (past-1 p))) (getD (now (start-1 (past-1 p) .args .w)) 3 0) (now (start-1 (past-1 p) .args .ns)) ≡ true
+nodes-sound : (p : tie.Else2)
+    → sound-nodes (machine (start-1 (past-1 p))) (getD (now (start-1 (past-1 p) .args .w)) 3 0) (now (start-1 (past-1 p) .args .ns)) ≡ true
 unfolding state-of-words
 nodes-sound p = sym (p .before .nodes-ok .ensures (machine (start-1 (past-1 p))) refl refl refl) ∙ not-false _ (p .if2 .left)
 

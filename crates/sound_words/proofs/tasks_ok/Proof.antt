@@ -7,7 +7,7 @@ use mathlib.Core.List.{List}
 use denote.Ref.{now}
 use native.Mathlib.Omega.{arith}
 use borrow.Author.Tests.{not-true, not-false}
-use lib.ListN.{length, getD, drop}
+use lib.ListN.{getD, drop}
 use Rattle.spec.specs.declared.Task.{Task}
 use Rattle.spec.specs.Machine.{Machine, idle}
 use Rattle.spec.specs.Sound.{sound-task, sound-tasks}

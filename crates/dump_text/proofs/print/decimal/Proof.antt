@@ -1,0 +1,20 @@
+-- `dump_text::print::decimal` meets its contract: what is appended ends within the buffer. Assumes nothing.
+use Rattle.session.specs.BufferLaws.{append-on-within}
+use borrow.Author.Needs.{needs}
+use Rattle.dump_text.proofs.print.decimal.Statement.{statement}
+use Rattle.dump_text.proofs.print.decimal.Tie as tie
+
+number-requires : tie.Need-number-requires
+number-requires c κs = search needs
+
+same-length : tie.Need-same-length
+same-length c = search needs
+
+returns : tie.Need-returns
+returns c =
+    let at-number = c .before .before in
+    let entry = at-number .before .before .before in
+    append-on-within _ _ _ _ _ (entry .pre) (at-number .number .ensures)
+
+pub decimal-spec : {M : Type 1} → statement M
+decimal-spec = tie.close (tie.spec number-requires same-length returns)

@@ -1,0 +1,84 @@
+// The programs as functions for C, each with its exit status: the command `yard` (programs/yard.c) calls them, and the crates yardrun to yardtimeline
+// the same functions of the crates below. Each contract is of what was read and written, in the terms of the papers' definitions.
+ghost use Rattle.stdio.specs.Transcripts.{Transcribed};
+ghost use Rattle.stdio.specs.Outcomes.{IsStatus};
+ghost use Rattle.session.specs.Transcript.{transcript};
+ghost use Rattle.timeline_program.specs.Outcomes.{TimelineRan};
+ghost use Rattle.recorder.specs.Runs.{RanRecorder};
+ghost use Rattle.reader.specs.Verifies.{VerifyRan};
+ghost use Rattle.notes.specs.Text.{notes-transcript};
+ghost use Rattle.plan_text.specs.Text.{plan-transcript};
+ghost use Rattle.game.specs.Text.{game-answer};
+ghost use Rattle.programs.specs.Answers.{mattered-answer};
+
+// A session: what the set answers.
+#[no_mangle]
+pub extern "C" fn yardrun() -> i32
+    ensures { λ r. ⌜ Transcribed transcript r ⌝ }
+{
+    session_run::yardrun()
+}
+
+// The memory that a session leaves.
+#[no_mangle]
+pub extern "C" fn yarddump() -> i32
+    ensures { λ r. ⌜ IsStatus r ⌝ }
+{
+    session_dump::yarddump()
+}
+
+// A session as rows.
+#[no_mangle]
+pub extern "C" fn yardtimeline() -> i32
+    ensures { λ r. ⌜ TimelineRan r ⌝ }
+{
+    timeline_program::yardtimeline()
+}
+
+// A session's recording.
+#[no_mangle]
+pub extern "C" fn yardrecord() -> i32
+    ensures { λ r. ⌜ RanRecorder r ⌝ }
+{
+    recorder::program::yardrecord()
+}
+
+// Whether a recording is what the set prints.
+#[no_mangle]
+pub extern "C" fn yardverify() -> i32
+    ensures { λ r. ⌜ VerifyRan r ⌝ }
+{
+    reader::program::yardverify()
+}
+
+// Two lanes' notes in one order.
+#[no_mangle]
+pub extern "C" fn yardnotes() -> i32
+    ensures { λ r. ⌜ Transcribed notes-transcript r ⌝ }
+{
+    notes_text::program::yardnotes()
+}
+
+// What a list of calls comes to.
+#[no_mangle]
+pub extern "C" fn yardplan() -> i32
+    ensures { λ r. ⌜ Transcribed plan-transcript r ⌝ }
+{
+    plan_text::program::yardplan()
+}
+
+// Lane against office.
+#[no_mangle]
+pub extern "C" fn yardgame() -> i32
+    ensures { λ r. ⌜ Transcribed game-answer r ⌝ }
+{
+    game_text::program::yardgame()
+}
+
+// The step that mattered.
+#[no_mangle]
+pub extern "C" fn yardmattered() -> i32
+    ensures { λ r. ⌜ Transcribed mattered-answer r ⌝ }
+{
+    mattered_text::program::yardmattered()
+}

@@ -1,3 +1,0 @@
-pub mod Stream
-pub mod PrintsTranscript
-pub mod OutputBounds

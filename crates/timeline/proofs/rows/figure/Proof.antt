@@ -1,0 +1,23 @@
+-- `timeline::rows::figure` meets its contract. Assumes nothing.
+use borrow.Author.Tests.{eq-eqb, ne-eqb}
+use Rattle.timeline.specs.Rows.{figure}
+use borrow.Author.Needs.{needs}
+use Rattle.timeline.proofs.rows.figure.Statement.{statement}
+use Rattle.timeline.proofs.rows.figure.Tie as tie
+
+returns : tie.Need-returns
+unfolding figure
+returns c = rw (eq-eqb _ _ (c .if1 .taken))
+
+cast-result : tie.Need-cast-result
+cast-result c = search needs
+
+add-result : tie.Need-add-result
+add-result c = search needs
+
+returns-2 : tie.Need-returns-2
+unfolding figure
+returns-2 c = rw (ne-eqb _ _ (c .if1 .left))
+
+pub figure-spec : {M : Type 1} → statement M
+figure-spec = tie.close (tie.spec returns cast-result add-result returns-2)

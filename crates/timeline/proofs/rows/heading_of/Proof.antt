@@ -1,0 +1,27 @@
+-- `timeline::rows::heading_of` meets its contract. Assumes nothing.
+use Rattle.session.specs.Buffer.{append}
+use Rattle.timeline.specs.Lines.{heading-of}
+use Rattle.timeline.specs.Rows.{heading}
+use borrow.Author.Needs.{needs}
+use Rattle.timeline.proofs.rows.heading_of.Statement.{statement}
+use Rattle.timeline.proofs.rows.heading_of.Tie as tie
+
+returns : tie.Need-returns
+unfolding heading-of append
+returns c = rw (c .if1 .taken)
+
+heading-requires : tie.Need-heading-requires
+heading-requires c κs = search needs
+
+same-length : tie.Need-same-length
+same-length c = search needs
+
+returns-2 : tie.Need-returns-2
+unfolding heading-of
+returns-2 c =
+    let at-heading = c .before .before in
+    let at-if1 = at-heading .before .before .before .before in
+    rw (at-if1 .if1 .left) (at-heading .heading .ensures)
+
+pub heading-of-spec : {M : Type 1} → statement M
+heading-of-spec = tie.close (tie.spec returns heading-requires same-length returns-2)

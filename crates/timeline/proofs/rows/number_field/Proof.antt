@@ -1,0 +1,66 @@
+-- `timeline::rows::number_field` meets its contract. Seven bytes, six of them figures. Assumes nothing.
+use Rattle.timeline.specs.Rows.{number-field}
+use borrow.Author.Needs.{needs}
+use Rattle.timeline.proofs.rows.number_field.Statement.{statement}
+use Rattle.timeline.proofs.rows.number_field.Tie as tie
+
+figure-requires : tie.Need-figure-requires
+figure-requires c κs = search needs
+
+figure-requires-2 : tie.Need-figure-requires-2
+figure-requires-2 c κs = search needs
+
+figure-requires-3 : tie.Need-figure-requires-3
+figure-requires-3 c κs = search needs
+
+figure-requires-4 : tie.Need-figure-requires-4
+figure-requires-4 c κs = search needs
+
+figure-requires-5 : tie.Need-figure-requires-5
+figure-requires-5 c κs = search needs
+
+figure-requires-6 : tie.Need-figure-requires-6
+figure-requires-6 c κs = search needs
+
+slice-aggregate-all-bytes : tie.Need-slice-aggregate-all-bytes
+slice-aggregate-all-bytes c = search needs
+
+all-bytes-requires : tie.Need-all-bytes-requires
+all-bytes-requires c κs = search needs
+
+same-length : tie.Need-same-length
+same-length c = search needs
+
+returns : tie.Need-returns
+unfolding number-field
+returns c =
+    let at-all-bytes = c .before .before in
+    let at-figure6 = at-all-bytes .before .before .before in
+    let at-figure5 = at-figure6 .before in
+    let at-figure4 = at-figure5 .before in
+    let at-figure3 = at-figure4 .before in
+    let at-figure2 = at-figure3 .before in
+    let at-figure = at-figure2 .before in
+    rw (
+      ← at-figure .figure .ensures,
+      ← at-figure2 .figure2 .ensures,
+      ← at-figure3 .figure3 .ensures,
+      ← at-figure4 .figure4 .ensures,
+      ← at-figure5 .figure5 .ensures,
+      ← at-figure6 .figure6 .ensures,
+    ) (at-all-bytes .all-bytes .ensures)
+
+pub number-field-spec : {M : Type 1} → statement M
+number-field-spec =
+    tie.close
+    (tie.spec
+    figure-requires
+    figure-requires-2
+    figure-requires-3
+    figure-requires-4
+    figure-requires-5
+    figure-requires-6
+    slice-aggregate-all-bytes
+    all-bytes-requires
+    same-length
+    returns)

@@ -1,0 +1,5 @@
+pub mod Rows
+pub mod Lines
+pub mod Lengths
+pub mod EachEvent
+pub mod Stopped
