@@ -1,25 +1,23 @@
 -- Line by line, an input of notes prints its transcript: `lines-print-transcript`. A seventh note of a lane, and those after it, change nothing but
 -- that the list is longer. A line that is too long or not closed is outside the grammar (`notes-reader`), after which the answer is fixed
 -- (`outside-decides`). Assumes nothing.
-use mathlib.Core.Path.{_≡_, refl, sym, ap, _∙_}
-use mathlib.Core.Logic.{_⊎_, inl, inr}
+use mathlib.Core.Path.{_≡_, refl, sym, _∙_}
 use mathlib.Core.List.{List, [], _∷_, _++_, append-assoc, append-nil}
 use mathlib.Core.Bool.{Bool, true, false, _||_}
-use Prim.Native.Nat.{ℕ, _+_, _<_, _≤_, min}
-use native.Mathlib.Numerals.{add-one}
+use Prim.Native.Nat.{ℕ, _+_, _<_}
 use native.Mathlib.Omega.{arith}
 use borrow.Author.Tests.{lt-leb, lt-ltb, le-ltb, ltb-true, ltb-false}
 use lib.Dec.{ltb}
 use lib.IntN.{ℤ}
-use lib.ListN.{length, take, set, length-append, length-set}
-use lib.Seq.{take-all, take-append-le, take-suc-set}
+use lib.ListN.{length, take, set}
 use Rattle.spec.specs.Lists.{if_then_else_}
 use Rattle.session.specs.Grammar.{InputLine, input-lines, admissible}
 use Rattle.session.specs.Print.{refusal-line}
+use Rattle.session.specs.KeptLists.{KeptIn, KeptAs, past, whole as all-kept, kept-as, keeps-one, keeps-past}
 use Rattle.stdio.specs.Readers.{LineReader}
 use Rattle.stdio.specs.Outcomes.{Ran}
 use Rattle.stdio.specs.Runs.{Prints, ran-prints}
-use Rattle.laws.specs.Tests.{bool?, or-l, or-r}
+use Rattle.laws.specs.Tests.{or-l, or-r}
 use Rattle.notes.specs.declared.Note.{Note}
 use Rattle.notes.specs.declared.Notes.{Notes}
 use Rattle.notes.specs.declared.NoteLine.{NoteLine}
@@ -58,10 +56,8 @@ notes-reader =
 
 -- ---- a lane's notes, and what is kept of them
 
-record Keeps (l : Notes) (xs : List Note) : Type 0 where
-  room : length (l .note) ≡ 6
-  counted : l .count ≡ min 7 (length xs)
-  same : take (l .count) (l .note) ≡ take 6 xs
+abbrev Keeps : Notes → List Note → Type 0
+Keeps l xs = KeptIn 6 (l .count) (l .note) xs
 
 keeps-none : Keeps no-notes []
 unfolding no-notes
@@ -71,35 +67,10 @@ keeps-more : (l : Notes) (xs : List Note) (x : Note) → Keeps l xs → Keeps (a
 unfolding add-note
 keeps-more l xs x o = go (ltb (l .count) 6) refl
   where
-    n : length (xs ++ (x ∷ [])) ≡ length xs + 1
-    n = simp length-append (omega arith)
-
     go : (b : Bool) → ltb (l .count) 6 ≡ b
         → Keeps (if b then notes-of (l .count + 1) (set (l .note) (l .count) x) else notes-of 7 (l .note)) (xs ++ (x ∷ []))
-    go true e =
-        let f : l .count < 6 = ltb-true _ _ e in
-        let g : length xs < 6 = omega (arith, o .counted) in
-        record {
-          room = length-set (l .note) (l .count) x ∙ o .room;
-          counted = omega (arith, o .counted, n);
-          same =
-              ap (λ (k : ℕ). take k (set (l .note) (l .count) x)) (add-one (l .count))
-              ∙ take-suc-set (l .note) (l .count) x (omega (arith, o .room))
-              ∙ ap (λ (w : List Note). w ++ (x ∷ [])) (o .same ∙ take-all 6 xs (omega arith))
-              ∙ sym (take-all 6 (xs ++ (x ∷ [])) (omega (arith, n)));
-        }
-    go false e =
-        let f : 6 ≤ l .count = ltb-false _ _ e in
-        let g : 6 ≤ length xs = omega (arith, o .counted) in
-        record {
-          room = o .room;
-          counted = omega (arith, o .counted, n);
-          same =
-              take-all 7 (l .note) (omega (arith, o .room))
-              ∙ sym (take-all (l .count) (l .note) (omega (arith, o .room)))
-              ∙ o .same
-              ∙ sym (take-append-le 6 xs (x ∷ []) g);
-        }
+    go true e = keeps-one o x (ltb-true _ _ e)
+    go false e = keeps-past o x (ltb-false _ _ e)
 
 -- the same list, or both are too long
 data Kept (l : Notes) (xs : List Note) : Type 0 where
@@ -108,17 +79,11 @@ data Kept (l : Notes) (xs : List Note) : Type 0 where
 
 kept-list : (l : Notes) (xs : List Note) → Keeps l xs → Kept l xs
 unfolding list-of unfit
-kept-list l xs o = go (bool? (ltb 6 (length xs)))
+kept-list l xs o = go (kept-as o)
   where
-    go : (ltb 6 (length xs) ≡ true) ⊎ (ltb 6 (length xs) ≡ false) → Kept l xs
-    go (inl e) =
-        let h = ltb-true 6 (length xs) e in
-        let k : 6 < l .count = omega (arith, o .counted) in
-        longer (rw (lt-ltb _ _ k)) (rw e)
-    go (inr e) =
-        let h = ltb-false 6 (length xs) e in
-        let k : l .count ≤ 6 = omega (arith, o .counted) in
-        whole (rw (le-ltb _ _ k) (o .same ∙ take-all 6 xs h))
+    go : KeptAs 6 (l .count) (l .note) xs → Kept l xs
+    go (past h k) = longer (rw (lt-ltb _ _ h)) (rw (lt-ltb _ _ k))
+    go (all-kept h e) = whole (rw (le-ltb _ _ h) e)
 
 refused-lines : (xs ys : List Note) → (unfit xs || unfit ys) ≡ true → merge-lines xs ys ≡ refusal-line 13
 unfolding merge-lines merge outcome-lines

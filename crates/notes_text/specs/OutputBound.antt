@@ -8,15 +8,13 @@ use mathlib.Core.Bool.{Bool, true, false, not, _||_}
 use borrow.Author.Tests.{ltb-false}
 use lib.Dec.{ltb}
 use lib.ListN.{length, length-append}
-use Rattle.spec.specs.declared.Answer.{Answer}
-use Rattle.spec.specs.declared.Answer.the-variants.{Yes, No, Full, Done, Lost, Limit}
 use Rattle.spec.specs.declared.Call.{Call}
 use Rattle.spec.specs.declared.Call.the-variants.{Insert, Remove, Contains, Grow, Shrink}
 use Rattle.spec.specs.Lists.{if_then_else_, every}
 use Rattle.spec.specs.History.{set-call}
 use Rattle.session.specs.Grammar.{InputLine}
-use Rattle.session.specs.Print.{decimal, key-line, answer-word, refusal-line}
-use Rattle.session.specs.OutputLengths.{refusal-length}
+use Rattle.session.specs.Print.{decimal, refusal-line}
+use Rattle.session.specs.OutputLengths.{decimal-length, word-length, refusal-length}
 use Rattle.laws.specs.Tests.{bool?, or-none}
 use Rattle.notes.specs.declared.Note.{Note}
 use Rattle.notes.specs.Orders.{Lane, first, second}
@@ -26,20 +24,6 @@ use Rattle.notes.specs.Theorems.{unfit-refused, order-iff}
 use Rattle.notes.specs.Text.{call-field, note-line, order-lines, outcome-lines, merge-lines, parse-note-line}
 use Rattle.notes_text.specs.declared.reading.Reading.{Reading}
 use Rattle.notes_text.specs.Reading.{add-line, answer}
-
--- a number has at most 20 digits: `refuse=`, a number and byte 10 are at most 28 bytes
-decimal-length : (n : ℕ) → length (decimal n) ≤ 20
-unfolding refusal-line key-line
-decimal-length n = omega (arith, simp length-append at (refusal-length n))
-
-word-length : (a : Answer) → length (answer-word a) ≤ 5
-unfolding answer-word
-word-length Yes = omega arith
-word-length No = omega arith
-word-length Full = omega arith
-word-length Done = omega arith
-word-length Lost = omega arith
-word-length Limit = omega arith
 
 field-length : (c : Call) (tag : ℕ) → length (call-field c tag) ≤ 30
 unfolding call-field

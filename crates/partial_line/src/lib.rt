@@ -15,7 +15,7 @@ pub struct PartialLine {
 }
 
 // Whether the byte closes a line.
-pub fn closes(x: u8) -> bool
+fn closes(x: u8) -> bool
     ensures { λ r. ⌜ r ≡ eqb x newline ⌝ }
 {
     x == 10
@@ -32,7 +32,7 @@ pub fn empty_line() -> PartialLine
 }
 
 // One byte more; a line of 41 bytes stays as it is.
-pub fn push(h: PartialLine, x: u8) -> PartialLine
+fn push(h: PartialLine, x: u8) -> PartialLine
     ensures { λ r. ⌜ r ≡ pushed h x ⌝ }
 {
     let n = h.len;

@@ -1,21 +1,18 @@
 -- Line by line, an input prints its transcript: `lines-print-transcript`. A 65th call, and those after it, change nothing but that the list is
 -- longer. A line that is too long or not closed is outside the grammar (`plan-reader`), after which the answer is fixed (`plan-decides`). Assumes nothing.
 use mathlib.Core.Path.{_≡_, refl, sym, ap, _∙_}
-use mathlib.Core.Logic.{_⊎_, inl, inr}
 use mathlib.Core.List.{List, [], _∷_, _++_}
 use mathlib.Core.Bool.{Bool, true, false}
-use Prim.Native.Nat.{ℕ, _+_, _<_, _≤_, min}
-use native.Mathlib.Numerals.{add-one}
+use Prim.Native.Nat.{ℕ, _+_, _<_}
 use native.Mathlib.Omega.{arith}
 use borrow.Author.Tests.{lt-ltb, le-ltb, lt-leb, ltb-true, ltb-false}
 use lib.Dec.{ltb}
 use lib.IntN.{ℤ}
-use lib.ListN.{length, take, set, length-append, length-set}
-use lib.Seq.{take-all, take-append-le, take-suc-set}
+use lib.ListN.{length, take, set}
 use Rattle.spec.specs.Lists.{if_then_else_}
 use Rattle.session.specs.Grammar.{InputLine, closed-line, input-lines, admissible, parse-header-line}
 use Rattle.session.specs.Print.{refusal-line}
-use Rattle.laws.specs.Tests.{bool?}
+use Rattle.session.specs.KeptLists.{KeptIn, KeptAs, past, whole, kept-as, keeps-one, keeps-past}
 use Rattle.stdio.specs.Readers.{LineReader}
 use Rattle.stdio.specs.Outcomes.{Ran}
 use Rattle.stdio.specs.Runs.{Prints, ran-prints}
@@ -72,10 +69,8 @@ plan-reader =
 
 -- ---- the calls, and what is kept of them
 
-record Keeps (l : Calls) (cs : List Planned) : Type 0 where
-  room : length (l .call) ≡ 64
-  counted : l .count ≡ min 65 (length cs)
-  same : take (l .count) (l .call) ≡ take 64 cs
+abbrev Keeps : Calls → List Planned → Type 0
+Keeps l cs = KeptIn 64 (l .count) (l .call) cs
 
 keeps-none : Keeps no-calls []
 unfolding no-calls
@@ -85,35 +80,10 @@ keeps-more : (l : Calls) (cs : List Planned) (c : Planned) → Keeps l cs → Ke
 unfolding add-call
 keeps-more l cs c o = go (ltb (l .count) 64) refl
   where
-    n : length (cs ++ (c ∷ [])) ≡ length cs + 1
-    n = simp length-append (omega arith)
-
     go : (b : Bool) → ltb (l .count) 64 ≡ b
         → Keeps (if b then calls-of (l .count + 1) (set (l .call) (l .count) c) else calls-of 65 (l .call)) (cs ++ (c ∷ []))
-    go true e =
-        let f : l .count < 64 = ltb-true _ _ e in
-        let g : length cs < 64 = omega (arith, o .counted) in
-        record {
-          room = length-set (l .call) (l .count) c ∙ o .room;
-          counted = omega (arith, o .counted, n);
-          same =
-              ap (λ (k : ℕ). take k (set (l .call) (l .count) c)) (add-one (l .count))
-              ∙ take-suc-set (l .call) (l .count) c (omega (arith, o .room))
-              ∙ ap (λ (w : List Planned). w ++ (c ∷ [])) (o .same ∙ take-all 64 cs (omega arith))
-              ∙ sym (take-all 64 (cs ++ (c ∷ [])) (omega (arith, n)));
-        }
-    go false e =
-        let f : 64 ≤ l .count = ltb-false _ _ e in
-        let g : 64 ≤ length cs = omega (arith, o .counted) in
-        record {
-          room = o .room;
-          counted = omega (arith, o .counted, n);
-          same =
-              take-all 65 (l .call) (omega (arith, o .room))
-              ∙ sym (take-all (l .count) (l .call) (omega (arith, o .room)))
-              ∙ o .same
-              ∙ sym (take-append-le 64 cs (c ∷ []) g);
-        }
+    go true e = keeps-one o c (ltb-true _ _ e)
+    go false e = keeps-past o c (ltb-false _ _ e)
 
 -- a longer list gives 9, and before it another version 11, whatever its calls are
 long-plans : (version : ℕ) (cs ds : List Planned) → 64 < length cs → 64 < length ds → plan version cs ≡ plan version ds
@@ -122,19 +92,15 @@ long-plans version cs ds h k = rw (lt-ltb 64 (length cs) h, lt-ltb 64 (length ds
 
 kept-lines : (t version : ℕ) (l : Calls) (cs : List Planned) → Keeps l cs → plan-lines t version (list-of l) ≡ plan-lines t version cs
 unfolding plan-lines list-of
-kept-lines t version l cs o = go (bool? (ltb 64 (length cs)))
+kept-lines t version l cs o = go (kept-as o)
   where
-    go : (ltb 64 (length cs) ≡ true) ⊎ (ltb 64 (length cs) ≡ false) → plan-lines t version (list-of l) ≡ plan-lines t version cs
-    go (inl e) =
-        let h = ltb-true 64 (length cs) e in
-        let k : 64 < l .count = omega (arith, o .counted) in
-        let long : 64 < length (list-of l) = rw (lt-ltb 64 (l .count) k) (omega arith) in
-        rw (long-plans version (list-of l) cs long h)
-    go (inr e) =
-        let h = ltb-false 64 (length cs) e in
-        let k : l .count ≤ 64 = omega (arith, o .counted) in
-        let whole : list-of l ≡ cs = rw (le-ltb 64 (l .count) k) (o .same ∙ take-all 64 cs h) in
-        rw whole
+    go : KeptAs 64 (l .count) (l .call) cs → plan-lines t version (list-of l) ≡ plan-lines t version cs
+    go (past h k) =
+        let long : 64 < length (list-of l) = rw (lt-ltb 64 (l .count) h) (omega arith) in
+        rw (long-plans version (list-of l) cs long k)
+    go (whole h e) =
+        let same : list-of l ≡ cs = rw (le-ltb 64 (l .count) h) e in
+        rw same
 
 -- ---- an input in the middle of it
 

@@ -7,13 +7,11 @@ use mathlib.Core.Bool.{Bool, true, false, not}
 use borrow.Author.Tests.{ltb-false}
 use lib.Dec.{ltb}
 use lib.ListN.{length, length-append}
-use Rattle.spec.specs.declared.Answer.{Answer}
-use Rattle.spec.specs.declared.Answer.the-variants.{Yes, No, Full, Done, Lost, Limit}
 use Rattle.spec.specs.Lists.{if_then_else_}
 use Rattle.spec.specs.Sound.{within, version-known}
 use Rattle.session.specs.Grammar.{InputLine}
-use Rattle.session.specs.Print.{decimal, key-line, answer-word, refusal-line}
-use Rattle.session.specs.OutputLengths.{refusal-length}
+use Rattle.session.specs.Print.{decimal, key-line, refusal-line}
+use Rattle.session.specs.OutputLengths.{decimal-length, word-length, refusal-length}
 use Rattle.bounds.specs.EnoughRecords.{enough-nodes, enough-buckets}
 use Rattle.plans.specs.declared.Planned.{Planned}
 use Rattle.plans.specs.declared.Figures.{Figures}
@@ -22,20 +20,6 @@ use Rattle.planner.proofs.Stored.{figures-length}
 use Rattle.plan_text.specs.declared.reading.Reading.{Reading}
 use Rattle.plan_text.specs.Text.{line-says, figures-line, figures-lines, size-lines, reply-lines, plan-lines, in-grammar}
 use Rattle.plan_text.specs.Reading.{add-line, answer}
-
--- a number has at most 20 digits: `refuse=`, a number and byte 10 are at most 28 bytes
-decimal-length : (n : ℕ) → length (decimal n) ≤ 20
-unfolding refusal-line key-line
-decimal-length n = omega (arith, simp length-append at (refusal-length n))
-
-word-length : (a : Answer) → length (answer-word a) ≤ 5
-unfolding answer-word
-word-length Yes = omega arith
-word-length No = omega arith
-word-length Full = omega arith
-word-length Done = omega arith
-word-length Lost = omega arith
-word-length Limit = omega arith
 
 line-length : (f : Figures) → length (figures-line f) ≤ 53
 unfolding figures-line

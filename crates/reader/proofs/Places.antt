@@ -1,23 +1,21 @@
--- The line at a place of the listing: its bytes, as they are printed for a list call's answer, `counted-line`, `refused-line`; that it is short and
--- not empty, `PlaceIn`; and what comparing it leaves. Assumes nothing.
-use mathlib.Core.Path.{_≡_, refl, sym, ap, subst, _∙_}
-use mathlib.Core.List.{List, [], _∷_, _++_}
-use mathlib.Core.Bool.{Bool, true, false, not, _||_}
+-- The line at a place of the listing: its bytes, as they are printed for a list call's answer, `counted-line`, `refused-line`; and what comparing it
+-- leaves. Assumes nothing.
+use mathlib.Core.Path.{_≡_, refl, sym, ap, _∙_}
+use mathlib.Core.List.{List, []}
+use mathlib.Core.Bool.{Bool, true, false, not}
 use Prim.Native.Nat.{ℕ, zero, suc, _+_, _-_, _<_, _≤_}
 use native.Mathlib.Omega.{arith}
 use borrow.Author.Tests.{ne-eqb, ltb-true, ltb-false}
-use lib.Dec.{ltb, leb}
-use lib.ListN.{length, getD, take, drop, replicate, length-append, length-take}
-use lib.Seq.{take-at}
+use lib.Dec.{ltb}
+use lib.ListN.{length, getD, take, drop, replicate}
 use Rattle.spec.specs.declared.Listing.{Listing}
 use Rattle.spec.specs.declared.Listing.the-variants.{Count, Refused}
 use Rattle.spec.specs.Lists.{if_then_else_}
 use Rattle.spec.specs.Machine.{Machine, machine-of}
 use Rattle.spec.specs.Words.{size}
-use Rattle.spec.specs.Sound.{sound}
 use Rattle.spec.specs.Listed.{listed, head-of, size-of}
-use Rattle.spec.specs.Entries.{Written, list}
-use Rattle.session.specs.Keys.{refuse-key, size-key, tags-key, tag-key}
+use Rattle.spec.specs.Entries.{list}
+use Rattle.session.specs.Keys.{tag-key}
 use Rattle.session.specs.Grammar.{closed-line, equals}
 use Rattle.session.specs.Print.{key-line, refusal-line}
 use Rattle.session.specs.OutputLengths.{longest-line}
@@ -25,46 +23,16 @@ use Rattle.session.specs.Buffer.{Buffer, append}
 use Rattle.session_pools.specs.PoolParts.{node-extent, bucket-extent, node-part}
 use Rattle.recording.specs.declared.ReaderPhase.the-variants.{Listed}
 use Rattle.recording.specs.declared.Verdict.the-variants.{Same, Differs, Refusal}
-use Rattle.recording.specs.Recording.{RecordedLine, close, tag-listing, listing-of, listing}
+use Rattle.recording.specs.Recording.{RecordedLine, close, listing}
 use Rattle.recording.specs.Verdict.{past-listing}
 use Rattle.recording.specs.Reader.{compare-listed, listing-end}
-use Rattle.recording_laws.specs.ByteReader.{key-short}
 use Rattle.recording_laws.specs.ListingLines.{size-first, tags-second, tag-at, none-after, refused-listing}
 use Rattle.reader_state.proofs.Laws.{other-length}
 use Rattle.reader_state.specs.declared.Reader.{Reader}
 use Rattle.reader_state.specs.ListedLines.{listed-line, first-bytes}
 use Rattle.reader_state.specs.Standing.{most-lines, next-place, with-part, put-back, after-comparing, ReadAs}
+pub use Rattle.reader.specs.ListingPlaces.{Lists, lists, PlaceIn, no-line, a-line, place-in}
 use Rattle.reader.proofs.Parts.{decided-back, compared-back, same-part}
-
--- ---- where a list call gives a count
-
-count-of : (a n : ℕ) → Count a ≡ Count n → a ≡ n
-count-of a n e = cc
-
--- it is at most 64, and that many of the words are the tags
-pub record Lists (y : Machine) (w : List ℕ) (n : ℕ) : Type 0 where
-  pub few : n ≤ 64
-  pub tags : take n (list y w .words) ≡ listed y
-
-pub lists : (y : Machine) (w : List ℕ) (n : ℕ) → list y w .says ≡ Count n → Lists y w n
-unfolding list
-lists y w n h = let r = go (not (sound y)) (ltb 64 (length (listed y))) (not (leb 64 (length w))) refl h in record { few = r .0; tags = r .1 }
-  where
-    refused : ℕ → Written
-    refused r = record { says = Refused r; words = w }
-
-    given : Written
-    given = record { says = Count (length (listed y)); words = listed y ++ drop (length (listed y)) w }
-
-    go : (a b c : Bool) → ltb 64 (length (listed y)) ≡ b → (if a || b then refused 8 else if c then refused 9 else given) .says ≡ Count n
-        → (n ≤ 64) × (take n ((if a || b then refused 8 else if c then refused 9 else given) .words) ≡ listed y)
-    go true b c p e = let z : _≡_ {A = ℕ} 0 1 = cc in absurd (omega arith)
-    go false true c p e = let z : _≡_ {A = ℕ} 0 1 = cc in absurd (omega arith)
-    go false false true p e = let z : _≡_ {A = ℕ} 0 1 = cc in absurd (omega arith)
-    go false false false p e =
-        let k : length (listed y) ≡ n = count-of _ _ e in
-        let l : length (listed y) ≤ 64 = ltb-false _ _ p in
-        (omega arith, take-at (listed y) _ n k)
 
 -- ---- the line's bytes
 
@@ -137,55 +105,12 @@ module _ (r : Reader) (ns bs : List ℕ) (a b : ℕ) (ea : a ≡ node-extent (r 
   unfolding append
   prints-none n k t e z = ap (λ (l : List ℕ). append l t) (refused-none part n k (sym says-is ∙ e) z)
 
--- ---- a place of the listing: there is a line, neither empty nor too long for the buffer, or there is none
-
-pub data PlaceIn (k : ℕ) : List RecordedLine → Type 0 where
-  no-line : PlaceIn k []
-  a-line : {r : RecordedLine} {rs : List RecordedLine} → k < 66 → 1 ≤ length (r .written) → length (r .written) ≤ longest-line → PlaceIn k (r ∷ rs)
-
--- these lines, the first of which stands at place k
-data LinesFrom : ℕ → List RecordedLine → Type 0 where
-  none-from : {k : ℕ} → LinesFrom k []
-  line-from : {k : ℕ} {r : RecordedLine} {rs : List RecordedLine} → k < 66 → 1 ≤ length (r .written) → length (r .written) ≤ longest-line → LinesFrom (suc k) rs
-      → LinesFrom k (r ∷ rs)
-
-key-some : (key : List ℕ) (n : ℕ) → 1 ≤ length (key-line key n)
-unfolding key-line
-key-some key n = simp length-append (omega arith)
-
-tags-from : (ts : List ℕ) (k : ℕ) → k + length ts ≤ 66 → LinesFrom k (tag-listing ts)
-unfolding tag-listing
-tags-from [] k h = none-from
-tags-from (t ∷ ts) k h = line-from {k = k} (omega arith) (key-some tag-key t) (key-short tag-key t (omega arith)) (tags-from ts (suc k) (omega arith))
-
-listing-from : (y : Machine) (l : Listing) → list y (replicate 64 0) .says ≡ l → LinesFrom 0 (listing-of y l)
-unfolding listing-of refusal-line
-listing-from y (Count n) e =
-    let w : List ℕ = replicate 64 0 in
-    let few = lists y w n e in
-    let long : length (listed y) ≤ 64 = omega (arith, few .few, ap length (few .tags), length-take n (list y w .words)) in
-    line-from {k = 0} (omega arith) (key-some size-key _) (key-short size-key _ (omega arith))
-    (line-from {k = 1} (omega arith) (key-some tags-key _) (key-short tags-key _ (omega arith)) (tags-from (listed y) 2 (omega arith)))
-listing-from y (Refused r) e = line-from {k = 0} (omega arith) (key-some refuse-key r) (key-short refuse-key r (omega arith)) none-from
-
-place-from : (j k : ℕ) (rs : List RecordedLine) → LinesFrom j rs → PlaceIn (j + k) (drop k rs)
-place-from j zero rs none-from = no-line
-place-from j zero rs (line-from h s l d) = let e : j + 0 ≡ j = omega arith in rw e (a-line h s l)
-place-from j (suc k) rs none-from = no-line
-place-from j (suc k) rs (line-from {rs = ss} h s l d) = let e : j + suc k ≡ suc j + k = omega arith in rw e (place-from (suc j) k ss d)
-
-pub place-in : (y : Machine) (k : ℕ) → PlaceIn k (drop k (listing y))
-unfolding listing
-place-in y k =
-    let e : 0 + k ≡ k = omega arith in
-    subst (λ (n : ℕ). PlaceIn n (drop k (listing y))) e (place-from 0 k (listing y) (listing-from y (list y (replicate 64 0) .says) refl))
-
 -- ---- what is done with it
 
 pub short-place : {k : ℕ} {rs : List RecordedLine} → PlaceIn k rs → length (first-bytes rs) ≤ longest-line
 unfolding first-bytes
 short-place no-line = omega arith
-short-place (a-line h s l) = l
+short-place (a-line h s l) = omega arith
 
 next-is : (k : ℕ) → k < 66 → next-place k ≡ k + 1
 unfolding next-place

@@ -33,8 +33,8 @@ use Rattle.recording.specs.Recording.{RecordedLine, listing}
 use Rattle.recording.specs.Verdict.{Compared, as-printed, fails, compare-line, Turn, runs, lists, gives-10, turn}
 use Rattle.recording.specs.Reader as defined
 use Rattle.recording.specs.Reader.{reader, moved, after-comparing as compared-by, decided as decided-by, compare-listed, read-listed, run-event, read-turn}
-use Rattle.recording.specs.Reader.{read-opened, read-header-line, read-phase, answers, listing-end, read-phase-end, read-phase-unclosed}
-use Rattle.recording.specs.Reader.{read-line as read-defined, read-end as end-defined, read-unclosed as unclosed-defined, opened-end as opened-end-defined}
+use Rattle.recording.specs.Reader.{read-opened, read-header-line, read-phase, listing-end, opened-end, read-phase-end}
+use Rattle.recording.specs.Reader.{read-line as read-defined, read-end as end-defined}
 use Rattle.reader_state.specs.declared.Reader.{Reader}
 use Rattle.reader_state.specs.Standing.{most-lines, next-number, missing, with-part, LineRead, put-back, decided, awaits-event, opened}
 use Rattle.reader_state.specs.Standing.{turn-line, opened-line, header-line, phase-line, read-line, judged-end, phase-end, read-end}
@@ -221,9 +221,9 @@ module _ (ns bs : List ℕ) (nodes-fit : 2176 ≤ length ns) (buckets-fit : 1320
           let awaits : awaits-event (d .reader .phase) ≡ false = ap awaits-event e in
           rw awaits (record { follows = answered e; number = omega arith })
 
-  judged-as : (refusal : ℕ) → judged-end (lent .refusal) refusal ≡ opened-end-defined refusal (session-opening h) .answer
-  unfolding judged-end opened-end-defined
-  judged-as refusal = ap (λ (why : ℕ). judged-end why refusal) (alike .refusal)
+  judged-as : judged-end (lent .refusal) 12 ≡ opened-end (session-opening h)
+  unfolding judged-end opened-end
+  judged-as = ap (λ (why : ℕ). judged-end why 12) (alike .refusal)
 
 -- ---- a line
 
@@ -263,55 +263,22 @@ line-follows d l (answered {v = v} {h = h} {y = y} {n = n} p) few =
 
 -- ---- the end
 
--- the definition's answer, where the last line is closed or is not
-unfoldable pub answer-defined : Bool → defined.Reader → Verdict
-answer-defined closed e = (if closed then end-defined e else unclosed-defined e) .answer
+machine-end : (d : LineRead) (e : defined.Reader) (p : ReaderPhase) → part-of d ≡ e → past-header p ≡ true
+    → phase-end p true (d .reader) (d .nodes) (d .buckets) ≡ read-phase-end p e
+unfolding read-phase-end phase-end missing past-header
+machine-end d e (Due due) same p = absurd (tf p refl)
+machine-end d e EventDue same p = refl
+machine-end d e (Printed k o) same p = refl
+machine-end d e (Listed k) same p = ap (λ (x : defined.Reader). listing-end (drop k (listing (x .machine)))) same
+machine-end d e (Decided v) same p = refl
 
-header-end : (closed : Bool) (d : LineRead) (due : HeaderLine) (y : Machine) → 2176 ≤ length (d .nodes) → 13200 ≤ length (d .buckets)
-    → phase-end (Due due) closed (d .reader) (d .nodes) (d .buckets)
-    ≡ answer-defined closed (reader (Due due) (d .reader .header) y (d .reader .number))
-unfolding answer-defined end-defined unclosed-defined read-phase-end read-phase-unclosed phase-end missing answers
-header-end closed d due y f g = go closed (optional due)
-  where
-    h : Header
-    h = d .reader .header
-
-    e : defined.Reader
-    e = reader (Due due) h y (d .reader .number)
-
-    go : (c b : Bool)
-        → (if b then judged-end (opening (h .config) (node-part h (d .nodes)) (bucket-part h (d .buckets)) .refusal) (missing c) else Refusal (missing c))
-        ≡ (if c then (if b then opened-end-defined 12 (session-opening h) else answers (Refusal 12) e)
-        else (if b then opened-end-defined 10 (session-opening h) else answers (Refusal 10) e)) .answer
-    go true true = judged-as (d .nodes) (d .buckets) f g h 12
-    go true false = refl
-    go false true = judged-as (d .nodes) (d .buckets) f g h 10
-    go false false = refl
-
-machine-end : (closed : Bool) (d : LineRead) (e : defined.Reader) (p : ReaderPhase) → part-of d ≡ e → past-header p ≡ true
-    → phase-end p closed (d .reader) (d .nodes) (d .buckets) ≡ (if closed then read-phase-end p e else read-phase-unclosed p e) .answer
-unfolding read-phase-end read-phase-unclosed phase-end missing answers past-header
-machine-end closed d e (Due due) same p = absurd (tf p refl)
-machine-end true d e EventDue same p = refl
-machine-end false d e EventDue same p = refl
-machine-end true d e (Printed k o) same p = refl
-machine-end false d e (Printed k o) same p = refl
-machine-end true d e (Listed k) same p = ap (λ (x : defined.Reader). listing-end (drop k (listing (x .machine)))) same
-machine-end false d e (Listed k) same p = refl
-machine-end true d e (Decided v) same p = refl
-machine-end false d e (Decided v) same p = refl
-
-pub end-follows : (closed : Bool) (d : LineRead) {e : defined.Reader} → Follows d e
-    → read-end closed (d .reader) (d .nodes) (d .buckets) ≡ answer-defined closed e
-unfolding read-end answer-defined end-defined unclosed-defined with-part read-phase-end read-phase-unclosed phase-end answers
-end-follows closed d (in-header {due = due} {y = y} p f g) =
-    ap (λ (q : ReaderPhase). phase-end q closed (d .reader) (d .nodes) (d .buckets)) p ∙ header-end closed d due y f g
-end-follows closed d (with-machine-of {e = e} p same) =
+pub end-follows : (d : LineRead) {e : defined.Reader} → Follows d e → read-end true (d .reader) (d .nodes) (d .buckets) ≡ end-defined e
+unfolding read-end end-defined with-part read-phase-end phase-end missing
+end-follows d (in-header {due = due} p f g) =
+    let h = d .reader .header in
+    ap (λ (q : ReaderPhase). phase-end q true (d .reader) (d .nodes) (d .buckets)) p
+    ∙ ap (λ (v : Verdict). if optional due then v else Refusal 12) (judged-as (d .nodes) (d .buckets) f g h)
+end-follows d (with-machine-of {e = e} p same) =
     let at : d .reader .phase ≡ e .phase = ap (λ (x : defined.Reader). x .phase) same in
-    ap (λ (q : ReaderPhase). phase-end q closed (d .reader) (d .nodes) (d .buckets)) at ∙ machine-end closed d e (e .phase) same p
-end-follows closed d (answered {v = v} {h = h} {y = y} {n = n} p) =
-    ap (λ (q : ReaderPhase). phase-end q closed (d .reader) (d .nodes) (d .buckets)) p ∙ go closed
-  where
-    go : (c : Bool) → v ≡ (if c then answers v (reader (Decided v) h y n) else answers v (reader (Decided v) h y n)) .answer
-    go true = refl
-    go false = refl
+    ap (λ (q : ReaderPhase). phase-end q true (d .reader) (d .nodes) (d .buckets)) at ∙ machine-end d e (e .phase) same p
+end-follows d (answered p) = ap (λ (q : ReaderPhase). phase-end q true (d .reader) (d .nodes) (d .buckets)) p

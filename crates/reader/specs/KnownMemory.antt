@@ -63,9 +63,6 @@ awaits-known ok (Printed j o) y e k = absurd (tf e refl)
 awaits-known ok (Listed j) y e k = absurd (tf e refl)
 awaits-known ok (Decided v) y e k = absurd (tf e refl)
 
-pub known-at : (ok : Bool) (p q : ReaderPhase) (y : Machine) → p ≡ q → Known ok q y → Known ok p y
-known-at ok p q y e k = subst (λ (x : ReaderPhase). Known ok x y) (sym e) k
-
 -- a reader that is as a line leaves it
 pub known-as : (ok : Bool) (d : LineRead) {r : Reader} {ns bs : List ℕ} → r ≡ d .reader → ns ≡ d .nodes → bs ≡ d .buckets
     → KnownAfter ok d → KnownIn ok r ns bs

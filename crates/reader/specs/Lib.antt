@@ -1,5 +1,6 @@
 pub mod Follows
 pub mod LentVerdict
+pub mod ListingPlaces
 pub mod OutsideLines
 pub mod GivesVerdict
 pub mod KnownMemory

@@ -4,34 +4,31 @@
 use mathlib.Core.Path.{_≡_, refl, sym, ap, _∙_}
 use mathlib.Core.List.{List, [], _∷_, _++_}
 use mathlib.Core.Bool.{Bool, true, false, not, _&&_}
-use Prim.Native.Nat.{ℕ, zero, suc, _+_, _<_, _≤_, min}
+use Prim.Native.Nat.{ℕ, _+_, _<_, _≤_, min}
 use native.Mathlib.Omega.{arith}
 use borrow.Author.Tests.{lt-leb, leb-false}
 use lib.Dec.{eqb, leb}
-use lib.ListN.{length, drop, replicate, length-append}
-use Rattle.spec.specs.declared.Listing.{Listing}
-use Rattle.spec.specs.declared.Listing.the-variants.{Count, Refused}
+use lib.ListN.{length, drop, length-append}
 use Rattle.spec.specs.Lists.{if_then_else_}
 use Rattle.spec.specs.Machine.{Machine}
 use Rattle.spec.specs.Listed.{listed}
-use Rattle.spec.specs.Entries.{Opened, opening, list}
+use Rattle.spec.specs.Entries.{Opened, opening}
 use Rattle.laws.specs.Tests.{tf}
 use Rattle.session.specs.declared.EventLine.the-variants.{Outside}
 use Rattle.session.specs.declared.Header.{Header}
 use Rattle.session.specs.declared.HeaderStep.{HeaderStep}
 use Rattle.session.specs.declared.HeaderStep.the-variants.{Absent, Missing}
-use Rattle.session.specs.Keys.{newline, refuse-key, size-key, tags-key, tag-key}
+use Rattle.session.specs.Keys.{newline, size-key}
 use Rattle.session.specs.Grammar.{InputLine, closed-line, open-line, starts-with, admissible}
 use Rattle.session.specs.Header.{optional}
 use Rattle.session.specs.LineLaws.{outside-step, outside-event}
-use Rattle.session.specs.OutputLengths.{refusal-length}
-use Rattle.session.specs.Print.{decimal, key-line, refusal-line, output-line}
+use Rattle.session.specs.Print.{output-line}
 use Rattle.session_pools.specs.PoolParts.{node-part, bucket-part}
 use Rattle.recording.specs.declared.ReaderPhase.{ReaderPhase}
 use Rattle.recording.specs.declared.ReaderPhase.the-variants.{Due, Event as EventDue, Printed, Listed, Decided}
 use Rattle.recording.specs.declared.Verdict.{Verdict}
 use Rattle.recording.specs.declared.Verdict.the-variants.{Differs, Refusal}
-use Rattle.recording.specs.Recording.{RecordedLine, tag-listing, listing-of, listing}
+use Rattle.recording.specs.Recording.{RecordedLine, listing}
 use Rattle.recording.specs.Verdict.{Compared, fails, compare-line, past-listing, Turn, lists, gives-10, event-turn, turn}
 use Rattle.recording.specs.Reader as defined
 use Rattle.recording.specs.Reader.{reader, decided, after-comparing, compare-listed, read-listed, read-turn, read-opened, read-phase}
@@ -40,6 +37,7 @@ use Rattle.reader_state.specs.declared.Reader.{Reader}
 use Rattle.reader_state.specs.Standing as standing
 use Rattle.reader_state.specs.Standing.{most-lines, missing, with-part, LineRead, put-back, awaits-event, opened, turn-line, opened-line, header-line}
 use Rattle.reader_state.specs.Standing.{phase-line, read-line, judged-end, phase-end, read-end}
+use Rattle.reader.specs.ListingPlaces.{PlaceIn, no-line, a-line, place-in}
 use Rattle.reader.specs.LentVerdict.{line-at, end-at, take-line, lines-verdict, stays-decided}
 
 -- ---- what such a line gives: whether it is closed, and whether it starts with `size=`
@@ -77,35 +75,6 @@ printed-length (Printed k o) = length (output-line k o)
 printed-length (Listed k) = 0
 printed-length (Decided v) = 0
 
--- ---- the listing's lines are short
-
-data Short : List RecordedLine → Type 0 where
-  none-long : Short []
-  line-short : {r : RecordedLine} {rs : List RecordedLine} → length (r .written) ≤ 41 → Short rs → Short (r ∷ rs)
-
-decimal-short : (n : ℕ) → length (decimal n) ≤ 20
-unfolding refusal-line key-line
-decimal-short n = omega (arith, simp length-append at (refusal-length n))
-
-key-short : (key : List ℕ) (n : ℕ) → length key ≤ 20 → length (key-line key n) ≤ 41
-unfolding key-line
-key-short key n h = simp length-append (omega (arith, decimal-short n))
-
-tags-short : (ts : List ℕ) → Short (tag-listing ts)
-unfolding tag-listing
-tags-short [] = none-long
-tags-short (t ∷ ts) = line-short (key-short tag-key t (omega arith)) (tags-short ts)
-
-listing-short : (y : Machine) (l : Listing) → Short (listing-of y l)
-unfolding listing-of refusal-line
-listing-short y (Count n) = line-short (key-short size-key _ (omega arith)) (line-short (key-short tags-key _ (omega arith)) (tags-short (listed y)))
-listing-short y (Refused r) = line-short (key-short refuse-key r (omega arith)) none-long
-
-drop-short : (k : ℕ) (rs : List RecordedLine) → Short rs → Short (drop k rs)
-drop-short zero rs s = s
-drop-short (suc k) rs none-long = none-long
-drop-short (suc k) rs (line-short {rs = ss} h s) = drop-short k ss s
-
 -- ---- a line that is too long or not closed
 
 module _ (x : InputLine) (out : admissible x ≡ false) where
@@ -137,7 +106,7 @@ module _ (x : InputLine) (out : admissible x ≡ false) where
 
   listed-outside : (k : ℕ) (r : defined.Reader) → read-listed k r x ≡ decided (compared-verdict (x .closed) (r .number)) r
   unfolding read-listed compare-listed past-listing compared-verdict after-comparing listing
-  listed-outside k r = go (drop k (listing y)) (drop-short k (listing y) (listing-short y (list y (replicate 64 0) .says)))
+  listed-outside k r = go (drop k (listing y)) (place-in y k)
     where
       y : Machine
       y = r .machine
@@ -146,9 +115,9 @@ module _ (x : InputLine) (out : admissible x ≡ false) where
       past true = refl
       past false = refl
 
-      go : (rs : List RecordedLine) → Short rs → compare-listed k rs r x ≡ decided (compared-verdict (x .closed) (r .number)) r
-      go [] none-long = ap (λ (v : Verdict). decided v r) (past (x .closed))
-      go (p ∷ ps) (line-short h s) = ap (λ (c : Compared). after-comparing c (Listed (k + 1)) r) (compare-outside (r .number) (p .written) (λ e. h))
+      go : (rs : List RecordedLine) → PlaceIn k rs → compare-listed k rs r x ≡ decided (compared-verdict (x .closed) (r .number)) r
+      go [] no-line = ap (λ (v : Verdict). decided v r) (past (x .closed))
+      go (p ∷ ps) (a-line h s t) = ap (λ (c : Compared). after-comparing c (Listed (k + 1)) r) (compare-outside (r .number) (p .written) (λ e. t))
 
   turned : (r : defined.Reader) → read-turn (turn x) r x ≡ decided (turn-verdict (x .closed) size (r .number)) r
   unfolding read-turn turn-verdict compared-verdict

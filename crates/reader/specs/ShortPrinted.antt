@@ -8,12 +8,11 @@ use borrow.Author.Tests.{ltb-false}
 use lib.Dec.{ltb}
 use lib.ListN.{length, length-append}
 use Rattle.spec.specs.declared.Answer.{Answer}
-use Rattle.spec.specs.declared.Answer.the-variants.{Yes, No, Full, Done, Lost, Limit}
 use Rattle.spec.specs.declared.Occupancy.the-variants.{NotGiven, Tags}
 use Rattle.spec.specs.declared.Output.the-variants.{At, End, Refuse}
 use Rattle.spec.specs.Lists.{if_then_else_}
-use Rattle.session.specs.OutputLengths.{refusal-length}
-use Rattle.session.specs.Print.{decimal-digits, decimal, key-line, answer-word, occupancy-field, refusal-line, output-line}
+use Rattle.session.specs.OutputLengths.{decimal-length, refusal-length, word-length}
+use Rattle.session.specs.Print.{decimal-digits, decimal, occupancy-field, output-line}
 
 -- 10 to the power of q
 unfoldable tenfold : ℕ → ℕ
@@ -40,23 +39,10 @@ decimal-five : (n : ℕ) → n ≤ 65535 → length (decimal n) ≤ 5
 unfolding decimal tenfold
 decimal-five n h = digits-few 20 4 n (omega arith)
 
-decimal-any : (n : ℕ) → length (decimal n) ≤ 20
-unfolding refusal-line key-line
-decimal-any n = omega (arith, simp length-append at (refusal-length n))
-
-word-few : (a : Answer) → length (answer-word a) ≤ 5
-unfolding answer-word
-word-few Yes = omega arith
-word-few No = omega arith
-word-few Full = omega arith
-word-few Done = omega arith
-word-few Lost = omega arith
-word-few Limit = omega arith
-
 module _ (k : ℕ) (few : k ≤ 4294967295) where
   pub at-short : (l : ℕ) → length (output-line k (At l)) ≤ 41
   unfolding output-line
-  at-short l = simp length-append (omega (arith, decimal-ten k few, decimal-any l))
+  at-short l = simp length-append (omega (arith, decimal-ten k few, decimal-length l))
 
   pub refuse-short : (r : ℕ) → length (output-line k (Refuse r)) ≤ 41
   unfolding output-line
@@ -65,8 +51,8 @@ module _ (k : ℕ) (few : k ≤ 4294967295) where
   module _ (a : Answer) (own : ℕ) (steps : own ≤ 65535) where
     pub end-short : length (output-line k (End a own NotGiven)) ≤ 41
     unfolding output-line occupancy-field
-    end-short = simp length-append (omega (arith, decimal-ten k few, word-few a, decimal-five own steps))
+    end-short = simp length-append (omega (arith, decimal-ten k few, word-length a, decimal-five own steps))
 
     pub end-full-short : (n : ℕ) → n ≤ 4294967295 → length (output-line k (End a own (Tags n))) ≤ 41
     unfolding output-line occupancy-field
-    end-full-short n h = simp length-append (omega (arith, decimal-ten k few, word-few a, decimal-five own steps, decimal-ten n h))
+    end-full-short n h = simp length-append (omega (arith, decimal-ten k few, word-length a, decimal-five own steps, decimal-ten n h))

@@ -1,13 +1,13 @@
 -- How many bytes are written at most: `longest-pair` for each line of an input, and once `longest-last`, the kept header lines and the final
--- listing, whenever these come. So a caller can lend room for all of it: `line-bound`, `end-bound`, `output-bound`. Assumes nothing.
+-- listing, whenever these come. So a caller can lend room for it: `line-bound`, `end-bound`. Assumes nothing.
 use mathlib.Core.Path.{_≡_, refl, sym, ap, subst, _∙_}
-use mathlib.Core.List.{List, [], _∷_, _++_}
+use mathlib.Core.List.{List, [], _++_}
 use mathlib.Core.Bool.{Bool, true, false}
-use Prim.Native.Nat.{ℕ, zero, suc, _+_, _*_, _≤_}
+use Prim.Native.Nat.{ℕ, _+_, _≤_}
 use native.Mathlib.Omega.{arith}
-use borrow.Author.Tests.{leb-true, ne-eqb}
+use borrow.Author.Tests.{leb-true}
 use lib.Dec.{eqb, leb}
-use lib.ListN.{length, replicate, length-append, length-take, length-replicate}
+use lib.ListN.{length, length-append, length-take}
 use Rattle.spec.specs.declared.State.{State}
 use Rattle.spec.specs.Lists.{if_then_else_}
 use Rattle.spec.specs.Entries.{Opened, opening}
@@ -17,9 +17,8 @@ use Rattle.session.specs.declared.EventLine.the-variants.{Start, Step, Outside}
 use Rattle.session.specs.declared.Header.{Header}
 use Rattle.session.specs.declared.HeaderLine.{HeaderLine}
 use Rattle.session.specs.declared.HeaderStep.{HeaderStep}
-use Rattle.session.specs.Grammar.{InputLine, closed-line, open-line, split-lines, input-lines, admissible, parse-event-line}
+use Rattle.session.specs.Grammar.{InputLine, admissible, parse-event-line}
 use Rattle.session.specs.Header.{optional}
-use Rattle.session.specs.Keys.{newline}
 use Rattle.session.specs.LineLaws.{outside-event}
 use Rattle.session.specs.Print.{refusal-line}
 use Rattle.session.specs.OutputLengths.{longest-line, longest-end, refusal-length}
@@ -28,19 +27,17 @@ use Rattle.session_pools.specs.PoolParts.{node-part, bucket-part}
 use Rattle.session_state.specs.declared.Phase.{Phase}
 use Rattle.session_state.specs.declared.Phase.the-variants.{Due, Events, Stopped}
 use Rattle.session_state.specs.declared.Session.{Session}
-use Rattle.session_state.specs.Handling.{session, new-session, LineEffect, pools-kept, stopped, silent, with-machine, opened-then, open-then, reply-effect}
+use Rattle.session_state.specs.Handling.{session, LineEffect, pools-kept, stopped, silent, with-machine, opened-then, open-then, reply-effect}
 use Rattle.session_state.specs.Handling.{event-effect, listing-effect, phase-effect, line-effect, phase-end, end-effect}
 use Rattle.session_lines.specs.OutputBounds as session-bounds
 use Rattle.recording.specs.Recording.{close}
-use Rattle.recording.specs.Recorder.{longest-header, recorder-output}
+use Rattle.recording.specs.Recorder.{longest-header}
 use Rattle.recording_laws.specs.HeaderLaws.{TakenLine, HeaderKnown, goes-on, last-taken, left-out, missing, header-known}
 use Rattle.recorder_lines.specs.declared.KeptLines.{KeptLines}
-use Rattle.recorder_lines.specs.KeptLines.{no-lines, kept-bytes, kept-after}
-use Rattle.recorder_lines.specs.KeptBytes.{keep-length}
+use Rattle.recorder_lines.specs.KeptLines.{kept-bytes}
 use Rattle.recorder.specs.LentRecorder.{after-bytes, recorded-event, first-recorded, recorded-opening, recorded-header, recorded-phase, recorded-line}
-use Rattle.recorder.specs.LentRecorder.{recorded-end, new-recorder, Progress, begin, line-of, then-line, record-end, end-of, all-recorded}
+use Rattle.recorder.specs.LentRecorder.{recorded-end, Progress, line-of, record-end, end-of}
 use Rattle.recorder.specs.LineRecorder.{outside-line, end-stops}
-use Rattle.recorder.specs.WritesRecording.{writes-recording}
 
 -- an event's line, closed, and its output line
 abbrev pub longest-pair : ℕ
@@ -194,53 +191,3 @@ outside-bound p l e room =
     let o = outside-line p l e in
     let s : line-of p l .session .phase ≡ Stopped = ap (λ (d : LineEffect). d .session .phase) o ∙ end-stops p in
     omega (arith, ap (λ (d : LineEffect). length (d .prints)) o, ap still-due s, end-bound p room)
-
--- ---- all of it
-
--- what is kept has room again
-kept-room : (p : Phase) (k : KeptLines) (line : List ℕ) → length (kept-after p k line .bytes) ≡ length (k .bytes)
-unfolding kept-after
-kept-room (Due due) k line = keep-length k line
-kept-room Events k line = refl
-kept-room Stopped k line = refl
-
-pub line-keeps-room : (p : Progress) (l : InputLine) → length (then-line p l .recorder .kept .bytes) ≡ length (p .recorder .kept .bytes)
-unfolding then-line
-line-keeps-room p l = kept-room (p .recorder .session .phase) (p .recorder .kept) (l .bytes)
-
-lines-bound : (ls : List InputLine) (p : Progress) → length (p .recorder .kept .bytes) ≡ longest-header
-    → length (all-recorded p ls) ≤ length (p .writes) + still-due (p .recorder .session .phase) + longest-pair * length ls
-unfolding all-recorded then-line
-lines-bound [] p room = simp length-append (omega (arith, end-bound p room))
-lines-bound (l ∷ ls) p room =
-    let f = line-bound p l room in
-    let g = lines-bound ls (then-line p l) (line-keeps-room p l ∙ room) in
-    let w : length (then-line p l .writes) ≡ length (p .writes) + length (line-of p l .prints) = length-append (p .writes) (line-of p l .prints) in
-    omega arith
-
--- a line has one byte at least
-lines-few : (line xs : List ℕ) → length (split-lines line xs) ≤ length line + length xs
-unfolding split-lines
-lines-few line [] = go (length line) refl
-  where
-    go : (n : ℕ) → length line ≡ n → length (if eqb (length line) 0 then [] else (open-line line ∷ [])) ≤ length line + 0
-    go zero e = rw e (omega arith)
-    go (suc n) e = rw (ne-eqb (length line) 0 (λ z. omega arith)) (omega arith)
-lines-few line (x ∷ xs) = go (eqb x newline) (lines-few [] xs) (lines-few (line ++ (x ∷ [])) xs)
-  where
-    go : (b : Bool) → length (split-lines [] xs) ≤ 0 + length xs → length (split-lines (line ++ (x ∷ [])) xs) ≤ length (line ++ (x ∷ [])) + length xs
-        → length (if b then (closed-line line ∷ split-lines [] xs) else split-lines (line ++ (x ∷ [])) xs) ≤ length line + suc (length xs)
-    go true f g = omega arith
-    go false f g = omega (arith, length-append line (x ∷ []))
-
-pub output-bound : (input : List ℕ) → length (recorder-output input) ≤ longest-pair * length input + longest-last
-unfolding new-recorder new-session no-lines still-due input-lines
-output-bound input =
-    let ns = replicate {A = ℕ} 2176 0 in
-    let bs = replicate {A = ℕ} 13200 0 in
-    let ln : 2176 ≤ length ns = omega (arith, length-replicate {A = ℕ} 2176 0) in
-    let lb : 13200 ≤ length bs = omega (arith, length-replicate {A = ℕ} 13200 0) in
-    let e = ap length (writes-recording ns bs ln lb input) in
-    let f = lines-bound (input-lines input) (begin new-recorder ns bs) refl in
-    let g = lines-few [] input in
-    omega arith

@@ -12,7 +12,6 @@ use Rattle.spec.specs.Lists.{if_then_else_}
 use Rattle.session.specs.Buffer.{Buffer, buffer, append-byte, append}
 use Rattle.session.specs.BufferLaws.{append-first, append-rest}
 use Rattle.recording.specs.Recorder.{longest-header}
-use Rattle.recording.specs.Reader.{keep}
 use Rattle.recording.specs.Recording.{close}
 use Rattle.recorder_lines.specs.declared.KeptLines.{KeptLines}
 use Rattle.recorder_lines.specs.KeptLines.{no-lines, kept-bytes, keep-line}
@@ -49,10 +48,6 @@ append-length (x ∷ xs) t = append-length xs (append-byte x t) ∙ go (ltb (t .
     go true = length-set (t .bytes) (t .at) x
     go false = refl
 
-pub keep-length : (k : KeptLines) (line : List ℕ) → length (keep-line k line .bytes) ≡ length (k .bytes)
-unfolding keep-line
-keep-length k line = append-length (close line) (buffer (k .bytes) (k .len))
-
 -- bytes appended after the first n of a buffer
 module _ (xs w : List ℕ) (n : ℕ) (fits : n ≤ length w) where
   abbrev pub room : ℕ
@@ -84,8 +79,8 @@ module _ (xs w : List ℕ) (n : ℕ) (fits : n ≤ length w) where
       let e : append xs (buffer w n) .at ≡ length (take n w) + room = ap (λ (t : Buffer). t .at) appended in
       omega (arith, long, length-drop n w)
 
-pub kept-more : (k : KeptLines) (kept line : List ℕ) → KeptIs k kept → KeptIs (keep-line k line) (keep longest-header kept (close line))
-unfolding keep-line keep
+pub kept-more : (k : KeptLines) (kept line : List ℕ) → KeptIs k kept → KeptIs (keep-line k line) (take longest-header (kept ++ close line))
+unfolding keep-line
 kept-more k kept line o =
     let fits : k .len ≤ length (k .bytes) = omega (arith, o .room, o .some) in
     record {

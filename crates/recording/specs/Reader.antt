@@ -1,10 +1,9 @@
--- The reader, one line at a time, and one byte at a time with at most `longest-line` bytes of a line kept: where it stands, what a
--- line or a byte moves it to, and what it answers at the end. It is what code is held to; that it gives the verdict is shown in
--- ReaderVerdict and ByteReader. Assumes nothing.
+-- The reader, one line at a time: where it stands, what a line moves it to, and what it answers at the end. It is what code is held to; that
+-- it gives the verdict is shown in ReaderVerdict. Assumes nothing.
 use Prim.Native.Nat.{ℕ, suc, _+_}
-use mathlib.Core.List.{List, [], _∷_, _++_}
+use mathlib.Core.List.{List, [], _∷_}
 use lib.Dec.{eqb}
-use lib.ListN.{length, take, drop}
+use lib.ListN.{drop}
 use Rattle.spec.specs.Lists.{if_then_else_}
 use Rattle.spec.specs.Machine.{Machine, machine-of, zero-config, state-of}
 use Rattle.spec.specs.Entries.{Opened}
@@ -13,10 +12,8 @@ use Rattle.session.specs.declared.Header.{Header}
 use Rattle.session.specs.declared.HeaderLine.the-variants.{Tasks}
 use Rattle.session.specs.declared.HeaderStep.{HeaderStep}
 use Rattle.session.specs.declared.HeaderStep.the-variants.{Next, Complete, Absent, Missing}
-use Rattle.session.specs.Keys.{newline}
-use Rattle.session.specs.Grammar.{InputLine, closed-line}
+use Rattle.session.specs.Grammar.{InputLine}
 use Rattle.session.specs.Header.{empty-header, optional, header-step}
-use Rattle.session.specs.OutputLengths.{longest-line}
 use Rattle.session.specs.Print.{output-line}
 use Rattle.session.specs.Transcript.{task-in, session-opening}
 use Rattle.recording.specs.declared.ReaderPhase.{ReaderPhase}
@@ -99,78 +96,28 @@ read-phase (Decided v) r l = r
 unfoldable pub read-line : Reader → InputLine → Reader
 read-line r l = read-phase (r .phase) r l
 
--- ---- the end of the lines: what is answered, and the machine then, since a header may be complete only there
-
-pub record Ending : Type 0 where
-  pub answer : Verdict
-  pub machine : Machine
-
-unfoldable pub answers : Verdict → Reader → Ending
-answers v r = record { answer = v; machine = r .machine }
+-- ---- the end of the lines
 
 -- "12, a line missing where the pattern needs one": these lines of the listing are still to come
 unfoldable pub listing-end : List RecordedLine → Verdict
 listing-end [] = Same
 listing-end (p ∷ ps) = Refusal 12
 
--- the opening's refusal, or else this one
-unfoldable pub opened-end : ℕ → Opened → Ending
-opened-end r o = record { answer = if eqb (o .refusal) 0 then Refusal r else Refusal (o .refusal); machine = o .machine }
+-- the opening's refusal, or else 12
+unfoldable pub opened-end : Opened → Verdict
+opened-end o = if eqb (o .refusal) 0 then Refusal 12 else Refusal (o .refusal)
 
-unfoldable pub read-phase-end : ReaderPhase → Reader → Ending
-read-phase-end (Due due) r = if optional due then opened-end 12 (session-opening (r .header)) else answers (Refusal 12) r
-read-phase-end EventDue r = answers (Refusal 12) r
-read-phase-end (Printed k o) r = answers (Refusal 12) r
-read-phase-end (Listed k) r = answers (listing-end (drop k (listing (r .machine)))) r
-read-phase-end (Decided v) r = answers v r
+unfoldable pub read-phase-end : ReaderPhase → Reader → Verdict
+read-phase-end (Due due) r = if optional due then opened-end (session-opening (r .header)) else Refusal 12
+read-phase-end EventDue r = Refusal 12
+read-phase-end (Printed k o) r = Refusal 12
+read-phase-end (Listed k) r = listing-end (drop k (listing (r .machine)))
+read-phase-end (Decided v) r = v
 
-unfoldable pub read-end : Reader → Ending
+unfoldable pub read-end : Reader → Verdict
 read-end r = read-phase-end (r .phase) r
-
--- "10 is .. for a line not closed": the end, after a last line that is not closed, whatever its bytes are
-unfoldable pub read-phase-unclosed : ReaderPhase → Reader → Ending
-read-phase-unclosed (Due due) r = if optional due then opened-end 10 (session-opening (r .header)) else answers (Refusal 10) r
-read-phase-unclosed EventDue r = answers (Refusal 10) r
-read-phase-unclosed (Printed k o) r = answers (Refusal 10) r
-read-phase-unclosed (Listed k) r = answers (Refusal 10) r
-read-phase-unclosed (Decided v) r = answers v r
-
-unfoldable pub read-unclosed : Reader → Ending
-read-unclosed r = read-phase-unclosed (r .phase) r
 
 -- the lines, one after the other, and their end
 unfoldable pub read-lines : Reader → List InputLine → Verdict
-read-lines r [] = read-end r .answer
+read-lines r [] = read-end r
 read-lines r (l ∷ ls) = read-lines (read-line r l) ls
-
--- ---- a byte: of a line that is not closed yet, its first bytes are kept
-
-unfoldable pub keep : ℕ → List ℕ → List ℕ → List ℕ
-keep most kept more = take most (kept ++ more)
-
-pub record ByteReader : Type 0 where
-  pub reader : Reader
-  pub kept : List ℕ
-
-abbrev pub byte-reader : Reader → List ℕ → ByteReader
-byte-reader r kept = record { reader = r; kept = kept }
-
-unfoldable pub new-byte-reader : ByteReader
-new-byte-reader = byte-reader new-reader []
-
-unfoldable pub read-byte : ByteReader → ℕ → ByteReader
-read-byte p x =
-    if eqb x newline then byte-reader (read-line (p .reader) (closed-line (p .kept))) []
-    else byte-reader (p .reader) (keep longest-line (p .kept) (x ∷ []))
-
-unfoldable pub read-bytes : ByteReader → List ℕ → ByteReader
-read-bytes p [] = p
-read-bytes p (x ∷ xs) = read-bytes (read-byte p x) xs
-
--- the last line is closed, or it is not
-unfoldable pub bytes-end : ByteReader → Ending
-bytes-end p = if eqb (length (p .kept)) 0 then read-end (p .reader) else read-unclosed (p .reader)
-
--- a whole input
-unfoldable pub read-input : List ℕ → Verdict
-read-input input = bytes-end (read-bytes new-byte-reader input) .answer

@@ -4,7 +4,7 @@
 use Prim.Native.Nat.{ℕ}
 use mathlib.Core.List.{List, [], _∷_, _++_}
 use lib.Dec.{eqb}
-use lib.ListN.{replicate}
+use lib.ListN.{take, replicate}
 use Rattle.spec.specs.Lists.{if_then_else_}
 use Rattle.spec.specs.Machine.{Machine}
 use Rattle.spec.specs.Entries.{Opened, list}
@@ -15,7 +15,7 @@ use Rattle.session.specs.declared.Header.{Header}
 use Rattle.session.specs.declared.HeaderLine.the-variants.{Tasks}
 use Rattle.session.specs.declared.HeaderStep.{HeaderStep}
 use Rattle.session.specs.declared.HeaderStep.the-variants.{Next, Complete, Absent, Missing}
-use Rattle.session.specs.Grammar.{InputLine, input-lines, parse-event-line}
+use Rattle.session.specs.Grammar.{InputLine, parse-event-line}
 use Rattle.session.specs.Header.{empty-header, optional, header-step}
 use Rattle.session.specs.Print.{refusal-line}
 use Rattle.session.specs.Transcript.{final-listing, session-opening, transcript}
@@ -23,7 +23,7 @@ use Rattle.recording.specs.declared.RecorderPhase.{RecorderPhase}
 use Rattle.recording.specs.declared.RecorderPhase.the-variants.{Header as HeaderDue, Events, Ended}
 use Rattle.recording.specs.Recording.{close, bytes-of, Recorded, recorded, not-recorded, recorded-lines}
 use Rattle.recording.specs.Verdict.{printed-for}
-use Rattle.recording.specs.Reader.{no-machine, keep}
+use Rattle.recording.specs.Reader.{no-machine}
 
 -- where it stands, what the header says so far, the machine, all zeros before the opening, and the header's lines so far
 pub record Recorder : Type 0 where
@@ -85,7 +85,7 @@ record-opened o h kept next =
 -- what a line says where a header line is due
 unfoldable pub record-header-line : HeaderStep → Recorder → InputLine → RecorderEffect
 record-header-line (Next due h) r l =
-    recorder-effect (recorder (HeaderDue due) h (r .machine) (keep longest-header (r .kept) (close (l .bytes)))) []
+    recorder-effect (recorder (HeaderDue due) h (r .machine) (take longest-header (r .kept ++ close (l .bytes)))) []
 record-header-line (Complete h) r l = record-opened (session-opening h) h (r .kept) (λ s. recorder-effect s (close (l .bytes)))
 record-header-line (Absent h) r l = record-opened (session-opening h) h (r .kept) (λ s. record-event (parse-event-line l) s l)
 record-header-line Missing r l = record-last r (refusal-line 10)
@@ -116,10 +116,6 @@ record-lines r [] = record-end r .writes
 record-lines r (l ∷ ls) =
     let d = record-line r l in
     d .writes ++ record-lines (d .next) ls
-
--- a whole input
-unfoldable pub record-input : List ℕ → List ℕ
-record-input input = record-lines new-recorder (input-lines input)
 
 -- ---- what it writes for an input: the recording, and where there is none what the session prints
 

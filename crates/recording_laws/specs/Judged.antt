@@ -68,7 +68,7 @@ pub answered : (ls : List InputLine) (r : Reader) → judging (r .phase) ≡ tru
 unfolding read-lines reader-after read-line read-end
 answered [] r j = ended (end-view (r .phase) r j)
   where
-    ended : EndView (r .phase) (r .machine) (read-end r .answer) → Answered r [] (read-end r .answer)
+    ended : EndView (r .phase) (r .machine) (read-end r) → Answered r [] (read-end r)
     ended (is-12 x e) = twelve x e
     ended (is-same x e) = same x e
 answered (l ∷ ls) r j = go (phase-view r l (r .phase) j) (answered ls (read-line r l))
@@ -90,7 +90,7 @@ unfolding read-lines reader-after
 lines-on [] r l later = refl
 lines-on (m ∷ first) r l later = lines-on first (read-line r m) l later
 
-lines-end : (ls : List InputLine) (r : Reader) → read-lines r ls ≡ read-end (reader-after r ls) .answer
+lines-end : (ls : List InputLine) (r : Reader) → read-lines r ls ≡ read-end (reader-after r ls)
 unfolding read-lines reader-after
 lines-end [] r = refl
 lines-end (l ∷ ls) r = lines-end ls (read-line r l)

@@ -8,8 +8,6 @@ pub mod ListingLines
 pub mod RecordedEvents
 pub mod RecorderRecords
 pub mod ReaderVerdict
-pub mod ShortLines
-pub mod ByteReader
 pub mod ReadToEnd
 pub mod Awaited
 pub mod RecordingRead

@@ -24,7 +24,7 @@ use Rattle.recording_laws.specs.Comparing.{CompareView, unclosed, the-li
 use Rattle.recording_laws.specs.ReaderVerdict.{unclosed-listed}
 use Rattle.recording.specs.Recording.{RecordedLine, close, listing}
 use Rattle.recording.specs.Verdict.{Compared, compare-line, past-listing, Turn, lists, gives-10, event-turn, turn}
-use Rattle.recording.specs.Reader.{Reader, moved, decided, after-comparing, compare-listed, read-listed, run-event, read-turn, read-phase, answers}
+use Rattle.recording.specs.Reader.{Reader, moved, decided, after-comparing, compare-listed, read-listed, run-event, read-turn, read-phase}
 use Rattle.recording.specs.Reader.{listing-end, read-phase-end}
 
 -- ---- the table
@@ -175,8 +175,8 @@ pub data EndView (p : ReaderPhase) (y : Machine) (v : Verdict) : Type 0 where
   is-12 : Lacks p y → v ≡ Refusal 12 → EndView p y v
   is-same : Whole p y → v ≡ Same → EndView p y v
 
-pub end-view : (p : ReaderPhase) (r : Reader) → judging p ≡ true → EndView p (r .machine) (read-phase-end p r .answer)
-unfolding read-phase-end answers judging Lacks Whole listing-end
+pub end-view : (p : ReaderPhase) (r : Reader) → judging p ≡ true → EndView p (r .machine) (read-phase-end p r)
+unfolding read-phase-end judging Lacks Whole listing-end
 end-view (Due due) r j = absurd (tf j refl)
 end-view EventDue r j = is-12 (record {}) refl
 end-view (Printed k o) r j = is-12 (record {}) refl
@@ -187,8 +187,8 @@ end-view (Listed k) r j = go (drop k (listing (r .machine))) refl
     go (p ∷ ps) e = is-12 (λ q. let z : _≡_ {A = ℕ} 0 1 = cc in omega arith) (ap listing-end e)
 end-view (Decided v) r j = absurd (tf j refl)
 
-pub end-12 : (p : ReaderPhase) (r : Reader) → Lacks p (r .machine) → read-phase-end p r .answer ≡ Refusal 12
-unfolding read-phase-end answers Lacks listing-end
+pub end-12 : (p : ReaderPhase) (r : Reader) → Lacks p (r .machine) → read-phase-end p r ≡ Refusal 12
+unfolding read-phase-end Lacks listing-end
 end-12 (Due due) r g = absurd g
 end-12 EventDue r g = refl
 end-12 (Printed k o) r g = refl
@@ -199,8 +199,8 @@ end-12 (Listed k) r g = go (drop k (listing (r .machine))) g
     go (p ∷ ps) d = refl
 end-12 (Decided v) r g = absurd g
 
-pub end-same : (p : ReaderPhase) (r : Reader) → Whole p (r .machine) → read-phase-end p r .answer ≡ Same
-unfolding read-phase-end answers Whole listing-end
+pub end-same : (p : ReaderPhase) (r : Reader) → Whole p (r .machine) → read-phase-end p r ≡ Same
+unfolding read-phase-end Whole listing-end
 end-same (Due due) r g = absurd g
 end-same EventDue r g = absurd g
 end-same (Printed k o) r g = absurd g

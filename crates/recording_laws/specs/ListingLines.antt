@@ -1,20 +1,16 @@
--- The listing's lines: joined they are what a session prints at the end of its input, `listing-bytes`; they are at most 66, `listing-few`; and
+-- The listing's lines: joined they are what a session prints at the end of its input, `listing-bytes`; and
 -- which line stands at each place, `size-first`, `tags-second`, `tag-at`, `none-after`, so that code can make line k alone. Assumes nothing.
 use mathlib.Core.Path.{_≡_, refl, sym, ap, _∙_}
 use mathlib.Core.List.{List, [], _∷_, _++_, append-assoc, append-nil}
-use mathlib.Core.Bool.{Bool, true, false, not, _||_}
 use Prim.Native.Nat.{ℕ, zero, suc, _<_, _≤_}
 use native.Mathlib.Omega.{arith}
-use borrow.Author.Tests.{ltb-false}
-use lib.Dec.{ltb}
 use lib.ListN.{length, getD, drop, replicate}
 use Rattle.spec.specs.declared.Listing.{Listing}
 use Rattle.spec.specs.declared.Listing.the-variants.{Count, Refused}
-use Rattle.spec.specs.Lists.{if_then_else_, concat-map}
+use Rattle.spec.specs.Lists.{concat-map}
 use Rattle.spec.specs.Machine.{Machine}
 use Rattle.spec.specs.Listed.{listed, head-of, size-of}
-use Rattle.spec.specs.Sound.{sound}
-use Rattle.spec.specs.Entries.{Written, list}
+use Rattle.spec.specs.Entries.{list}
 use Rattle.session.specs.Keys.{size-key, tags-key, tag-key}
 use Rattle.session.specs.Print.{key-line, refusal-line, tag-lines, listing-lines}
 use Rattle.session.specs.Transcript.{final-listing}
@@ -38,35 +34,6 @@ bytes-by y (Refused r) = append-nil (refusal-line r)
 pub listing-bytes : (y : Machine) → bytes-of (listing y) ≡ final-listing y (list y (replicate 64 0) .says)
 unfolding listing
 listing-bytes y = bytes-by y (list y (replicate 64 0) .says)
-
--- ---- at most 66 lines, since no more than 64 tags are listed
-
-tag-count : (ts : List ℕ) → length (tag-listing ts) ≡ length ts
-unfolding tag-listing
-tag-count [] = refl
-tag-count (t ∷ ts) = ap suc (tag-count ts)
-
-pub listing-few : (y : Machine) → length (listing y) ≤ 66
-unfolding listing listing-of list
-listing-few y = go (not (sound y)) (ltb 64 (length (listed y))) refl
-  where
-    n : ℕ
-    n = length (listed y)
-
-    words : List ℕ
-    words = replicate 64 0
-
-    pick : Bool → Bool → Written
-    pick a b =
-        if a || b then record { says = Refused 8; words = words }
-        else record { says = Count n; words = listed y ++ drop n words }
-
-    go : (a b : Bool) → ltb 64 n ≡ b → length (listing-of y (pick a b .says)) ≤ 66
-    go true b e = omega arith
-    go false true e = omega arith
-    go false false e =
-        let few : n ≤ 64 = ltb-false 64 n e in
-        omega (arith, tag-count (listed y))
 
 -- ---- by place
 

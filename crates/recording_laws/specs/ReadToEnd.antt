@@ -13,7 +13,7 @@ use Rattle.session.specs.Grammar.{closed-line, split-lines, input-lines}
 use Rattle.recording.specs.declared.ReaderPhase.the-variants.{Listed}
 use Rattle.recording.specs.declared.Verdict.the-variants.{Same, Differs}
 use Rattle.recording.specs.Recording.{Role, header-role, event-role, output-role, size-role, listing-role, RecordedLine, close, bytes-of, listing}
-use Rattle.recording.specs.Reader.{Reader, reader, decided, read-line, answers, listing-end, read-phase-end, read-end, read-lines}
+use Rattle.recording.specs.Reader.{Reader, reader, decided, read-line, listing-end, read-phase-end, read-end, read-lines}
 use Rattle.recording_laws.specs.ReaderVerdict.{stays-decided}
 use Rattle.recording_laws.specs.ClosedLines.{without-newline, first-line}
 use Rattle.recording_laws.specs.PrintedLines.{ClosedBytes}
@@ -51,7 +51,7 @@ line-read {s} w rest =
     ∙ ap (λ (q : Reader). read-lines q (input-lines rest)) (w .goes-on)
 
 pub whole-read : {s : Reader} {rs : List RecordedLine} → ReadToEnd s rs → read-lines s (input-lines (bytes-of rs)) ≡ Same
-unfolding bytes-of concat-map input-lines split-lines read-lines read-end read-phase-end answers listing-end
+unfolding bytes-of concat-map input-lines split-lines read-lines read-end read-phase-end listing-end
 whole-read (at-end e) = ap listing-end e
 whole-read (after-line {rs = rs} w q) = line-read w (bytes-of rs) ∙ whole-read q
 

@@ -31,12 +31,12 @@ use Rattle.recording.specs.Recording.{RecordedLine, listing}
 use Rattle.recording.specs.Verdict.{Compared, as-printed, fails, compare-line, past-listing, Turn, runs, lists, gives-10, turn, printed-for, then-rest}
 use Rattle.recording.specs.Verdict.{listing-verdict, turn-verdict, events-verdict, output-verdict, opened-verdict, header-verdict, lines-verdict, verdict}
 use Rattle.recording.specs.Reader.{Reader, reader, no-machine, new-reader, moved, decided, after-comparing, compare-listed, read-listed, run-event}
-use Rattle.recording.specs.Reader.{read-turn, read-opened, read-header-line, read-phase, read-line, answers, listing-end, opened-end, read-phase-end}
+use Rattle.recording.specs.Reader.{read-turn, read-opened, read-header-line, read-phase, read-line, listing-end, opened-end, read-phase-end}
 use Rattle.recording.specs.Reader.{read-end, read-lines}
 
 -- what is decided stays
 pub stays-decided : (v : Verdict) (h : Header) (y : Machine) (n : ℕ) (ls : List InputLine) → read-lines (reader (Decided v) h y n) ls ≡ v
-unfolding read-lines read-line read-phase read-end read-phase-end answers
+unfolding read-lines read-line read-phase read-end read-phase-end
 stays-decided v h y n [] = refl
 stays-decided v h y n (l ∷ ls) = stays-decided v h y n ls
 
@@ -64,24 +64,10 @@ rest-of (suc k) (a ∷ xs) x rest e =
     let s : suc k + 1 ≡ suc (k + 1) = omega arith in
     ap (λ (j : ℕ). drop j (a ∷ xs)) s ∙ rest-of k xs x rest e
 
-listing-lines : (h : Header) (y : Machine) (ls : List InputLine) (n k : ℕ) (rs : List RecordedLine) → drop k (listing y) ≡ rs
-    → read-lines (reader (Listed k) h y n) ls ≡ listing-verdict n rs ls
-unfolding read-lines read-line read-phase read-listed compare-listed decided read-end read-phase-end answers listing-end listing-verdict
-listing-lines h y [] n k [] e = ap listing-end e
-listing-lines h y [] n k (r ∷ rs) e = ap listing-end e
-listing-lines h y (l ∷ ls) n k [] e =
-    let s = reader (Listed k) h y n in
-    ap (λ (ps : List RecordedLine). read-lines (compare-listed k ps s l) ls) e ∙ stays-decided (past-listing n l) h y n ls
-listing-lines h y (l ∷ ls) n k (r ∷ rs) e =
-    let s = reader (Listed k) h y n in
-    let later = listing-lines h y ls (suc n) (k + 1) rs (rest-of k (listing y) r rs e) in
-    ap (λ (ps : List RecordedLine). read-lines (compare-listed k ps s l) ls) e
-    ∙ compared-lines h y n ls (compare-line n (r .written) l) (Listed k) (Listed (k + 1)) (listing-verdict (suc n) rs ls) later
-
 -- the listing, where its line k is due and these are its lines from there on: line l, in whichever phase, and the lines after it
 module _ (h : Header) (y : Machine) where
   listing-ends : (n k : ℕ) (rs : List RecordedLine) → drop k (listing y) ≡ rs → read-lines (reader (Listed k) h y n) [] ≡ listing-verdict n rs []
-  unfolding read-lines read-end read-phase-end answers listing-end listing-verdict
+  unfolding read-lines read-end read-phase-end listing-end listing-verdict
   listing-ends n k [] e = ap listing-end e
   listing-ends n k (r ∷ rs) e = ap listing-end e
 
@@ -106,7 +92,7 @@ module _ (h : Header) where
     pub at-outputs : (n k : ℕ) (o : Output) (y : Machine) → read-lines (reader (Printed k o) h y n) ls ≡ output-verdict n (output-line k o) y ls
 
   pub events-read : (ls : List InputLine) → EventsRead ls
-  unfolding read-lines read-line read-phase read-end read-phase-end answers read-turn read-listed run-event moved decided printed-for events-verdict
+  unfolding read-lines read-line read-phase read-end read-phase-end read-turn read-listed run-event moved decided printed-for events-verdict
       output-verdict turn-verdict
   events-read [] = record { at-events = λ n y. refl; at-outputs = λ n k o y. refl }
   events-read (l ∷ ls) = go (events-read ls)
@@ -156,7 +142,7 @@ module _ (o : Opened) (h : Header) (n : ℕ) where
       go false = stays-decided (Refusal (o .refusal)) h (o .machine) n ls
 
   -- no line behind the header
-  opened-ends : opened-end 12 o .answer ≡ opened-verdict o n []
+  opened-ends : opened-end o ≡ opened-verdict o n []
   unfolding opened-end opened-verdict events-verdict
   opened-ends = refl
 
@@ -177,10 +163,10 @@ no-more n h ls =
 
 header-lines-read : (ls : List InputLine) (due : HeaderLine) (h : Header) (y : Machine) (n : ℕ)
     → read-lines (reader (Due due) h y n) ls ≡ header-verdict n (take-from ls due h)
-unfolding read-lines read-line read-phase read-end read-phase-end answers read-header-line decided take-from after-step header-verdict with-line
+unfolding read-lines read-line read-phase read-end read-phase-end read-header-line decided take-from after-step header-verdict with-line
 header-lines-read [] due h y n = go (optional due)
   where
-    go : (b : Bool) → (if b then opened-end 12 (session-opening h) else answers (Refusal 12) (reader (Due due) h y n)) .answer
+    go : (b : Bool) → (if b then opened-end (session-opening h) else Refusal 12)
         ≡ header-verdict n (if b then taken [] h [] else not-taken 12)
     go true = opened-ends (session-opening h) h n ∙ no-more n h []
     go false = refl

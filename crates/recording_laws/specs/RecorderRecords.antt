@@ -7,7 +7,7 @@ use mathlib.Core.Bool.{Bool, true, false}
 use Prim.Native.Nat.{ℕ, suc, _+_, _*_, _≤_}
 use native.Mathlib.Omega.{arith}
 use lib.Dec.{eqb}
-use lib.ListN.{length, replicate, length-append}
+use lib.ListN.{length, take, replicate, length-append}
 use lib.Seq.{take-all}
 use Rattle.spec.specs.Lists.{if_then_else_, concat-map}
 use Rattle.spec.specs.Machine.{Machine}
@@ -32,7 +32,7 @@ use Rattle.recording_laws.specs.RecordedEvents.{none-recorded, event-rec
 use Rattle.recording.specs.Recording.{header-role, RecordedLine, close, input-again, bytes-of, listing, recorded-events, Recorded, recorded, not-recorded}
 use Rattle.recording.specs.Recording.{opened-recording, header-recording, recorded-lines, lines-of, recording}
 use Rattle.recording.specs.Verdict.{printed-for}
-use Rattle.recording.specs.Reader.{no-machine, keep}
+use Rattle.recording.specs.Reader.{no-machine}
 use Rattle.recording.specs.Recorder.{Recorder, recorder, new-recorder, longest-header, RecorderEffect, recorder-effect, record-last, write-listing}
 use Rattle.recording.specs.Recorder.{write-pair, record-event, after-kept, record-opened, record-header-line, record-phase, record-line, record-phase-end}
 use Rattle.recording.specs.Recorder.{record-end, record-lines, recorded-or, recorder-output}
@@ -145,8 +145,7 @@ one-more kept l (not-taken r) refusal = refl
 -- one more header line has room
 kept-whole : (kept : List ℕ) (l : InputLine) (due due' : HeaderLine) → length kept ≤ 41 * lines-before due → TakenLine l
     → lines-before due' ≡ suc (lines-before due)
-    → (keep longest-header kept (close (l .bytes)) ≡ kept ++ close (l .bytes)) × (length (kept ++ close (l .bytes)) ≤ 41 * lines-before due')
-unfolding keep
+    → (take longest-header (kept ++ close (l .bytes)) ≡ kept ++ close (l .bytes)) × (length (kept ++ close (l .bytes)) ≤ 41 * lines-before due')
 kept-whole kept l due due' few t e =
     let c : length (close (l .bytes)) ≤ 41 = simp length-append (omega (arith, t .short)) in
     let k : length (kept ++ close (l .bytes)) ≤ 41 * lines-before due' = simp length-append (omega arith) in

@@ -6,7 +6,7 @@
 --   first-other-line       the same, whatever comes after that line
 --
 -- OnlyRecordings has the converse of `recorded-same`: nothing else gives "same". Conditions has when a reader gives 10, 12, the opening's refusal
--- and a line's number, for any bytes. ByteReader has that a reader, one byte at a time, gives all this; RecorderRecords has
+-- and a line's number, for any bytes. ReaderVerdict has that a reader, one line at a time, gives all this; RecorderRecords has
 -- that a recorder, one line at a time, writes the recording.
 -- They hold since a recording's header is taken again as it was (HeaderAgain) and the rest is read to its end (RecordingRead). Assumes nothing.
 use mathlib.Core.Path.{_≡_, refl, sym, ap, _∙_}

@@ -13,8 +13,6 @@ use Rattle.session.specs.Cases.{texts}
 use Rattle.recording.specs.declared.Verdict.the-variants.{Same, Differs, Refusal}
 use Rattle.recording.specs.Recording.{not-recorded, recorded-lines, recording}
 use Rattle.recording.specs.Verdict.{verdict}
-use Rattle.recording.specs.Reader.{read-input}
-use Rattle.recording.specs.Recorder.{record-input}
 use Rattle.recording.specs.Everything.{recording-definitions}
 use Rattle.recording.specs.Rows.{yard, yard-2, RecordingCase, gives, VerdictCase, judged}
 
@@ -316,13 +314,3 @@ unrecorded-hold = refl
 pub verdicts-hold : map (λ c. verdict (c .input)) verdicts ≡ map (λ c. c .answer) verdicts
 unfolding everything session-definitions recording-definitions codes ascii texts yard yard-2 judged verdicts
 verdicts-hold = refl
-
--- the recorder, one line at a time, and the reader, one byte at a time
-
-pub recorder-holds : map (λ c. record-input (c .input)) recordings ≡ map (λ c. c .writes) recordings
-unfolding everything session-definitions recording-definitions codes ascii texts yard yard-2 gives recordings
-recorder-holds = refl
-
-pub reader-holds : map (λ c. read-input (c .input)) verdicts ≡ map (λ c. c .answer) verdicts
-unfolding everything session-definitions recording-definitions codes ascii texts yard yard-2 judged verdicts
-reader-holds = refl

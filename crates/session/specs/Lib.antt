@@ -8,6 +8,7 @@ pub mod BufferLaws
 pub mod OutputLengths
 pub mod Transcript
 pub mod LineLaws
+pub mod KeptLists
 pub mod Everything
 pub mod Cases
 pub mod ReadBack

@@ -36,7 +36,7 @@ digits-length (suc p) n = go (digits-length p (n / 10)) (ltb n 10)
     go ih true = omega arith
     go ih false = simp length-append (omega arith)
 
-decimal-length : (n : ℕ) → length (decimal n) ≤ 20
+pub decimal-length : (n : ℕ) → length (decimal n) ≤ 20
 unfolding decimal
 decimal-length n = digits-length 20 n
 
@@ -48,7 +48,7 @@ pub refusal-length : (r : ℕ) → length (refusal-line r) ≤ 28
 unfolding refusal-line
 refusal-length r = key-length _ r
 
-word-length : (a : Answer) → length (answer-word a) ≤ 5
+pub word-length : (a : Answer) → length (answer-word a) ≤ 5
 unfolding answer-word
 word-length Yes = omega arith
 word-length No = omega arith

@@ -4,7 +4,7 @@ use mathlib.Core.Path.{_≡_, sym, ap, _∙_}
 use mathlib.Core.List.{List, [], _∷_, _++_, append-nil}
 use Prim.Native.Nat.{ℕ, suc, _+_, _-_, _≤_}
 use native.Mathlib.Omega.{arith}
-use lib.ListN.{length, take, drop, length-append, length-drop, drop-of-length-le}
+use lib.ListN.{length, take, drop, length-drop, drop-of-length-le}
 use lib.Seq.{take-all, length-take-le}
 use Rattle.session.specs.Buffer.{buffer, append}
 use Rattle.session.specs.BufferLaws.{append-both, behind, append-rest, append-written, written-whole}
@@ -20,12 +20,6 @@ part-back : (d q : List ℕ) (a : ℕ) → take a d ++ (q ++ drop (length d - a)
 part-back d q a =
     let z : drop (length d - a) (drop a d) ≡ [] = drop-of-length-le (drop a d) {i = length d - a} (rw (length-drop a d) (omega arith)) in
     rw (z, append-nil)
-
-pub back-length : (d q : List ℕ) (a : ℕ) → a ≤ length d → length q ≡ length (take (length d - a) (drop a d))
-    → length (take a d ++ (q ++ drop (length d - a) (drop a d))) ≡ length d
-back-length d q a h e =
-    let l : length (take a d) ≡ a = length-take-le a d h in
-    ap length (part-back d q a) ∙ length-append (take a d) q ∙ omega (arith, rest-length d a)
 
 -- bytes appended after others, in the part of the buffer that starts there
 pub appends-on : (xs ys first d q : List ℕ) (a n : ℕ) → a ≤ length d → buffer d a ≡ append xs (buffer first 0)

@@ -1,8 +1,23 @@
-// The parts of the lent pools that a session uses, and a node's size.
+// The pools that a session uses: words for them, the parts of lent ones, and a node's size.
 ghost use mathlib.Core.Path.{_≡_};
 ghost use Prim.Native.Nat.{_≤_};
+ghost use lib.ListN.{length};
 ghost use Rattle.spec.specs.Words.{size};
 ghost use Rattle.session_pools.specs.PoolParts.{extent};
+
+// 64 nodes of 34 words. The `ensures` gives the length, which lending the array needs.
+pub fn node_words() -> [u32; 2176]
+    ensures { λ r. ⌜ 2176 ≡ length r ⌝ }
+{
+    [0; 2176]
+}
+
+// 200 buckets of 66 words.
+pub fn bucket_words() -> [u32; 13200]
+    ensures { λ r. ⌜ 13200 ≡ length r ⌝ }
+{
+    [0; 13200]
+}
 
 // How many words of a lent pool serve n nodes.
 pub fn node_extent(n: u32, words: usize) -> usize

@@ -5,12 +5,6 @@ use borrow.Author.Needs.{needs}
 use Rattle.partial_line.proofs.push.Statement.{statement}
 use Rattle.partial_line.proofs.push.Tie as tie
 
-array-write-b : tie.Need-array-write-b
-array-write-b c = search needs
-
-add-t9 : tie.Need-add-t9
-add-t9 c = search needs
-
 returns : tie.Need-returns
 returns c = push-in (c .before .before .args .h) (c .before .before .args .x) (c .if1 .taken)
 
@@ -18,4 +12,4 @@ returns-2 : tie.Need-returns-2
 returns-2 c = push-full (c .before .before .args .h) (c .before .before .args .x) (c .if1 .left)
 
 pub push-spec : {M : Type 1} → statement M
-push-spec = tie.close (tie.spec array-write-b add-t9 returns returns-2)
+push-spec = tie.close (tie.spec (λ c. search needs) (λ c. search needs) returns returns-2)
