@@ -3,32 +3,29 @@ use Prim.Native.Nat.{ℕ}
 use mathlib.Core.Path.{_≡_, refl, sym, ap, subst, _∙_}
 use mathlib.Core.List.{List, [], _∷_, _++_}
 use mathlib.Core.Bool.{Bool, true, false}
-use borrow.Author.Tests.{eq-eqb, ne-eqb}
-use lib.ListN.{length, take, drop, take-append-drop}
-use Rattle.spec.specs.declared.State.{State}
+use borrow.Author.Tests.{eq-eqb, ne-eqb, eqb-true}
+use lib.Dec.{eqb}
+use lib.ListN.{take, drop, take-append-drop}
 use Rattle.spec.specs.Lists.{if_then_else_}
 use Rattle.spec.specs.Machine.{Machine, machine-of}
-use Rattle.spec.specs.Entries as entries
-use Rattle.spec.specs.Entries.{opening}
 use Rattle.session.specs.declared.Decimal.{Decimal}
 use Rattle.session.specs.declared.Decimal.the-variants.{Value, NotDecimal}
 use Rattle.session.specs.declared.Header.{Header}
-use Rattle.session.specs.declared.HeaderLine.{HeaderLine}
 use Rattle.session.specs.declared.HeaderStep.{HeaderStep}
-use Rattle.session.specs.declared.HeaderStep.the-variants.{Next}
+use Rattle.session.specs.declared.HeaderStep.the-variants.{Next, Complete, Absent, Missing}
 use Rattle.session.specs.Buffer.{Buffer, buffer, append-byte, append}
 use Rattle.session.specs.BufferLaws.{append-both}
 use Rattle.session.specs.Grammar.{InputLine, parse-header-line}
 use Rattle.session.specs.Print.{refusal-line}
-use Rattle.session_pools.specs.PoolParts.{node-extent, bucket-extent, node-part, bucket-part}
+use Rattle.session_pools.specs.PoolParts.{node-extent, bucket-extent}
 use Rattle.session_state.specs.declared.Phase.{Phase}
 use Rattle.session_state.specs.declared.Phase.the-variants.{Due, Events}
 use Rattle.session_state.specs.declared.Session.{Session}
 use Rattle.session_state.specs.declared.Handled.{Handled}
 use Rattle.session_state.specs.Handling.{session, reads-events, LineEffect, LineHandled, session-machine, with-machine}
-use Rattle.session_state.proofs.Laws.{nothing-appended, puts-back}
-use Rattle.session_lines.specs.Openings.{part-length}
-use Rattle.opening.specs.Opening.{refusal-of, opening-refusal}
+use Rattle.session_machine.specs.declared.Stage.{Stage}
+use Rattle.session_machine.specs.declared.Stage.the-variants.{NextDue, OpenedBy, OpenedBefore, OpeningRefused, Incomplete}
+use Rattle.session_machine.specs.Stages.{part-opening, Reached, opened-stage, header-stage, stage-opened, at-stage}
 use Rattle.game.specs.declared.Verdict.{Verdict}
 use Rattle.game.specs.Game.{verdict}
 use Rattle.game.specs.Text.{game-key, verdict-line, parse-game-line}
@@ -46,32 +43,6 @@ at-place p t ns bs s = rw (s .next, s .nodes, s .buckets)
 -- with the pools as they were
 pub stays-at : (t u : Standing) (ns bs : List ℕ) → u ≡ t → StandsAt (place t ns bs) u ns bs
 stays-at t u ns bs e = record { next = e; nodes = refl; buckets = refl }
-
--- ---- the opening
-
-module _ (h : Header) (ns bs : List ℕ) (a b : ℕ) (ea : a ≡ node-extent h ns) (eb : b ≡ bucket-extent h bs) where
-  module _ (m : State) (n' b' : List ℕ) (refusal : ℕ)
-      (hr : refusal ≡ opening (h .config) (take a ns) (take b bs) .refusal)
-      (hm : machine-of m n' b' ≡ opening (h .config) (take a ns) (take b bs) .machine) where
-    same-opening : opening (h .config) (take a ns) (take b bs) ≡ opening (h .config) (node-part h ns) (bucket-part h bs)
-    same-opening =
-        ap (λ (n : ℕ). opening (h .config) (take n ns) (take b bs)) ea
-        ∙ ap (λ (n : ℕ). opening (h .config) (node-part h ns) (take n bs)) eb
-
-    pub opened-at : (t : Standing) → t ≡ standing (session Events h m) refusal NotYet → StandsAt (opened h ns bs) t (n' ++ drop a ns) (b' ++ drop b bs)
-    unfolding opened
-    opened-at t e =
-        let o = opening (h .config) (node-part h ns) (bucket-part h bs) in
-        let machine-is = hm ∙ ap (λ (x : entries.Opened). x .machine) same-opening in
-        let refusal-is = hr ∙ ap (λ (x : entries.Opened). x .refusal) same-opening in
-        let d = puts-back h ns bs a b ea eb Events [] (o .machine) m n' b' 0 [] [] machine-is (nothing-appended (buffer [] 0)) in
-        record {
-          next =
-              e ∙ ap (λ (s : Session). standing s refusal NotYet) (d .next)
-              ∙ ap (λ (r : ℕ). standing (with-machine Events [] (o .machine) h ns bs .session) r NotYet) refusal-is;
-          nodes = d .nodes;
-          buckets = d .buckets;
-        }
 
 -- ---- a line after the header
 
@@ -115,30 +86,57 @@ module _ (t : Standing) (ns bs : List ℕ) (l : InputLine) where
   unfolding take-asked
   after-game-at n e u w = turn-at (Turns n) e u ns bs (record { next = w; nodes = refl; buckets = refl })
 
--- ---- a line where a header line is due
+-- ---- a line where a header line is due, by the stage that it reaches
 
--- what the line says
-pub says : (a x : HeaderStep) → a ≡ x → (p : Place) (l : InputLine) (u : Standing) (ns bs : List ℕ) → StandsAt (header-taken x p l) u ns bs
-    → StandsAt (header-taken a p l) u ns bs
-says a x e p l u ns bs s = subst (λ (y : HeaderStep). StandsAt (header-taken y p l) u ns bs) (sym e) s
+abbrev opened-at : Reached → ℕ → Place
+opened-at e r = place (standing (session Events (e .header) (e .state)) r NotYet) (e .nodes) (e .buckets)
 
-pub next-at : (t : Standing) (ns bs : List ℕ) (l : InputLine) (due : HeaderLine) (h : Header) (u : Standing)
-    → u ≡ standing (session (Due due) h (t .session .state)) 0 NotYet → StandsAt (header-taken (Next due h) (place t ns bs) l) u ns bs
-unfolding header-taken
-next-at t ns bs l due h u w = record { next = w; nodes = refl; buckets = refl }
+module _ (t : Standing) (l : InputLine) where
+  unfoldable pub staged : Stage → Reached → Place
+  staged (NextDue due) e = place (standing (session (Due due) (e .header) (e .state)) 0 NotYet) (e .nodes) (e .buckets)
+  staged OpenedBy e = opened-at e 0
+  staged OpenedBefore e = take-turn (opened-at e 0) l
+  staged (OpeningRefused n) e = opened-at e n
+  staged Incomplete e = place (refused-with 10 t) (e .nodes) (e .buckets)
 
--- a line in the place of one that may be left out: the opening is refused, or the line is one after the header
-module _ (p : Place) (l : InputLine) (o : Standing) (ns bs : List ℕ) (s : StandsAt p o ns bs) where
-  pub not-opened-at : (o .refused ≡ 0 → ⊥) → StandsAt (if-opened p l) o ns bs
-  unfolding if-opened
-  not-opened-at r = rw (ne-eqb (p .standing .refused) 0 (λ z. r (ap (λ (t : Standing). t .refused) (s .next) ∙ z))) s
+  module _ (ns bs : List ℕ) where
+    module _ (g : Stage) (h : Header) where
+      abbrev left : Reached
+      left = opened-stage g h (part-opening h ns bs)
 
-  pub opened-then-at : o .refused ≡ 0 → (u : Standing) (ns' bs' : List ℕ) → StandsAt (take-turn (place o ns bs) l) u ns' bs'
-      → StandsAt (if-opened p l) u ns' bs'
-  unfolding if-opened
-  opened-then-at z u ns' bs' w =
-      rw (eq-eqb (p .standing .refused) 0 (sym (ap (λ (t : Standing). t .refused) (s .next)) ∙ z))
-      (subst (λ (q : Place). StandsAt (take-turn q l) u ns' bs') (at-place p o ns bs s) w)
+      abbrev why : ℕ
+      why = part-opening h ns bs .refusal
+
+      opens : opened h ns bs ≡ (if eqb why 0 then opened-at left 0 else opened-at left why)
+      unfolding opened with-machine opened-stage part-opening
+      opens = go (eqb why 0) refl
+        where
+          go : (a : Bool) → eqb why 0 ≡ a → opened-at left why ≡ (if a then opened-at left 0 else opened-at left why)
+          go true q = ap (opened-at left) (eqb-true why 0 q)
+          go false q = refl
+
+      turns : (a : Bool) → eqb why 0 ≡ a
+          → if-opened (if a then opened-at left 0 else opened-at left why) l ≡ (if a then take-turn (opened-at left 0) l else opened-at left why)
+      unfolding if-opened
+      turns true q = refl
+      turns false q = rw q refl
+
+    abbrev stage-of : HeaderStep → Reached
+    stage-of a = header-stage a (t .session .header) (t .session .state) ns bs
+
+    by-stage : (a : HeaderStep) → header-taken a (place t ns bs) l ≡ staged (stage-of a .stage) (stage-of a)
+    unfolding header-taken staged header-stage
+    by-stage (Next due h) = refl
+    by-stage (Complete h) = opens OpenedBy h ∙ sym (stage-opened staged OpenedBy h (part-opening h ns bs))
+    by-stage (Absent h) =
+        ap (λ (p : Place). if-opened p l) (opens OpenedBefore h) ∙ turns OpenedBefore h (eqb (why OpenedBefore h) 0) refl
+        ∙ sym (stage-opened staged OpenedBefore h (part-opening h ns bs))
+    by-stage Missing = refl
+
+    pub header-at : (a : HeaderStep) {e : Reached} {g : Stage} {u : Standing} {n' b' : List ℕ} → e ≡ stage-of a → e .stage ≡ g
+        → StandsAt (staged g e) u n' b' → StandsAt (header-taken a (place t ns bs) l) u n' b'
+    header-at a {u = u} {n' = n'} {b' = b'} e q s =
+        subst (λ (p : Place). StandsAt p u n' b') (sym (by-stage a)) (at-stage (λ p. StandsAt p u n' b') staged e q s)
 
 -- ---- any line
 
@@ -196,25 +194,15 @@ module _ (t : Standing) (ns bs : List ℕ) where
   unfolding end-refusal
   refused-in z q e why w = rw (eq-eqb (t .refused) 0 z) (w ∙ ap (λ (x : Phase). phase-refusal x (place t ns bs)) (sym e))
 
--- the opening asks of the pools only how long they are
-module _ (h : Header) (ns bs : List ℕ) (a b : ℕ) (ea : a ≡ node-extent h ns) (eb : b ≡ bucket-extent h bs) (why : ℕ) (w : why ≡ refusal-of (h .config) a b)
-  where
-    abbrev refusal-here : ℕ
-    refusal-here = opening (h .config) (node-part h ns) (bucket-part h bs) .refusal
+-- the opening is judged: it is refused, or accepted
+module _ (why o : ℕ) (e : why ≡ o) where
+  pub judged-refused : (why ≡ 0 → ⊥) → why ≡ judged o
+  unfolding judged
+  judged-refused r = rw (sym e, ne-eqb why 0 r)
 
-    judged-so : why ≡ refusal-here
-    judged-so =
-        w ∙ ap (λ (n : ℕ). refusal-of (h .config) n b) (ea ∙ sym (part-length 34 64 (h .nodes) ns))
-        ∙ ap (refusal-of (h .config) (length (node-part h ns))) (eb ∙ sym (part-length 66 200 (h .buckets) bs))
-        ∙ sym (opening-refusal (h .config) (node-part h ns) (bucket-part h bs))
-
-    pub judged-refused : (why ≡ 0 → ⊥) → why ≡ judged refusal-here
-    unfolding judged
-    judged-refused r = rw (sym judged-so, ne-eqb why 0 r)
-
-    pub judged-accepted : why ≡ 0 → 10 ≡ judged refusal-here
-    unfolding judged
-    judged-accepted z = rw (sym judged-so, eq-eqb why 0 z)
+  pub judged-accepted : why ≡ 0 → 10 ≡ judged o
+  unfolding judged
+  judged-accepted z = rw (sym e, eq-eqb why 0 z)
 
 -- the game over the session's part of the pools, which is put back as it was
 module _ (s : Session) (n : ℕ) (ns bs : List ℕ) (a b : ℕ) (ea : a ≡ node-extent (s .header) ns) (eb : b ≡ bucket-extent (s .header) bs) where

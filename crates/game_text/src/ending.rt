@@ -3,17 +3,14 @@ use crate::Asked;
 use crate::Standing;
 use game::LanesMove;
 use game::Verdict;
-use session::Header;
 use session_state::Phase;
 use session_state::Session;
 ghost use mathlib.Core.Path.{_≡_};
-ghost use Rattle.spec.specs.Entries.{opening};
 ghost use Rattle.session.specs.Buffer.{buffer, append};
-ghost use Rattle.session_pools.specs.PoolParts.{node-part, bucket-part};
 ghost use Rattle.session_state.specs.Handling.{session-machine};
 ghost use Rattle.game.specs.Game.{verdict};
 ghost use Rattle.game.specs.Text.{move-word, verdict-line};
-ghost use Rattle.game_text.specs.Reading.{place, asked-at-end, judged, end-refusal, ends-as, EndsAt};
+ghost use Rattle.game_text.specs.Reading.{place, asked-at-end, end-refusal, ends-as, EndsAt};
 
 // A winning first move.
 fn move_word(out: &mut [u8], at: usize, m: LanesMove) -> usize
@@ -67,20 +64,6 @@ fn asked_at_end(t: Standing, closed: bool) -> Asked
     asked
 }
 
-// The refusal of the opening over the session's part of the pools, or else 10. Writes nothing.
-fn judge_opening(h: Header, ns: &[u32], bs: &[u32]) -> u32
-    ensures { λ r. ⌜ r ≡ judged (opening (h .config) (node-part h (now (ns .entry))) (bucket-part h (now (bs .entry))) .refusal) ⌝ }
-{
-    let a = session_pools::node_extent(h.nodes, ns.len());
-    let b = session_pools::bucket_extent(h.buckets, bs.len());
-    let config = h.config;
-    let why = opening::refusal(config, a, b);
-    if why != 0 {
-        return why;
-    }
-    10
-}
-
 // The number with which an input without a game, or with a last line that is not closed, is refused. Where the opening is still due it is only
 // judged: a refusal keeps every word.
 fn end_refusal(t: Standing, ns: &[u32], bs: &[u32]) -> u32
@@ -95,7 +78,11 @@ fn end_refusal(t: Standing, ns: &[u32], bs: &[u32]) -> u32
         Phase::Due(due) => {
             if session_parse::optional(due) {
                 let header = s.header;
-                return judge_opening(header, ns, bs);
+                let why = session_machine::judge_opening(header, ns, bs);
+                if why != 0 {
+                    return why;
+                }
+                return 10;
             }
             10
         }

@@ -5,15 +5,14 @@ pub mod ending;
 pub mod program;
 
 use session::Decimal;
-use session::Header;
 use session::HeaderLine;
-use session::HeaderStep;
+use session_machine::Stage;
 use session_state::Phase;
 use session_state::Session;
 ghost use mathlib.Core.Path.{_≡_};
 ghost use Rattle.session.specs.Grammar.{closed-line};
 ghost use Rattle.session.specs.Header.{header-step};
-ghost use Rattle.game_text.specs.Reading.{standing, new-standing, place, refused-with, opened, take-event, take-turn, header-taken, on-line, StandsAt};
+ghost use Rattle.game_text.specs.Reading.{standing, new-standing, place, refused-with, take-event, take-turn, header-taken, on-line, StandsAt};
 
 // The game that is asked for: none yet, or of so many turns.
 pub enum Asked {
@@ -55,23 +54,6 @@ fn outside(t: Standing) -> Standing
     stands(session, 10, asked)
 }
 
-// Opens the machine with the header's numbers.
-fn open_machine(h: Header, ns: &mut [u32], bs: &mut [u32]) -> Standing
-    ensures { λ r. ⌜ StandsAt (opened h (now (ns .entry)) (now (bs .entry))) r (now (ns .exit)) (now (bs .exit)) ⌝ }
-{
-    let a = session_pools::node_extent(h.nodes, ns.len());
-    let b = session_pools::bucket_extent(h.buckets, bs.len());
-    let config = h.config;
-    let o = opening::open(config, &mut ns[..a], &mut bs[..b]);
-    let m = o.state;
-    let session = Session {
-        phase: Phase::Events,
-        header: h,
-        state: m,
-    };
-    stands(session, o.refusal, Asked::NotYet)
-}
-
 // A line that is no game's: the session handles it, and what it would print is dropped.
 fn event_line(t: Standing, ns: &mut [u32], bs: &mut [u32], line: &[u8]) -> Standing
     ensures { λ r. ⌜ StandsAt (take-event (place t (now (ns .entry)) (now (bs .entry))) (closed-line (now (line .entry)))) r (now (ns .exit))
@@ -106,8 +88,7 @@ fn turn_line(t: Standing, ns: &mut [u32], bs: &mut [u32], line: &[u8]) -> Standi
     }
 }
 
-// A line where a header line is due. The line that completes the header brings the opening about, and so does one that stands in the
-// place of a header line that may be left out.
+// A line where a header line is due.
 fn header_line(
     t: Standing,
     due: HeaderLine,
@@ -121,9 +102,18 @@ fn header_line(
 {
     let s = t.session;
     let header = s.header;
-    match session_parse::header_line(due, header, line) {
-        HeaderStep::Next(next, h) => {
-            let m = s.state;
+    let before = s.state;
+    let d = session_machine::header_line(due, header, before, ns, bs, line);
+    let h = d.header;
+    let m = d.state;
+    let opened = Session {
+        phase: Phase::Events,
+        header: h,
+        state: m,
+    };
+    let stage = d.stage;
+    match stage {
+        Stage::NextDue(next) => {
             let session = Session {
                 phase: Phase::Due(next),
                 header: h,
@@ -131,15 +121,17 @@ fn header_line(
             };
             stands(session, 0, Asked::NotYet)
         }
-        HeaderStep::Complete(h) => open_machine(h, ns, bs),
-        HeaderStep::Absent(h) => {
-            let o = open_machine(h, ns, bs);
-            if o.refused != 0 {
-                return o;
-            }
+        Stage::OpenedBy => stands(opened, 0, Asked::NotYet),
+        Stage::OpenedBefore => {
+            let o = Standing {
+                session: opened,
+                refused: 0,
+                asked: Asked::NotYet,
+            };
             turn_line(o, ns, bs, line)
         }
-        HeaderStep::Missing => outside(t),
+        Stage::OpeningRefused(n) => stands(opened, n, Asked::NotYet),
+        Stage::Incomplete => outside(t),
     }
 }
 

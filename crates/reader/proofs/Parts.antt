@@ -1,34 +1,29 @@
 -- What the functions leave in the lent pools, over plain lists and numbers: a reader of the definitions put back where no word is changed, after
--- a line that is compared, after an event, and after the opening. Assumes nothing.
+-- a line that is compared, and after an event. Assumes nothing.
 use mathlib.Core.Path.{_≡_, refl, sym, ap, subst, _∙_}
-use mathlib.Core.List.{List, _++_}
+use mathlib.Core.List.{List}
 use mathlib.Core.Bool.{Bool, true, false}
 use Prim.Native.Nat.{ℕ, suc, _≤_, min}
 use native.Mathlib.Omega.{arith}
-use borrow.Author.Tests.{eq-eqb, ne-eqb}
 use lib.ListN.{take, drop, take-append-drop}
 use Rattle.spec.specs.declared.Output.{Output}
 use Rattle.spec.specs.declared.State.{State}
 use Rattle.spec.specs.Lists.{if_then_else_}
-use Rattle.spec.specs.Machine.{Machine, machine-of}
-use Rattle.spec.specs.Entries.{Opened, opening}
 use Rattle.spec.specs.Schedule.{Event, event}
 use Rattle.lines.specs.declared.Stepped.{Stepped}
-use Rattle.session.specs.declared.Header.{Header}
 use Rattle.session.specs.Grammar.{closed-line, equals}
 use Rattle.session.specs.Transcript.{task-in}
-use Rattle.session_pools.specs.PoolParts.{node-extent, bucket-extent, node-part, bucket-part}
+use Rattle.session_pools.specs.PoolParts.{node-extent, bucket-extent}
 use Rattle.session_machine.specs.Parts.{part-machine, Replied}
 use Rattle.recording.specs.declared.ReaderPhase.{ReaderPhase}
-use Rattle.recording.specs.declared.ReaderPhase.the-variants.{Event as EventDue, Printed, Decided}
+use Rattle.recording.specs.declared.ReaderPhase.the-variants.{Printed, Decided}
 use Rattle.recording.specs.declared.Verdict.{Verdict}
-use Rattle.recording.specs.declared.Verdict.the-variants.{Differs, Refusal}
+use Rattle.recording.specs.declared.Verdict.the-variants.{Differs}
 use Rattle.recording.specs.Recording.{close}
 use Rattle.recording.specs.Verdict.{as-printed, fails, compare-line}
-use Rattle.recording.specs.Reader.{reader, moved, decided as decided-by, after-comparing as compared-by, run-event, read-opened}
-use Rattle.recording.specs.Reader as defined
+use Rattle.recording.specs.Reader.{reader, moved, decided as decided-by, after-comparing as compared-by, run-event}
 use Rattle.reader_state.specs.declared.Reader.{Reader}
-use Rattle.reader_state.specs.Standing.{most-lines, next-number, reader-of, with-part, LineRead, line-read, put-back, decided, after-comparing, opened, ReadAs}
+use Rattle.reader_state.specs.Standing.{most-lines, next-number, reader-of, with-part, LineRead, line-read, put-back, decided, after-comparing, ReadAs}
 
 -- ---- no word is changed
 
@@ -72,54 +67,7 @@ module _ (r : Reader) (ns bs : List ℕ) where
         go true = moved-back phase
         go false = decided-back (Differs (r .number))
 
--- ---- an entry over the reader's part of the pools
-
-module _ (h : Header) (ns bs : List ℕ) (a b : ℕ) (ea : a ≡ node-extent h ns) (eb : b ≡ bucket-extent h bs) where
-  -- the entry's machine put back
-  puts-back : (phase : ReaderPhase) (y : Machine) (m : State) (n' b' : List ℕ) (n number : ℕ) → machine-of m n' b' ≡ y → number ≡ min n most-lines
-      → ReadAs (put-back (reader phase h y n) ns bs) (reader-of phase h m number) (n' ++ drop a ns) (b' ++ drop b bs)
-  unfolding put-back
-  puts-back phase y m n' b' n number e f =
-      record {
-        next = ap (reader-of phase h m) f ∙ ap (λ (x : Machine). reader-of phase h (x .state) (min n most-lines)) e;
-        nodes = ap (λ (x : Machine). x .nodes ++ drop a ns) e ∙ ap (λ (k : ℕ). y .nodes ++ drop k ns) ea;
-        buckets = ap (λ (x : Machine). x .buckets ++ drop b bs) e ∙ ap (λ (k : ℕ). y .buckets ++ drop k bs) eb;
-      }
-
-  pub same-part : (m : State) → machine-of m (take a ns) (take b bs) ≡ machine-of m (node-part h ns) (bucket-part h bs)
-  same-part m =
-      ap (λ (n : ℕ). machine-of m (take n ns) (take b bs)) ea ∙ ap (λ (n : ℕ). machine-of m (node-part h ns) (take n bs)) eb
-
-  -- the opening: its refusal, and what it leaves
-  module _ (m : State) (n' b' : List ℕ) (refusal n next : ℕ)
-      (hr : refusal ≡ opening (h .config) (take a ns) (take b bs) .refusal)
-      (hm : machine-of m n' b' ≡ opening (h .config) (take a ns) (take b bs) .machine) where
-    abbrev lent : Opened
-    lent = opening (h .config) (node-part h ns) (bucket-part h bs)
-
-    same-opening : opening (h .config) (take a ns) (take b bs) ≡ lent
-    same-opening =
-        ap (λ (k : ℕ). opening (h .config) (take k ns) (take b bs)) ea ∙ ap (λ (k : ℕ). opening (h .config) (node-part h ns) (take k bs)) eb
-
-    refusal-is : refusal ≡ lent .refusal
-    refusal-is = hr ∙ ap (λ (o : Opened). o .refusal) same-opening
-
-    machine-is : machine-of m n' b' ≡ lent .machine
-    machine-is = hm ∙ ap (λ (o : Opened). o .machine) same-opening
-
-    pub opens : next ≤ most-lines → refusal ≡ 0 → ReadAs (opened h n next ns bs) (reader-of EventDue h m next) (n' ++ drop a ns) (b' ++ drop b bs)
-    unfolding opened read-opened
-    opens fits z =
-        rw (eq-eqb (lent .refusal) 0 (sym refusal-is ∙ z)) (puts-back EventDue (lent .machine) m n' b' next next machine-is (omega arith))
-
-    pub refuses : n ≤ most-lines → (refusal ≡ 0 → ⊥)
-        → ReadAs (opened h n next ns bs) (reader-of (Decided (Refusal refusal)) h m n) (n' ++ drop a ns) (b' ++ drop b bs)
-    unfolding opened read-opened decided-by
-    refuses fits z =
-        rw (ne-eqb (lent .refusal) 0 (λ e. z (refusal-is ∙ e)), sym refusal-is)
-        (puts-back (Decided (Refusal refusal)) (lent .machine) m n' b' n n machine-is (omega arith))
-
--- an event, and what it answers
+-- ---- an event, and what it answers
 pub runs : (r : Reader) (ns bs : List ℕ) (e : Event) (d : Stepped) (n' b' : List ℕ) (number : ℕ)
     → Replied (event (part-machine (r .state) (r .header) ns bs) e) d (r .header) ns bs n' b' → number ≡ next-number (r .number)
     → ReadAs (put-back (run-event e (with-part r ns bs)) ns bs) (reader-of (Printed (task-in e) (d .out)) (r .header) (d .state) number) n' b'

@@ -32,7 +32,8 @@ use Rattle.reader_state.specs.declared.Reader.{Reader}
 use Rattle.reader_state.specs.ListedLines.{listed-line, first-bytes}
 use Rattle.reader_state.specs.Standing.{most-lines, next-place, with-part, put-back, after-comparing, ReadAs}
 pub use Rattle.reader.specs.ListingPlaces.{Lists, lists, PlaceIn, no-line, a-line, place-in}
-use Rattle.reader.proofs.Parts.{decided-back, compared-back, same-part}
+use Rattle.session_machine.proofs.Laws.{same-part}
+use Rattle.reader.proofs.Parts.{decided-back, compared-back}
 
 -- ---- the line's bytes
 
@@ -69,9 +70,6 @@ module _ (y : Machine) where
   unfolding first-bytes
   refused-none n zero e z = absurd (z refl)
   refused-none n (suc k) e z = rw (refused-listing y n e, past-end k)
-
-pub counts-few : (y : Machine) (w : List ℕ) (n : ℕ) (r : Listing) → r ≡ list y w .says → r ≡ Count n → n ≤ 64
-counts-few y w n r h e = lists y w n (sym h ∙ e) .few
 
 -- what is printed for a list call over the reader's part of the pools
 module _ (r : Reader) (ns bs : List ℕ) (a b : ℕ) (ea : a ≡ node-extent (r .header) ns) (eb : b ≡ bucket-extent (r .header) bs)

@@ -3,27 +3,36 @@
 use mathlib.Core.Path.{_≡_, refl, sym, ap, subst, _∙_}
 use mathlib.Core.List.{List}
 use mathlib.Core.Bool.{Bool, true, false}
-use Prim.Native.Nat.{ℕ}
+use Prim.Native.Nat.{ℕ, _≤_, min}
+use native.Mathlib.Omega.{arith}
 use borrow.Author.Tests.{eq-eqb, ne-eqb}
-use lib.ListN.{length}
+use lib.Dec.{eqb}
+use Rattle.spec.specs.Lists.{if_then_else_}
 use Rattle.spec.specs.Entries.{opening}
 use Rattle.session.specs.declared.EventLine.{EventLine}
 use Rattle.session.specs.declared.Header.{Header}
-use Rattle.session.specs.declared.HeaderLine.{HeaderLine}
-use Rattle.session.specs.declared.HeaderStep.the-variants.{Next, Complete}
+use Rattle.session.specs.declared.HeaderStep.{HeaderStep}
+use Rattle.session.specs.declared.HeaderStep.the-variants.{Next, Complete, Absent, Missing}
 use Rattle.session.specs.Keys.{size-key}
 use Rattle.session.specs.Grammar.{InputLine, closed-line, starts-with, parse-event-line}
 use Rattle.recording.specs.declared.ReaderPhase.{ReaderPhase}
-use Rattle.recording.specs.declared.ReaderPhase.the-variants.{Due}
+use Rattle.recording.specs.declared.ReaderPhase.the-variants.{Due, Event as EventDue, Decided}
 use Rattle.recording.specs.declared.Verdict.{Verdict}
 use Rattle.recording.specs.declared.Verdict.the-variants.{Refusal}
 use Rattle.recording.specs.Verdict.{lists, event-turn, turn}
 use Rattle.reader_state.specs.declared.Reader.{Reader}
-use Rattle.session_pools.specs.PoolParts.{extent, node-extent, bucket-extent, node-part, bucket-part}
-use Rattle.session_lines.specs.Openings.{part-length}
-use Rattle.opening.specs.Opening.{refusal-of, opening-refusal}
-use Rattle.reader_state.specs.Standing.{next-number, reader-of, LineRead, line-read, awaits-event, opened, turn-line, opened-line, header-line}
+use Rattle.session_pools.specs.PoolParts.{node-part, bucket-part}
+use Rattle.session_machine.specs.declared.Stage.{Stage}
+use Rattle.session_machine.specs.declared.Stage.the-variants.{NextDue, OpenedBy, OpenedBefore, OpeningRefused, Incomplete}
+use Rattle.session_machine.specs.Stages.{part-opening, Reached, opened-stage, header-stage, stage-opened, at-stage}
+use Rattle.recording.specs.Reader.{reader, decided, read-opened}
+use Rattle.reader_state.specs.Standing.{most-lines, next-number, reader-of, LineRead, line-read, put-back, decided as state-decided, awaits-event, opened}
+use Rattle.reader_state.specs.Standing.{turn-line, opened-line, header-line}
 use Rattle.reader_state.specs.Standing.{phase-line, read-line, answer-at-end, judged-end, phase-end, read-end, ReadAs}
+
+next-few : (n : ℕ) → next-number n ≤ most-lines
+unfolding next-number
+next-few n = omega arith
 
 -- ---- an event's turn
 
@@ -35,31 +44,62 @@ pub turn-event : (l : List ℕ) (x : EventLine) → starts-with size-key l ≡ f
 unfolding turn
 turn-event l x e f = rw (e, f)
 
--- ---- the header
+-- ---- a line of number n where a header line is due, by the stage that it reaches
 
-pub next-due : (r : Reader) (due : HeaderLine) (h : Header) (n : ℕ) (ns bs : List ℕ) (l : InputLine) → n ≡ next-number (r .number)
-    → ReadAs (header-line (Next due h) r ns bs l) (reader-of (Due due) h (r .state) n) ns bs
-unfolding header-line
-next-due r due h n ns bs l e = record { next = ap (reader-of (Due due) h (r .state)) e; nodes = refl; buckets = refl }
+module _ (n : ℕ) (l : InputLine) where
+  unfoldable pub staged : Stage → Reached → LineRead
+  staged (NextDue due) t = line-read (reader-of (Due due) (t .header) (t .state) (next-number n)) (t .nodes) (t .buckets)
+  staged OpenedBy t = line-read (reader-of EventDue (t .header) (t .state) (next-number n)) (t .nodes) (t .buckets)
+  staged OpenedBefore t = turn-line (reader-of EventDue (t .header) (t .state) n) (t .nodes) (t .buckets) l
+  staged (OpeningRefused why) t = line-read (reader-of (Decided (Refusal why)) (t .header) (t .state) n) (t .nodes) (t .buckets)
+  staged Incomplete t = line-read (reader-of (Decided (Refusal 10)) (t .header) (t .state) n) (t .nodes) (t .buckets)
 
-pub completes : (r : Reader) (h : Header) (n : ℕ) (ns bs : List ℕ) (l : InputLine) (s : Reader) (n' b' : List ℕ) → n ≡ next-number (r .number)
-    → ReadAs (opened h (r .number) n ns bs) s n' b' → ReadAs (header-line (Complete h) r ns bs l) s n' b'
-unfolding header-line
-completes r h n ns bs l s n' b' e o = subst (λ (k : ℕ). ReadAs (opened h (r .number) k ns bs) s n' b') e o
+module _ (r : Reader) (ns bs : List ℕ) (l : InputLine) (fits : r .number ≤ most-lines) where
+  module _ (h : Header) where
+    abbrev left : ReaderPhase → ℕ → LineRead
+    left phase k = let y = part-opening h ns bs .machine in line-read (reader-of phase h (y .state) k) (y .nodes) (y .buckets)
 
--- the line after the opening, where it is accepted, and where it is refused
-module _ (d : LineRead) (s : Reader) (n' b' : List ℕ) (o : ReadAs d s n' b') (l : InputLine) where
-  same : line-read s n' b' ≡ line-read (d .reader) (d .nodes) (d .buckets)
-  same = cc (o .next, o .nodes, o .buckets)
+    abbrev why : ℕ
+    why = part-opening h ns bs .refusal
 
-  pub opened-turn : awaits-event (s .phase) ≡ true → (t : Reader) (n'' b'' : List ℕ) → ReadAs (turn-line s n' b' l) t n'' b''
-      → ReadAs (opened-line d l) t n'' b''
-  unfolding opened-line
-  opened-turn e t n'' b'' h = subst (λ (x : LineRead). ReadAs (opened-line x l) t n'' b'') same (rw e h)
+    opens : (next : ℕ) → next ≤ most-lines
+        → opened h (r .number) next ns bs ≡ (if eqb why 0 then left EventDue next else left (Decided (Refusal why)) (r .number))
+    unfolding opened read-opened decided put-back part-opening
+    opens next few = go (eqb why 0)
+      where
+        same : (k : ℕ) → k ≤ most-lines → min k most-lines ≡ k
+        same k g = omega arith
 
-  pub opened-stays : awaits-event (s .phase) ≡ false → ReadAs (opened-line d l) s n' b'
-  unfolding opened-line
-  opened-stays e = subst (λ (x : LineRead). ReadAs (opened-line x l) s n' b') same (rw e (record { next = refl; nodes = refl; buckets = refl }))
+        go : (a : Bool) → put-back (if a then reader EventDue h (opening (h .config) (node-part h ns) (bucket-part h bs) .machine) next
+            else decided (Refusal why) (reader EventDue h (opening (h .config) (node-part h ns) (bucket-part h bs) .machine) (r .number))) ns bs
+            ≡ (if a then left EventDue next else left (Decided (Refusal why)) (r .number))
+        go true = ap (left EventDue) (same next few)
+        go false = ap (left (Decided (Refusal why))) (same (r .number) fits)
+
+    turns : (a : Bool) → opened-line (if a then left EventDue (r .number) else left (Decided (Refusal why)) (r .number)) l
+        ≡ (if a then turn-line (left EventDue (r .number) .reader) (left EventDue (r .number) .nodes) (left EventDue (r .number) .buckets) l
+        else left (Decided (Refusal why)) (r .number))
+    unfolding opened-line awaits-event
+    turns true = refl
+    turns false = refl
+
+  abbrev stage-of : HeaderStep → Reached
+  stage-of a = header-stage a (r .header) (r .state) ns bs
+
+  by-stage : (a : HeaderStep) → header-line a r ns bs l ≡ staged (r .number) l (stage-of a .stage) (stage-of a)
+  unfolding header-line staged header-stage opened-stage state-decided
+  by-stage (Next due h) = refl
+  by-stage (Complete h) =
+      opens h (next-number (r .number)) (next-few (r .number)) ∙ sym (stage-opened (staged (r .number) l) OpenedBy h (part-opening h ns bs))
+  by-stage (Absent h) =
+      ap (λ (d : LineRead). opened-line d l) (opens h (r .number) fits) ∙ turns h (eqb (why h) 0)
+      ∙ sym (stage-opened (staged (r .number) l) OpenedBefore h (part-opening h ns bs))
+  by-stage Missing = refl
+
+  pub header-read : (a : HeaderStep) {t : Reached} {g : Stage} {s : Reader} {n' b' : List ℕ} → t ≡ stage-of a → t .stage ≡ g
+      → ReadAs (staged (r .number) l g t) s n' b' → ReadAs (header-line a r ns bs l) s n' b'
+  header-read a {s = s} {n' = n'} {b' = b'} e q h =
+      subst (λ (d : LineRead). ReadAs d s n' b') (sym (by-stage a)) (at-stage (λ d. ReadAs d s n' b') (staged (r .number) l) e q h)
 
 -- ---- by what is awaited
 
@@ -78,29 +118,12 @@ module _ (r : Reader) (p : ReaderPhase) (e : r .phase ≡ p) (ns bs : List ℕ) 
 pub ends-answered : (p q : ReaderPhase) → p ≡ q → (n refusal : ℕ) → n ≡ refusal → (v : Verdict) → v ≡ answer-at-end p n → v ≡ answer-at-end q refusal
 ends-answered p q e n refusal f v g = let same : answer-at-end p n ≡ answer-at-end q refusal = cc (e, f) in g ∙ same
 
--- the opening asks of the pools only how long they are
-pub ends-judged : (h : Header) (refusal k : ℕ) (ns bs : List ℕ) → k ≡ refusal → (v : Verdict)
-    → v ≡ judged-end (refusal-of (h .config) (node-extent h ns) (bucket-extent h bs)) k
-    → v ≡ judged-end (opening (h .config) (node-part h ns) (bucket-part h bs) .refusal) refusal
-ends-judged h refusal k ns bs e v f =
-    let same =
-    opening-refusal (h .config) (node-part h ns) (bucket-part h bs)
-    ∙ ap (λ (a : ℕ). refusal-of (h .config) a (length (bucket-part h bs))) (part-length 34 64 (h .nodes) ns)
-    ∙ ap (refusal-of (h .config) (node-extent h ns)) (part-length 66 200 (h .buckets) bs) in
-    f ∙ (λ i. judged-end (sym same i) (e i))
-
-module _ (h : Header) (nodes buckets a b why refusal : ℕ) (w : why ≡ refusal-of (h .config) a b) (ea : a ≡ extent 34 64 (h .nodes) nodes)
-    (eb : b ≡ extent 66 200 (h .buckets) buckets) where
-  abbrev of-header : ℕ
-  of-header = refusal-of (h .config) (extent 34 64 (h .nodes) nodes) (extent 66 200 (h .buckets) buckets)
-
-  same-refusal : of-header ≡ why
-  same-refusal = sym (w ∙ (λ i. refusal-of (h .config) (ea i) (eb i)))
-
-  pub judged-refused : (why ≡ 0 → ⊥) → Refusal why ≡ judged-end of-header refusal
+-- the opening is judged: it is refused, or accepted
+module _ (why o refusal : ℕ) (e : why ≡ o) where
+  pub judged-refused : (why ≡ 0 → ⊥) → Refusal why ≡ judged-end o refusal
   unfolding judged-end
-  judged-refused d = rw (same-refusal, ne-eqb why 0 d) refl
+  judged-refused d = rw (sym e, ne-eqb why 0 d) refl
 
-  pub judged-accepted : why ≡ 0 → Refusal refusal ≡ judged-end of-header refusal
+  pub judged-accepted : why ≡ 0 → {k : ℕ} → k ≡ refusal → Refusal k ≡ judged-end o refusal
   unfolding judged-end
-  judged-accepted z = rw (same-refusal, eq-eqb why 0 z) refl
+  judged-accepted z f = rw (sym e, eq-eqb why 0 z) (ap Refusal f)

@@ -1,5 +1,4 @@
-// One line of a recording: what is read of a header line, the opening, an event run afresh and its output line, a line of the listing;
-// and the end of the input.
+// One line of a recording: a header line, an event run afresh and its output line, a line of the listing; and the end of the input.
 ghost use Rattle.session.specs.Grammar.{closed-line};
 ghost use Rattle.session.specs.Header.{header-step};
 ghost use Rattle.session.specs.Buffer.{buffer, append};
@@ -14,43 +13,26 @@ ghost use lib.ListN.{drop};
 ghost use Rattle.recording.specs.Recording.{listing};
 ghost use Rattle.recording.specs.Reader.{run-event, read-listed, listing-end};
 ghost use Rattle.reader_state.specs.ListedLines.{first-bytes};
-ghost use Rattle.session_pools.specs.PoolParts.{extent};
-ghost use Rattle.opening.specs.Opening.{refusal-of};
-ghost use Rattle.reader_state.specs.Standing.{with-part, put-back, opened, turn-line, header-line, read-line, judged-end, read-end, ReadAs};
+ghost use Rattle.reader_state.specs.Standing.{reader-of, with-part, put-back, turn-line, header-line, read-line, read-end, ReadAs};
 use reader_state::Reader;
 use recording::ReaderPhase;
 use recording::Verdict;
 use session::EventLine;
 use session::Header;
 use session::HeaderLine;
-use session::HeaderStep;
+use session_machine::Stage;
 use spec::Call;
 use spec::Listing;
+use spec::State;
 
-// Opens the machine with the header's numbers on line n; where that is accepted the line after it has number next.
-fn open_machine(h: Header, n: u64, next: u64, ns: &mut [u32], bs: &mut [u32]) -> Reader
-    ensures { λ r. ⌜ ReadAs (opened h n next (now (ns .entry)) (now (bs .entry))) r (now (ns .exit)) (now (bs .exit)) ⌝ }
+fn made(phase: ReaderPhase, header: Header, state: State, number: u64) -> Reader
+    ensures { λ r. ⌜ r ≡ reader-of phase header state number ⌝ }
 {
-    let a = session_pools::node_extent(h.nodes, ns.len());
-    let b = session_pools::bucket_extent(h.buckets, bs.len());
-    let config = h.config;
-    let o = opening::open(config, &mut ns[..a], &mut bs[..b]);
-    let refusal = o.refusal;
-    let m = o.state;
-    if refusal == 0 {
-        return Reader {
-            phase: ReaderPhase::Event,
-            header: h,
-            state: m,
-            number: next,
-        };
-    }
-    let v = Verdict::Refusal(refusal);
     Reader {
-        phase: ReaderPhase::Decided(v),
-        header: h,
-        state: m,
-        number: n,
+        phase,
+        header,
+        state,
+        number,
     }
 }
 
@@ -65,12 +47,7 @@ fn start_task(ok: bool, r: Reader, k: u32, call: Call, tag: u32) -> Reader
     let answered = d.out;
     let m = d.state;
     let next = reader_state::next_number(r.number);
-    Reader {
-        phase: ReaderPhase::Printed(k, answered),
-        header,
-        state: m,
-        number: next,
-    }
+    made(ReaderPhase::Printed(k, answered), header, m, next)
 }
 
 // Steps a task by one line of Figure 2; its output line comes next.
@@ -85,12 +62,7 @@ fn step_task(ok: bool, r: Reader, k: u32, ns: &mut [u32], bs: &mut [u32]) -> Rea
     let answered = d.out;
     let m = d.state;
     let next = reader_state::next_number(r.number);
-    Reader {
-        phase: ReaderPhase::Printed(k, answered),
-        header,
-        state: m,
-        number: next,
-    }
+    made(ReaderPhase::Printed(k, answered), header, m, next)
 }
 
 // Prints the line at place k of the listing, made anew; nothing past its end.
@@ -157,38 +129,33 @@ fn turn_line(ok: bool, r: Reader, ns: &mut [u32], bs: &mut [u32], line: &[u8]) -
     }
 }
 
-// A closed line where a header line is due. The line that completes the header brings the opening about, and so does one that
-// stands in the place of a header line that may be left out.
+// A closed line where a header line is due.
 fn header_line(r: Reader, due: HeaderLine, ns: &mut [u32], bs: &mut [u32], line: &[u8]) -> Reader
     ensures { λ s. ⌜ ReadAs (header-line (header-step due (r .header) (closed-line (now (line .entry)))) r (now (ns .entry)) (now (bs .entry))
         (closed-line (now (line .entry)))) s (now (ns .exit)) (now (bs .exit)) ⌝ }
 {
     let n = r.number;
     let header = r.header;
-    match session_parse::header_line(due, header, line) {
-        HeaderStep::Next(next, h) => {
-            let m = r.state;
-            let number = reader_state::next_number(n);
-            Reader {
-                phase: ReaderPhase::Due(next),
+    let before = r.state;
+    let t = session_machine::header_line(due, header, before, ns, bs, line);
+    let h = t.header;
+    let m = t.state;
+    let number = reader_state::next_number(n);
+    let stage = t.stage;
+    match stage {
+        Stage::NextDue(next) => made(ReaderPhase::Due(next), h, m, number),
+        Stage::OpenedBy => made(ReaderPhase::Event, h, m, number),
+        Stage::OpenedBefore => {
+            let opened = Reader {
+                phase: ReaderPhase::Event,
                 header: h,
                 state: m,
-                number,
-            }
+                number: n,
+            };
+            turn_line(true, opened, ns, bs, line)
         }
-        HeaderStep::Complete(h) => {
-            let number = reader_state::next_number(n);
-            open_machine(h, n, number, ns, bs)
-        }
-        HeaderStep::Absent(h) => {
-            let s = open_machine(h, n, n, ns, bs);
-            let phase = s.phase;
-            if reader_state::awaits_event(phase) {
-                return turn_line(true, s, ns, bs, line);
-            }
-            s
-        }
-        HeaderStep::Missing => reader_state::decided(Verdict::Refusal(10), r),
+        Stage::OpeningRefused(why) => made(ReaderPhase::Decided(Verdict::Refusal(why)), h, m, n),
+        Stage::Incomplete => made(ReaderPhase::Decided(Verdict::Refusal(10)), h, m, n),
     }
 }
 
@@ -207,20 +174,6 @@ pub fn read_line(ok: bool, r: Reader, ns: &mut [u32], bs: &mut [u32], line: &[u8
     }
 }
 
-// The end of the input where a header line that may be left out is due, with pools of so many words: the refusal of the opening, or this one.
-fn judge_opening(h: Header, nodes: usize, buckets: usize, refusal: u32) -> Verdict
-    ensures { λ v. ⌜ v ≡ judged-end (refusal-of (h .config) (extent 34 64 (h .nodes) nodes) (extent 66 200 (h .buckets) buckets)) refusal ⌝ }
-{
-    let a = session_pools::node_extent(h.nodes, nodes);
-    let b = session_pools::bucket_extent(h.buckets, buckets);
-    let config = h.config;
-    let why = opening::refusal(config, a, b);
-    if why != 0 {
-        return Verdict::Refusal(why);
-    }
-    Verdict::Refusal(refusal)
-}
-
 // The end of the input, whose last line is closed or is not. Where the opening is still due it is only judged: a refusal keeps every word.
 pub fn read_end(closed: bool, r: Reader, ns: &[u32], bs: &[u32]) -> Verdict
     ensures { λ v. ⌜ v ≡ read-end closed r (now (ns .entry)) (now (bs .entry)) ⌝ }
@@ -231,7 +184,11 @@ pub fn read_end(closed: bool, r: Reader, ns: &[u32], bs: &[u32]) -> Verdict
         ReaderPhase::Due(due) => {
             if session_parse::optional(due) {
                 let header = r.header;
-                return judge_opening(header, ns.len(), bs.len(), refusal);
+                let why = session_machine::judge_opening(header, ns, bs);
+                if why != 0 {
+                    return Verdict::Refusal(why);
+                }
+                return Verdict::Refusal(refusal);
             }
             Verdict::Refusal(refusal)
         }

@@ -3,7 +3,7 @@
 pub mod comparing;
 
 ghost use mathlib.Core.Path.{_≡_};
-ghost use Rattle.reader_state.specs.Standing.{new-reader, next-number, next-place, missing, awaits-event, answer-at-end, decided, after-comparing};
+ghost use Rattle.reader_state.specs.Standing.{new-reader, next-number, next-place, missing, answer-at-end, decided, after-comparing};
 use recording::ReaderPhase;
 use recording::Verdict;
 use session::Header;
@@ -82,19 +82,6 @@ pub fn answer_at_end(phase: ReaderPhase, refusal: u32) -> Verdict
         ReaderPhase::Printed(_, _) => Verdict::Refusal(refusal),
         ReaderPhase::Listed(_) => Verdict::Refusal(refusal),
         ReaderPhase::Decided(v) => v,
-    }
-}
-
-// Whether the line of an event, or the listing's first, comes next.
-pub fn awaits_event(phase: ReaderPhase) -> bool
-    ensures { λ r. ⌜ r ≡ awaits-event phase ⌝ }
-{
-    match phase {
-        ReaderPhase::Event => true,
-        ReaderPhase::Due(_) => false,
-        ReaderPhase::Printed(_, _) => false,
-        ReaderPhase::Listed(_) => false,
-        ReaderPhase::Decided(_) => false,
     }
 }
 

@@ -1,8 +1,8 @@
 -- Laws that the proofs of the functions cite, over plain lists and numbers: what is written before what the session prints, and by
 -- where the session stands. Assumes nothing.
-use mathlib.Core.Path.{_≡_, sym, ap, subst, _∙_}
+use mathlib.Core.Path.{_≡_, refl, sym, ap, subst, _∙_}
 use mathlib.Core.List.{List, [], _++_, append-nil}
-use mathlib.Core.Bool.{true, false}
+use mathlib.Core.Bool.{Bool, true, false}
 use Prim.Native.Nat.{ℕ, _+_, _-_, _≤_}
 use lib.ListN.{length, take, drop}
 use Rattle.session.specs.Buffer.{Buffer, buffer, append}
@@ -12,11 +12,13 @@ use Rattle.session.specs.Transcript.{is-event}
 use Rattle.session_state.specs.declared.Phase.{Phase}
 use Rattle.session_state.specs.declared.Session.{Session}
 use Rattle.session_state.specs.declared.Handled.{Handled}
-use Rattle.session_state.specs.Handling.{handled, LineEffect, LineHandled, line-effect, end-effect}
+use Rattle.session_state.specs.Handling.{handled, LineEffect, LineHandled, silent, line-effect, end-effect}
+use Rattle.session_lines.proofs.Laws.{BySaid}
 use Rattle.session_lines.specs.BufferParts.{appends-on}
 use Rattle.recording.specs.Recording.{close}
 use Rattle.recorder_lines.specs.declared.KeptLines.{KeptLines}
-use Rattle.recorder.specs.LentRecorder.{after-bytes, recorded-event, recorded-phase, recorded-line}
+use Rattle.recorder_lines.specs.KeptLines.{kept-bytes}
+use Rattle.recorder.specs.LentRecorder.{after-bytes, recorded-event, first-recorded, recorded-opening, recorded-header, recorded-phase, recorded-line}
 
 -- ---- lines that are written again
 
@@ -53,6 +55,16 @@ module _ (l : InputLine) (s : Session) (ns bs : List ℕ) (r : Handled) (n' b' b
       → LineHandled (recorded-event l s ns bs) r n' b' before after
   unfolding recorded-event
   no-event e h = rw e h
+
+-- ---- a line where a header line is due, by what it says
+
+abbrev pub after-kept : KeptLines → InputLine → Bool → Session → List ℕ → List ℕ → LineEffect
+after-kept k l own s ns bs = after-bytes (kept-bytes k) (first-recorded own l s ns bs)
+
+pub recorded-said : (k : KeptLines) (l : InputLine) (s : Session) (ns bs : List ℕ)
+    → BySaid (after-kept k l true) (after-kept k l false) s ns bs (λ a. recorded-header a k l s ns bs)
+unfolding recorded-header recorded-opening silent
+recorded-said k l s ns bs = record { next = λ due h. refl; complete = λ h. refl; absent = λ h. refl; missing = refl }
 
 -- by where the session stands
 pub stands-at : (p : Phase) (l : InputLine) (k : KeptLines) (s : Session) (ns bs : List ℕ) (r : Handled) (n' b' before after : List ℕ) → s .phase ≡ p

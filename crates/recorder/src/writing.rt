@@ -6,11 +6,10 @@ ghost use Rattle.session_state.specs.Handling.{LineHandled};
 ghost use mathlib.Core.Bool.{true};
 ghost use Rattle.session_lines.specs.KnownMemory.{KnownIn};
 ghost use Rattle.recorder_lines.specs.KeptLines.{kept-bytes};
-ghost use Rattle.recorder.specs.LentRecorder.{after-bytes, recorded-event, first-recorded, recorded-opening, recorded-header};
+ghost use Rattle.recorder.specs.LentRecorder.{after-bytes, recorded-event, first-recorded, recorded-header};
 use recorder_lines::KeptLines;
-use session::Header;
 use session::HeaderLine;
-use session::HeaderStep;
+use session_machine::Stage;
 use session_state::Handled;
 use session_state::Phase;
 use session_state::Session;
@@ -73,29 +72,7 @@ fn after_opening(
     }
 }
 
-// Opens the machine with a header. A refusal is written, and nothing after it.
-fn open_recorded(
-    h: Header,
-    k: KeptLines,
-    own: bool,
-    ns: &mut [u32],
-    bs: &mut [u32],
-    line: &[u8],
-    out: &mut [u8],
-) -> Handled
-    ensures { λ r. ⌜ LineHandled (recorded-opening h k own (closed-line (now (line .entry))) (now (ns .entry)) (now (bs .entry))) r (now (ns .exit))
-        (now (bs .exit)) (now (out .entry)) (now (out .exit)) ⌝ }
-{
-    let t = session_header::open_machine(h, ns, bs, out);
-    let s = t.session;
-    let phase = s.phase;
-    if session_state::reads_events(phase) {
-        return after_opening(s, k, own, ns, bs, line, out);
-    }
-    t
-}
-
-// A closed line where a header line is due.
+// A closed line where a header line is due. A refused opening is written, and nothing after it.
 pub fn header_line(
     s: Session,
     k: KeptLines,
@@ -109,13 +86,21 @@ pub fn header_line(
         (now (ns .entry)) (now (bs .entry))) r (now (ns .exit)) (now (bs .exit)) (now (out .entry)) (now (out .exit)) ⌝ }
 {
     let header = s.header;
-    match session_parse::header_line(due, header, line) {
-        HeaderStep::Next(next, h) => {
-            let m = s.state;
-            session_state::after_line(Phase::Due(next), h, m, 0)
-        }
-        HeaderStep::Complete(h) => open_recorded(h, k, true, ns, bs, line, out),
-        HeaderStep::Absent(h) => open_recorded(h, k, false, ns, bs, line, out),
-        HeaderStep::Missing => session_state::stop(s, out),
+    let before = s.state;
+    let t = session_machine::header_line(due, header, before, ns, bs, line);
+    let h = t.header;
+    let m = t.state;
+    let opened = Session {
+        phase: Phase::Events,
+        header: h,
+        state: m,
+    };
+    let stage = t.stage;
+    match stage {
+        Stage::NextDue(next) => session_state::after_line(Phase::Due(next), h, m, 0),
+        Stage::OpenedBy => after_opening(opened, k, true, ns, bs, line, out),
+        Stage::OpenedBefore => after_opening(opened, k, false, ns, bs, line, out),
+        Stage::OpeningRefused(n) => session_state::stop(opened, n, out),
+        Stage::Incomplete => session_state::stop(opened, 10, out),
     }
 }

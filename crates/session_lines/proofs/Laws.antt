@@ -6,7 +6,7 @@ use mathlib.Core.Bool.{Bool, true, false, not, _||_}
 use lib.Dec.{ltb, leb, eqb}
 use Prim.Native.Nat.{ℕ, _+_, _-_, _≤_}
 use native.Mathlib.Omega.{arith}
-use borrow.Author.Tests.{ltb-false}
+use borrow.Author.Tests.{eq-eqb, ne-eqb, ltb-false}
 use lib.ListN.{length, take, drop}
 use lib.Seq.{take-at}
 use Rattle.spec.specs.declared.Output.{Output}
@@ -18,27 +18,30 @@ use Rattle.spec.specs.Words.{size}
 use Rattle.spec.specs.Listed.{listed, head-of, size-of}
 use Rattle.spec.specs.Sound.{sound}
 use Rattle.spec.specs.Entries as entries
-use Rattle.spec.specs.Entries.{opening, list}
-use Rattle.laws.specs.Tests.{tf}
+use Rattle.spec.specs.Entries.{list}
 use Rattle.lines.specs.declared.Stepped.{Stepped}
 use Rattle.session.specs.declared.EventLine.{EventLine}
 use Rattle.session.specs.declared.Header.{Header}
 use Rattle.session.specs.declared.HeaderLine.{HeaderLine}
-use Rattle.session.specs.declared.HeaderStep.the-variants.{Next}
+use Rattle.session.specs.declared.HeaderStep.{HeaderStep}
+use Rattle.session.specs.declared.HeaderStep.the-variants.{Next, Complete, Absent, Missing}
 use Rattle.session.specs.Grammar.{InputLine}
 use Rattle.session.specs.Print.{refusal-line, output-line, listing-lines}
 use Rattle.session.specs.Transcript.{final-listing}
 use Rattle.session.specs.Buffer.{Buffer, buffer, append}
-use Rattle.session_pools.specs.PoolParts.{node-extent, bucket-extent, node-part, bucket-part}
+use Rattle.session_pools.specs.PoolParts.{node-extent, bucket-extent, node-part}
 use Rattle.session_state.specs.declared.Phase.{Phase}
-use Rattle.session_state.specs.declared.Phase.the-variants.{Due, Events, Stopped}
+use Rattle.session_state.specs.declared.Phase.the-variants.{Due, Events}
 use Rattle.session_state.specs.declared.Session.{Session}
 use Rattle.session_state.specs.declared.Handled.{Handled}
-use Rattle.session_state.specs.Handling.{session, reads-events, handled, LineEffect, LineHandled, pools-kept, silent, session-machine, with-machine}
-use Rattle.session_state.specs.Handling.{opened-then, open-then, header-effect, reply-effect, phase-effect, line-effect, phase-end, end-effect}
+use Rattle.session_state.specs.Handling.{session, handled, LineEffect, LineHandled, pools-kept, stopped, silent, session-machine, with-machine}
+use Rattle.session_state.specs.Handling.{opened-then, open-then, event-effect, header-effect, reply-effect, phase-effect, line-effect, phase-end, end-effect}
 use Rattle.session_state.proofs.Laws.{nothing-appended, same-machine}
+use Rattle.opening.specs.declared.Opened.{Opened as OpenedState}
+use Rattle.session_machine.specs.declared.Stage.{Stage}
+use Rattle.session_machine.specs.declared.Stage.the-variants.{NextDue, OpenedBy, OpenedBefore, OpeningRefused, Incomplete}
 use Rattle.session_machine.specs.Parts.{Replied}
-use Rattle.session_lines.specs.KnownMemory.{known-as, open-known, reads-known, known-reading}
+use Rattle.session_machine.specs.Stages.{part-opening, opened-of, Reached, opened-stage, header-stage, stage-opened, at-stage}
 
 -- ---- a start or a step of task k over the session's part of the pools, and its printed line
 
@@ -60,11 +63,11 @@ count-of : (a n : ℕ) → Count a ≡ Count n → a ≡ n
 count-of a n e = cc
 
 -- where a list gives a count, it is at most 64, and that many of the words are the tags
-record Lists (y : Machine) (w : List ℕ) (n : ℕ) : Type 0 where
-  few : n ≤ 64
-  tags : take n (list y w .words) ≡ listed y
+pub record Lists (y : Machine) (w : List ℕ) (n : ℕ) : Type 0 where
+  pub few : n ≤ 64
+  pub tags : take n (list y w .words) ≡ listed y
 
-lists : (y : Machine) (w : List ℕ) (n : ℕ) → list y w .says ≡ Count n → Lists y w n
+pub lists : (y : Machine) (w : List ℕ) (n : ℕ) → list y w .says ≡ Count n → Lists y w n
 unfolding list
 lists y w n h = let r = go (not (sound y)) (ltb 64 (length (listed y))) (not (leb 64 (length w))) refl h in record { few = r .0; tags = r .1 }
   where
@@ -134,67 +137,64 @@ pub does-nothing : (s : Session) (ns bs before : List ℕ) → LineHandled (sile
 unfolding pools-kept silent
 does-nothing s ns bs before = record { next = refl; nodes = refl; buckets = refl; wrote = nothing-appended (buffer before 0) }
 
--- another header line is due, and nothing is printed
-pub goes-on : (s : Session) (due : HeaderLine) (h : Header) (x : EventLine) (ns bs before : List ℕ)
-    → LineHandled (header-effect (Next due h) x s ns bs) (handled (session (Due due) h (s .state)) 0) ns bs before before
-unfolding header-effect pools-kept
-goes-on s due h x ns bs before = record { next = refl; nodes = refl; buckets = refl; wrote = nothing-appended (buffer before 0) }
+-- ---- an opening, and what is done next where it is accepted
 
--- ---- the opening, and where it was accepted what is done next
+module _ (h : Header) (ns bs : List ℕ) (o : OpenedState) (n' b' : List ℕ) (e : opened-of o n' b' ≡ part-opening h ns bs)
+    (next : Session → List ℕ → List ℕ → LineEffect) (r : Handled) (n'' b'' before after : List ℕ) where
+  abbrev opened-session : entries.Opened → Session
+  opened-session p = session Events h (p .machine .state)
 
--- nothing was done: the next effect is that of the same session and pools, and is written to the same buffer
-after-silence : (d : LineEffect) (t : Handled) (n' b' before middle : List ℕ) → LineHandled (silent (d .session) (d .nodes) (d .buckets)) t n' b' before middle
-    → (next : Session → List ℕ → List ℕ → LineEffect) (r : Handled) (n'' b'' after : List ℕ)
-    → LineHandled (next (t .session) n' b') r n'' b'' middle after → LineHandled (next (d .session) (d .nodes) (d .buckets)) r n'' b'' before after
-unfolding silent pools-kept append
-after-silence d t n' b' before middle o next r n'' b'' after h =
-    let same : next (t .session) n' b' ≡ next (d .session) (d .nodes) (d .buckets) = cc (o .next, o .nodes, o .buckets) in
-    let unwritten : middle ≡ before = ap (λ (u : Buffer). u .bytes) (o .wrote) in
-    subst (λ (w : List ℕ). LineHandled (next (d .session) (d .nodes) (d .buckets)) r n'' b'' w after) unwritten
-    (subst (λ (e : LineEffect). LineHandled e r n'' b'' middle after) same h)
+  abbrev from : entries.Opened → LineEffect
+  from p =
+      if eqb (p .refusal) 0 then next (opened-session p) (p .machine .nodes) (p .machine .buckets)
+      else pools-kept (stopped (opened-session p) (p .refusal)) (p .machine .nodes) (p .machine .buckets)
 
-module _ (h : Header) (ns bs : List ℕ) (t : Handled) (n' b' before middle : List ℕ) (next : Session → List ℕ → List ℕ → LineEffect) where
-  abbrev lent : entries.Opened
-  lent = opening (h .config) (node-part h ns) (bucket-part h bs)
+  opened-so : LineHandled (from (opened-of o n' b')) r n'' b'' before after → LineHandled (open-then h ns bs next) r n'' b'' before after
+  unfolding open-then opened-then with-machine pools-kept stopped part-opening
+  opened-so l = subst (λ (p : entries.Opened). LineHandled (from p) r n'' b'' before after) e l
 
-  abbrev made : LineEffect
-  made = with-machine Events [] (lent .machine) h ns bs
+  pub opens-then : o .refusal ≡ 0 → LineHandled (next (session Events h (o .state)) n' b') r n'' b'' before after
+      → LineHandled (open-then h ns bs next) r n'' b'' before after
+  opens-then z l = opened-so (rw (eq-eqb (o .refusal) 0 z) l)
 
-  -- after an opening that is accepted, or refused
-  abbrev after-opening : Bool → (Session → List ℕ → List ℕ → LineEffect) → LineEffect
-  after-opening a f =
-      if a then f (made .session) (made .nodes) (made .buckets) else with-machine Stopped (refusal-line (lent .refusal)) (lent .machine) h ns bs
+  pub refuses-then : (o .refusal ≡ 0 → ⊥) → LineHandled (pools-kept (stopped (session Events h (o .state)) (o .refusal)) n' b') r n'' b'' before after
+      → LineHandled (open-then h ns bs next) r n'' b'' before after
+  refuses-then z l = opened-so (rw (ne-eqb (o .refusal) 0 z) l)
 
-  -- it was accepted
-  pub opens-then : LineHandled (open-then h ns bs silent) t n' b' before middle → reads-events (t .session .phase) ≡ true
-      → (r : Handled) (n'' b'' after : List ℕ)
-      → LineHandled (next (t .session) n' b') r n'' b'' middle after → LineHandled (open-then h ns bs next) r n'' b'' before after
-  unfolding open-then opened-then with-machine reads-events
-  opens-then o p r n'' b'' after l = go (eqb (lent .refusal) 0) o
-    where
-      go : (a : Bool) → LineHandled (after-opening a silent) t n' b' before middle → LineHandled (after-opening a next) r n'' b'' before after
-      go true q = after-silence made t n' b' before middle q next r n'' b'' after l
-      go false q =
-          let stops : reads-events (t .session .phase) ≡ false = ap (λ (s : Session). reads-events (s .phase)) (q .next) in
-          absurd (tf p stops)
+-- ---- a line where a header line is due, by the stage that it reaches: `own` is done after the header's last line, `other` after an opening without the line
 
-  -- it was refused
-  pub refuses-then : LineHandled (open-then h ns bs silent) t n' b' before middle → reads-events (t .session .phase) ≡ false
-      → LineHandled (open-then h ns bs next) t n' b' before middle
-  unfolding open-then opened-then with-machine silent pools-kept reads-events
-  refuses-then o p = go (eqb (lent .refusal) 0) o
-    where
-      go : (a : Bool) → LineHandled (after-opening a silent) t n' b' before middle → LineHandled (after-opening a next) t n' b' before middle
-      go true q =
-          let opens : reads-events (t .session .phase) ≡ true = ap (λ (s : Session). reads-events (s .phase)) (q .next) in
-          absurd (tf opens p)
-      go false q = q
+module _ (own other : Session → List ℕ → List ℕ → LineEffect) where
+  unfoldable pub staged : Stage → Reached → LineEffect
+  staged (NextDue due) t = silent (session (Due due) (t .header) (t .state)) (t .nodes) (t .buckets)
+  staged OpenedBy t = own (session Events (t .header) (t .state)) (t .nodes) (t .buckets)
+  staged OpenedBefore t = other (session Events (t .header) (t .state)) (t .nodes) (t .buckets)
+  staged (OpeningRefused n) t = pools-kept (stopped (session Events (t .header) (t .state)) n) (t .nodes) (t .buckets)
+  staged Incomplete t = pools-kept (stopped (session Events (t .header) (t .state)) 10) (t .nodes) (t .buckets)
 
-  -- memory is sound after it
-  pub opened-known : LineHandled (open-then h ns bs silent) t n' b' before middle → reads-events (t .session .phase) ≡ true
-      → true ≡ sound (session-machine (t .session) n' b')
-  unfolding silent pools-kept reads-events
-  opened-known o p =
-      reads-known true (t .session .phase) _ p
-      (known-as true (open-then h ns bs silent) (o .next) (o .nodes) (o .buckets)
-      (open-known true h ns bs silent (λ m w v f. known-reading true Events _ refl f) refl))
+  module _ (s : Session) (ns bs : List ℕ) (F : HeaderStep → LineEffect) where
+    -- what is done by what the line says
+    pub record BySaid : Type 0 where
+      pub next : (due : HeaderLine) (h : Header) → F (Next due h) ≡ silent (session (Due due) h (s .state)) ns bs
+      pub complete : (h : Header) → F (Complete h) ≡ open-then h ns bs own
+      pub absent : (h : Header) → F (Absent h) ≡ open-then h ns bs other
+      pub missing : F Missing ≡ pools-kept (stopped s 10) ns bs
+
+    abbrev stage-of : HeaderStep → Reached
+    stage-of a = header-stage a (s .header) (s .state) ns bs
+
+    by-stage : BySaid → (a : HeaderStep) → F a ≡ staged (stage-of a .stage) (stage-of a)
+    unfolding staged header-stage opened-stage part-opening open-then opened-then with-machine pools-kept stopped
+    by-stage f (Next due h) = f .next due h
+    by-stage f (Complete h) = f .complete h ∙ sym (stage-opened staged OpenedBy h (part-opening h ns bs))
+    by-stage f (Absent h) = f .absent h ∙ sym (stage-opened staged OpenedBefore h (part-opening h ns bs))
+    by-stage f Missing = f .missing
+
+    pub header-handled : BySaid → (a : HeaderStep) {t : Reached} {g : Stage} {r : Handled} {n' b' before after : List ℕ} → t ≡ stage-of a → t .stage ≡ g
+        → LineHandled (staged g t) r n' b' before after → LineHandled (F a) r n' b' before after
+    header-handled f a {r = r} {n' = n'} {b' = b'} {before = before} {after = after} e q l =
+        subst (λ (d : LineEffect). LineHandled d r n' b' before after) (sym (by-stage f a))
+        (at-stage (λ d. LineHandled d r n' b' before after) staged e q l)
+
+pub header-said : (x : EventLine) (s : Session) (ns bs : List ℕ) → BySaid silent (event-effect x) s ns bs (λ a. header-effect a x s ns bs)
+unfolding header-effect silent
+header-said x s ns bs = record { next = λ due h. refl; complete = λ h. refl; absent = λ h. refl; missing = refl }

@@ -23,6 +23,10 @@ use Rattle.session.specs.declared.HeaderStep.the-variants.{Next, Complete, Abse
 use Rattle.session.specs.Grammar.{InputLine, parse-event-line}
 use Rattle.session.specs.Header.{header-step}
 use Rattle.session.specs.Print.{refusal-line, output-line}
+use Rattle.session_machine.specs.declared.Stage.{Stage}
+use Rattle.session_machine.specs.declared.Stage.the-variants.{NextDue, OpenedBy, OpenedBefore, OpeningRefused, Incomplete}
+use Rattle.session_machine.specs.Parts.{part-machine}
+use Rattle.session_machine.specs.Stages.{part-opening, Reached, opened-stage, header-stage}
 use Rattle.session_pools.specs.PoolParts.{node-part, bucket-part}
 use Rattle.session_state.specs.declared.Phase.{Phase}
 use Rattle.session_state.specs.declared.Phase.the-variants.{Due, Events, Stopped}
@@ -47,15 +51,6 @@ KnownAfter ok d = KnownIn ok (d .session) (d .nodes) (d .buckets)
 -- ---- where events are read, and where they are not
 
 module _ (ok : Bool) (p : Phase) (y : Machine) where
-  pub reads-known : reads-events p ≡ true → Known ok p y → ok ≡ sound y
-  unfolding reads-events Known
-  reads-known e k = go p e k
-    where
-      go : (q : Phase) → reads-events q ≡ true → Known ok q y → ok ≡ sound y
-      go (Due due) e k = absurd (tf e refl)
-      go Events e k = k
-      go Stopped e k = absurd (tf e refl)
-
   pub known-reading : reads-events p ≡ true → ok ≡ sound y → Known ok p y
   unfolding reads-events Known
   known-reading e f = go p e
@@ -66,8 +61,8 @@ module _ (ok : Bool) (p : Phase) (y : Machine) where
       go Stopped e = absurd (tf e refl)
 
 pub known-events : (ok : Bool) (p : Phase) (y : Machine) → p ≡ Events → Known ok p y → ok ≡ sound y
-unfolding reads-events
-known-events ok p y e k = reads-known ok p y (ap reads-events e) k
+unfolding Known
+known-events ok p y e k = subst (λ (q : Phase). Known ok q y) e k
 
 pub known-unread : (p : Phase) (y : Machine) → reads-events p ≡ false → Known true p y
 unfolding reads-events Known
@@ -81,6 +76,51 @@ pub known-as : (ok : Bool) (d : LineEffect) {s : Session} {ns bs : List ℕ} →
 known-as ok d {s} {ns} {bs} es en eb k =
     subst (λ (x : Session). KnownIn ok x ns bs) (sym es)
     (subst (λ (w : List ℕ). KnownIn ok (d .session) w bs) (sym en) (subst (λ (w : List ℕ). KnownIn ok (d .session) (d .nodes) w) (sym eb) k))
+
+-- ---- an opening
+
+module _ (h : Header) (ns bs : List ℕ) where
+  abbrev opened-machine : Machine
+  opened-machine = let y = part-opening h ns bs .machine in part-machine (y .state) h (y .nodes) (y .buckets)
+
+  opened-sound : part-opening h ns bs .refusal ≡ 0 → true ≡ sound opened-machine
+  unfolding part-opening with-machine
+  opened-sound z =
+      let o = opening (h .config) (node-part h ns) (bucket-part h bs) in
+      let long = opening-lengths (h .config) (node-part h ns) (bucket-part h bs) in
+      let back = machine-back Events [] (o .machine) h ns bs (long .nodes ∙ part-length 34 64 (h .nodes) ns)
+      (long .buckets ∙ part-length 66 200 (h .buckets) bs) in
+      sym (opening-sound (h .config) (node-part h ns) (bucket-part h bs) z) ∙ ap sound (sym back)
+
+-- by the stage that a line reaches where a header line is due
+unfoldable pub SoundAt : Stage → Reached → Type 0
+SoundAt (NextDue due) t = t ≡ t
+SoundAt OpenedBy t = true ≡ sound (part-machine (t .state) (t .header) (t .nodes) (t .buckets))
+SoundAt OpenedBefore t = true ≡ sound (part-machine (t .state) (t .header) (t .nodes) (t .buckets))
+SoundAt (OpeningRefused n) t = t ≡ t
+SoundAt Incomplete t = t ≡ t
+
+stage-sound : (a : HeaderStep) (h : Header) (m : State) (ns bs : List ℕ) → let t = header-stage a h m ns bs in SoundAt (t .stage) t
+unfolding header-stage opened-stage SoundAt
+stage-sound (Next due h') h m ns bs = refl
+stage-sound (Complete h') h m ns bs = go (eqb (part-opening h' ns bs .refusal) 0) refl
+  where
+    go : (a : Bool) → eqb (part-opening h' ns bs .refusal) 0 ≡ a
+        → SoundAt (if a then OpenedBy else OpeningRefused (part-opening h' ns bs .refusal)) (opened-stage OpenedBy h' (part-opening h' ns bs))
+    go true q = opened-sound h' ns bs (eqb-true _ 0 q)
+    go false q = refl
+stage-sound (Absent h') h m ns bs = go (eqb (part-opening h' ns bs .refusal) 0) refl
+  where
+    go : (a : Bool) → eqb (part-opening h' ns bs .refusal) 0 ≡ a
+        → SoundAt (if a then OpenedBefore else OpeningRefused (part-opening h' ns bs .refusal)) (opened-stage OpenedBefore h' (part-opening h' ns bs))
+    go true q = opened-sound h' ns bs (eqb-true _ 0 q)
+    go false q = refl
+stage-sound Missing h m ns bs = refl
+
+pub reached-sound : (a : HeaderStep) (h : Header) (m : State) (ns bs : List ℕ) {t : Reached} {g : Stage} → t ≡ header-stage a h m ns bs → t .stage ≡ g
+    → SoundAt g t
+reached-sound a h m ns bs {t} e f =
+    subst (λ (k : Stage). SoundAt k t) f (subst (λ (r : Reached). SoundAt (r .stage) r) (sym e) (stage-sound a h m ns bs))
 
 -- ---- a line
 
@@ -104,7 +144,7 @@ module _ (ok : Bool) where
   module _ (h : Header) (ns bs : List ℕ) (next : Session → List ℕ → List ℕ → LineEffect)
       (goes-on : (m : State) (w v : List ℕ) → ok ≡ sound (session-machine (session Events h m) w v) → KnownAfter ok (next (session Events h m) w v)) where
     pub open-known : ok ≡ true → KnownAfter ok (open-then h ns bs next)
-    unfolding open-then opened-then with-machine Known
+    unfolding open-then opened-then with-machine part-opening Known
     open-known e = go (eqb (o .refusal) 0) refl
       where
         o : Opened
@@ -113,16 +153,9 @@ module _ (ok : Bool) where
         d : LineEffect
         d = with-machine Events [] (o .machine) h ns bs
 
-        back : session-machine (d .session) (d .nodes) (d .buckets) ≡ o .machine
-        back =
-            let long = opening-lengths (h .config) (node-part h ns) (bucket-part h bs) in
-            machine-back Events [] (o .machine) h ns bs (long .nodes ∙ part-length 34 64 (h .nodes) ns) (long .buckets ∙ part-length 66 200 (h .buckets) bs)
-
         go : (a : Bool) → eqb (o .refusal) 0 ≡ a
             → KnownAfter ok (if a then next (d .session) (d .nodes) (d .buckets) else with-machine Stopped (refusal-line (o .refusal)) (o .machine) h ns bs)
-        go true q =
-            goes-on (o .machine .state) (d .nodes) (d .buckets)
-            (e ∙ sym (opening-sound (h .config) (node-part h ns) (bucket-part h bs) (eqb-true (o .refusal) 0 q)) ∙ ap sound (sym back))
+        go true q = goes-on (o .machine .state) (d .nodes) (d .buckets) (e ∙ opened-sound h ns bs (eqb-true (o .refusal) 0 q))
         go false q = refl
 
   header-known : (a : HeaderStep) (x : EventLine) (s : Session) (ns bs : List ℕ) → ok ≡ true → KnownAfter ok (header-effect a x s ns bs)

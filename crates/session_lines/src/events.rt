@@ -65,7 +65,7 @@ pub fn event_line(
     match session_parse::event_line(line) {
         EventLine::Start(k, call, tag) => start_task(ok, s, k, call, tag, out),
         EventLine::Step(k) => step_task(ok, s, k, ns, bs, out),
-        EventLine::Outside => session_state::stop(s, out),
+        EventLine::Outside => session_state::stop(s, 10, out),
     }
 }
 

@@ -7,13 +7,12 @@ ghost use Rattle.session.specs.Header.{header-step};
 ghost use Rattle.session_state.specs.Handling.{header-effect, line-effect, end-effect, LineHandled};
 ghost use Rattle.session_lines.specs.KnownMemory.{KnownIn};
 use session::HeaderLine;
-use session::HeaderStep;
+use session_machine::Stage;
 use session_state::Handled;
 use session_state::Phase;
 use session_state::Session;
 
-// A closed line where a header line is due. The line that completes the header brings the opening about, and so does one that
-// stands in the place of a header line that may be left out.
+// A closed line where a header line is due. A refused opening is printed, and nothing after it.
 fn header_line(
     s: Session,
     due: HeaderLine,
@@ -27,22 +26,25 @@ fn header_line(
         (now (out .exit)) ⌝ }
 {
     let header = s.header;
-    match session_parse::header_line(due, header, line) {
-        HeaderStep::Next(next, h) => {
-            let m = s.state;
-            session_state::after_line(Phase::Due(next), h, m, 0)
-        }
-        HeaderStep::Complete(h) => session_header::open_machine(h, ns, bs, out),
-        HeaderStep::Absent(h) => {
-            let t = session_header::open_machine(h, ns, bs, out);
-            let opened = t.session;
-            let phase = opened.phase;
-            if session_state::reads_events(phase) {
-                return events::event_line(true, opened, ns, bs, line, out);
-            }
-            t
-        }
-        HeaderStep::Missing => session_state::stop(s, out),
+    let before = s.state;
+    let t = session_machine::header_line(due, header, before, ns, bs, line);
+    let h = t.header;
+    let m = t.state;
+    let opened = Session {
+        phase: Phase::Events,
+        header: h,
+        state: m,
+    };
+    let stage = t.stage;
+    match stage {
+        Stage::NextDue(next) => session_state::after_line(Phase::Due(next), h, m, 0),
+        Stage::OpenedBy => Handled {
+            session: opened,
+            printed: 0,
+        },
+        Stage::OpenedBefore => events::event_line(true, opened, ns, bs, line, out),
+        Stage::OpeningRefused(n) => session_state::stop(opened, n, out),
+        Stage::Incomplete => session_state::stop(opened, 10, out),
     }
 }
 
@@ -108,15 +110,20 @@ pub fn end_input(s: Session, ns: &mut [u32], bs: &mut [u32], out: &mut [u8]) -> 
         Phase::Due(due) => {
             if session_parse::optional(due) {
                 let header = s.header;
-                let t = session_header::open_machine(header, ns, bs, out);
-                let opened = t.session;
-                let at = opened.phase;
-                if session_state::reads_events(at) {
+                let o = session_machine::open(header, ns, bs);
+                let m = o.state;
+                let opened = Session {
+                    phase: Phase::Events,
+                    header,
+                    state: m,
+                };
+                let refusal = o.refusal;
+                if refusal == 0 {
                     return events::listing(opened, ns, bs, out);
                 }
-                return t;
+                return session_state::stop(opened, refusal, out);
             }
-            session_state::stop(s, out)
+            session_state::stop(s, 10, out)
         }
         Phase::Events => events::listing(s, ns, bs, out),
         Phase::Stopped => Handled {

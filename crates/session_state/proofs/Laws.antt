@@ -1,19 +1,18 @@
--- Laws that the proofs of the functions cite, over plain lists and numbers: what was printed, an entry's machine put back into the
--- lent pools. Assumes nothing.
-use mathlib.Core.Path.{_≡_, refl, sym, ap, subst, _∙_}
-use mathlib.Core.List.{List, [], _++_}
+-- Laws that the proofs of the functions cite, over plain lists and numbers: what was printed, the machine in the session's part of the lent pools.
+-- Assumes nothing.
+use mathlib.Core.Path.{_≡_, refl, sym, subst}
+use mathlib.Core.List.{List, []}
 use Prim.Native.Nat.{ℕ}
-use lib.ListN.{take, drop}
+use lib.ListN.{take}
 use Rattle.spec.specs.declared.State.{State}
-use Rattle.spec.specs.Machine.{Machine, machine-of}
+use Rattle.spec.specs.Machine.{machine-of}
 use Rattle.session.specs.declared.Header.{Header}
-use Rattle.session.specs.Buffer.{Buffer, buffer, append}
+use Rattle.session.specs.Buffer.{Buffer, append}
 use Rattle.session_pools.specs.PoolParts.{node-extent, bucket-extent}
-use Rattle.session_state.specs.declared.Phase.{Phase}
 use Rattle.session_state.specs.declared.Phase.the-variants.{Stopped}
 use Rattle.session_state.specs.declared.Handled.{Handled}
-use Rattle.session_state.specs.Handling.{session, handled, SessionEffect, SessionHandled, LineEffect, LineHandled, pools-kept}
-use Rattle.session_state.specs.Handling.{session-machine, with-machine}
+use Rattle.session_state.specs.Handling.{session, SessionEffect, SessionHandled, LineEffect, LineHandled, pools-kept}
+use Rattle.session_state.specs.Handling.{session-machine}
 
 -- ---- nothing is printed; no word is changed
 
@@ -38,20 +37,5 @@ line-as d r r' ns bs before after e h = subst (λ (x : Handled). LineHandled d x
 -- ---- an entry over the session's part of the pools
 
 module _ (h : Header) (ns bs : List ℕ) (a b : ℕ) (ea : a ≡ node-extent h ns) (eb : b ≡ bucket-extent h bs) where
-  -- the entry's machine put back
-  pub puts-back : (phase : Phase) (prints : List ℕ) (y : Machine) (m : State) (n' b' : List ℕ) (count : ℕ) (before after : List ℕ)
-      → machine-of m n' b' ≡ y → buffer after count ≡ append prints (buffer before 0)
-      → LineHandled (with-machine phase prints y h ns bs) (handled (session phase h m) count) (n' ++ drop a ns) (b' ++ drop b bs) before after
-  unfolding with-machine
-  puts-back phase prints y m n' b' count before after e t =
-      record {
-        next = ap (λ (x : Machine). session phase h (x .state)) e;
-        nodes = ap (λ (x : Machine). x .nodes ++ drop a ns) e ∙ ap (λ (n : ℕ). y .nodes ++ drop n ns) ea;
-        buckets = ap (λ (x : Machine). x .buckets ++ drop b bs) e ∙ ap (λ (n : ℕ). y .buckets ++ drop n bs) eb;
-        wrote = t;
-      }
-
   pub same-machine : (m : State) → machine-of m (take a ns) (take b bs) ≡ session-machine (session Stopped h m) ns bs
-  same-machine m =
-      ap (λ (n : ℕ). machine-of m (take n ns) (take b bs)) ea
-      ∙ ap (λ (n : ℕ). machine-of m (take (node-extent h ns) ns) (take n bs)) eb
+  same-machine m = λ i. machine-of m (take (ea i) ns) (take (eb i) bs)

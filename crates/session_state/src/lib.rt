@@ -1,4 +1,4 @@
-// A session between two lines, and the refusal of a line outside the grammar.
+// A session between two lines, and the refusal that stops it.
 ghost use mathlib.Core.Path.{_≡_};
 ghost use Rattle.session_state.specs.Handling.{session, new-session, handled, stopped, reads-events, SessionHandled};
 use session::Header;
@@ -69,11 +69,11 @@ pub fn after_line(phase: Phase, header: Header, m: State, printed: usize) -> Han
     }
 }
 
-// A line outside the grammar: refusal 10, after which nothing more is printed.
-pub fn stop(s: Session, out: &mut [u8]) -> Handled
-    ensures { λ r. ⌜ SessionHandled (stopped s 10) r (now (out .entry)) (now (out .exit)) ⌝ }
+// A refusal, after which nothing more is printed.
+pub fn stop(s: Session, refusal: u32, out: &mut [u8]) -> Handled
+    ensures { λ r. ⌜ SessionHandled (stopped s refusal) r (now (out .entry)) (now (out .exit)) ⌝ }
 {
-    let c = session_bytes::refusal(out, 0, 10);
+    let c = session_bytes::refusal(out, 0, refusal);
     let header = s.header;
     let m = s.state;
     after_line(Phase::Stopped, header, m, c)

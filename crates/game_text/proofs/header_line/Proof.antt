@@ -1,60 +1,55 @@
--- `game_text::header_line` meets its contract: by what the line says. Assumes nothing.
-use mathlib.Core.Path.{sym, _∙_}
+-- `game_text::header_line` meets its contract: by the stage that the line reaches. Assumes nothing.
 use denote.Ref.{now}
+use Rattle.game_text.proofs.Laws.{stays-at, staged, header-at}
 use borrow.Author.Needs.{needs}
-use Rattle.game_text.specs.Reading.{refused-with, header-taken}
-use Rattle.game_text.proofs.Laws.{says, next-at, not-opened-at, opened-then-at, stays-at}
 use Rattle.game_text.proofs.header_line.Statement.{statement}
 use Rattle.game_text.proofs.header_line.Tie as tie
 
 returns : tie.Need-returns
-unfolding header-taken
+unfolding staged
 returns c =
-    let at-open-machine2 = c .before .before .before .before .before .before in
-    let at-h2 = at-open-machine2 .before .before .before .before in
-    let at-header-line = at-h2 .before .before in
-    let o = at-open-machine2 .open-machine2 in
-    says _ _ (sym (at-header-line .header-line .ensures) ∙ at-h2 .h2 .given .1) _ _ _ _ _
-    (not-opened-at _ _ (o .result) _ _ (o .ensures) (c .if1 .taken))
+    let at-stage = c .before .before in
+    let at-header-line = at-stage .before .before .before .before .before .before .before .before in
+    let entry = at-header-line .before .before .before .before .before .before .before .before .before in
+    header-at (entry .args .t) _ (now (entry .args .ns)) (now (entry .args .bs)) _ (at-header-line .header-line .ensures) (at-stage .stage .given .1)
+    (stays-at _ _ _ _ (c .stands .ensures))
 
 returns-2 : tie.Need-returns-2
+unfolding staged
 returns-2 c =
-    let at-next = c .before .before .before in
-    let at-header-line = at-next .before .before in
-    let entry = at-header-line .before .before .before .before .before .before in
-    let a = entry .args in
-    says _ _ (sym (at-header-line .header-line .ensures) ∙ at-next .next .given .1) _ _ _ _ _
-    (next-at (a .t) (now (a .ns)) (now (a .bs)) _ _ _ _ (c .stands .ensures))
+    let at-enum-told = c .before in
+    let at-header-line = at-enum-told .before .before .before .before .before .before .before .before in
+    let entry = at-header-line .before .before .before .before .before .before .before .before .before in
+    header-at (entry .args .t) _ (now (entry .args .ns)) (now (entry .args .bs)) _ (at-header-line .header-line .ensures) (at-enum-told .enum-told .given .1)
+    (stays-at _ _ _ _ (c .stands2 .ensures))
 
 returns-3 : tie.Need-returns-3
-unfolding header-taken
+unfolding staged
 returns-3 c =
-    let at-open-machine = c .before .before .before .before in
-    let at-h = at-open-machine .before .before .before .before in
-    let at-header-line = at-h .before .before in
-    says _ _ (sym (at-header-line .header-line .ensures) ∙ at-h .h .given .1) _ _ _ _ _ (at-open-machine .open-machine .ensures)
+    let at-turn-line = c .before .before .before .before in
+    let at-enum-told2 = at-turn-line .before .before .before in
+    let at-header-line = at-enum-told2 .before .before .before .before .before .before .before .before in
+    let entry = at-header-line .before .before .before .before .before .before .before .before .before in
+    header-at (entry .args .t) _ (now (entry .args .ns)) (now (entry .args .bs)) _ (at-header-line .header-line .ensures) (at-enum-told2 .enum-told2 .given .1)
+    (at-turn-line .turn-line .ensures)
 
 returns-4 : tie.Need-returns-4
-unfolding header-taken
+unfolding staged
 returns-4 c =
-    let at-turn-line = c .before .before .before .before in
-    let at-if1 = at-turn-line .before .before .before in
-    let at-open-machine2 = at-if1 .before .before .before .before .before .before in
-    let at-h2 = at-open-machine2 .before .before .before .before in
-    let at-header-line = at-h2 .before .before in
-    let o = at-open-machine2 .open-machine2 in
-    says _ _ (sym (at-header-line .header-line .ensures) ∙ at-h2 .h2 .given .1) _ _ _ _ _
-    (opened-then-at _ _ (o .result) _ _ (o .ensures) (at-if1 .if1 .left) _ _ _ (at-turn-line .turn-line .ensures))
+    let at-stage2 = c .before .before in
+    let at-header-line = at-stage2 .before .before .before .before .before .before .before .before in
+    let entry = at-header-line .before .before .before .before .before .before .before .before .before in
+    header-at (entry .args .t) _ (now (entry .args .ns)) (now (entry .args .bs)) _ (at-header-line .header-line .ensures) (at-stage2 .stage2 .given .1)
+    (stays-at _ _ _ _ (c .stands3 .ensures))
 
 returns-5 : tie.Need-returns-5
-unfolding header-taken
+unfolding staged
 returns-5 c =
-    let at-enum-told = c .before in
-    let at-header-line = at-enum-told .before .before in
-    let entry = at-header-line .before .before .before .before .before .before in
-    let a = entry .args in
-    says _ _ (sym (at-header-line .header-line .ensures) ∙ at-enum-told .enum-told .given .1) _ _ _ _ _
-    (stays-at (refused-with 10 (a .t)) _ (now (a .ns)) (now (a .bs)) (c .outside .ensures))
+    let at-enum-told3 = c .before in
+    let at-header-line = at-enum-told3 .before .before .before .before .before .before .before .before in
+    let entry = at-header-line .before .before .before .before .before .before .before .before .before in
+    header-at (entry .args .t) _ (now (entry .args .ns)) (now (entry .args .bs)) _ (at-header-line .header-line .ensures) (at-enum-told3 .enum-told3 .given .1)
+    (stays-at _ _ _ _ (c .outside .ensures))
 
 pub header-line-spec : {M : Type 1} → statement M
 header-line-spec =
@@ -68,11 +63,14 @@ header-line-spec =
     (λ c. search needs)
     (λ c κs. search needs)
     (λ c. search needs)
+    (λ c κs. search needs)
+    (λ c. search needs)
+    (λ c κs. search needs)
+    (λ c. search needs)
     (λ c. search needs)
     returns
-    (λ c κs. search needs)
     (λ c. search needs)
-    (λ c κs. search needs)
+    (λ c. search needs)
     returns-2
     (λ c. search needs)
     (λ c. search needs)
@@ -80,4 +78,6 @@ header-line-spec =
     (λ c. search needs)
     (λ c. search needs)
     returns-4
+    (λ c. search needs)
+    (λ c. search needs)
     returns-5)

@@ -8,107 +8,49 @@ use borrow.Author.Needs.{needs}
 use Rattle.session_lines.proofs.end_input.Statement.{statement}
 use Rattle.session_lines.proofs.end_input.Tie as tie
 
-enum-known-phase : tie.Need-enum-known-phase
-enum-known-phase c = search needs
-
-optional-requires : tie.Need-optional-requires
-optional-requires c κs = search needs
-
-open-machine-requires : tie.Need-open-machine-requires
-open-machine-requires c κs = search needs
-
-reads-events-requires : tie.Need-reads-events-requires
-reads-events-requires c κs = search needs
-
-listing-requires : tie.Need-listing-requires
-listing-requires c κs = search needs
-
-same-length : tie.Need-same-length
-same-length c = search needs
-
-same-length-2 : tie.Need-same-length-2
-same-length-2 c = search needs
-
-same-length-3 : tie.Need-same-length-3
-same-length-3 c = search needs
-
 returns : tie.Need-returns
 unfolding phase-end listing-effect
 returns c =
     let at-listing = c .before .before in
     let at-if2 = at-listing .before .before .before .before in
-    let at-reads-events = at-if2 .before in
-    let at-open-machine = at-reads-events .before .before .before .before .before .before .before .before in
-    let at-if1 = at-open-machine .before .before .before .before .before in
+    let at-open = at-if2 .before .before .before .before .before .before in
+    let at-if1 = at-open .before .before .before .before in
     let at-optional = at-if1 .before in
     let at-phase = at-optional .before .before in
     let entry = at-phase .before .before .before .before .before in
     let told = at-phase .phase .given in
-    let t = at-open-machine .open-machine in
+    let o = at-open .«open» in
     ends (entry .args .s) (Due (told .0 .0)) (told .1) _ _ _ _ _ _ _
     (rw (sym (at-optional .optional .ensures) ∙ at-if1 .if1 .taken)
-    (opens-then _ _ _ (t .result) _ _ _ _ listing-effect (t .ensures) (sym (at-reads-events .reads-events .ensures) ∙ at-if2 .if2 .taken) _ _ _ _
-    (keeps _ _ _ _ _ _ (at-listing .listing .ensures))))
-
-same-length-4 : tie.Need-same-length-4
-same-length-4 c = search needs
-
-same-length-5 : tie.Need-same-length-5
-same-length-5 c = search needs
-
-same-length-6 : tie.Need-same-length-6
-same-length-6 c = search needs
+    (opens-then _ _ _ (o .result) _ _ (o .ensures) listing-effect _ _ _ _ _ (at-if2 .if2 .taken) (keeps _ _ _ _ _ _ (at-listing .listing .ensures))))
 
 returns-2 : tie.Need-returns-2
 unfolding phase-end
 returns-2 c =
-    let at-reads-events = c .before in
-    let at-open-machine = at-reads-events .before .before .before .before .before .before .before .before in
-    let at-if1 = at-open-machine .before .before .before .before .before in
+    let at-stop = c .before .before in
+    let at-if2 = at-stop .before .before in
+    let at-open = at-if2 .before .before .before .before .before .before in
+    let at-if1 = at-open .before .before .before .before in
     let at-optional = at-if1 .before in
     let at-phase = at-optional .before .before in
     let entry = at-phase .before .before .before .before .before in
     let told = at-phase .phase .given in
-    let t = at-open-machine .open-machine in
+    let o = at-open .«open» in
     ends (entry .args .s) (Due (told .0 .0)) (told .1) _ _ _ _ _ _ _
     (rw (sym (at-optional .optional .ensures) ∙ at-if1 .if1 .taken)
-    (refuses-then _ _ _ (t .result) _ _ _ _ _ (t .ensures) (sym (at-reads-events .reads-events .ensures) ∙ c .if2 .left)))
-
-stop-requires : tie.Need-stop-requires
-stop-requires c κs = search needs
-
-enum-told : tie.Need-enum-told
-enum-told c = search needs
-
-listing-requires-2 : tie.Need-listing-requires-2
-listing-requires-2 c κs = search needs
-
-enum-told-2 : tie.Need-enum-told-2
-enum-told-2 c = search needs
-
-same-length-7 : tie.Need-same-length-7
-same-length-7 c = search needs
+    (refuses-then _ _ _ (o .result) _ _ (o .ensures) _ _ _ _ _ _ (at-if2 .if2 .left) (keeps _ _ _ _ _ _ (at-stop .stop .ensures))))
 
 returns-3 : tie.Need-returns-3
 unfolding phase-end
 returns-3 c =
-    let at-stop = c .before .before in
-    let at-if1 = at-stop .before .before in
+    let at-stop2 = c .before .before in
+    let at-if1 = at-stop2 .before .before in
     let at-optional = at-if1 .before in
     let at-phase = at-optional .before .before in
     let entry = at-phase .before .before .before .before .before in
     let told = at-phase .phase .given in
     ends (entry .args .s) (Due (told .0 .0)) (told .1) _ _ _ _ _ _ _
-    (rw (sym (at-optional .optional .ensures) ∙ at-if1 .if1 .left) (keeps _ _ _ _ _ _ (at-stop .stop .ensures)))
-
-same-length-8 : tie.Need-same-length-8
-same-length-8 c = search needs
-
-same-length-9 : tie.Need-same-length-9
-same-length-9 c = search needs
-
-same-length-10 : tie.Need-same-length-10
-same-length-10 c = search needs
+    (rw (sym (at-optional .optional .ensures) ∙ at-if1 .if1 .left) (keeps _ _ _ _ _ _ (at-stop2 .stop2 .ensures)))
 
 returns-4 : tie.Need-returns-4
 unfolding phase-end listing-effect
@@ -128,27 +70,27 @@ pub end-input-spec : {M : Type 1} → statement M
 end-input-spec =
     tie.close
     (tie.spec
-    enum-known-phase
-    optional-requires
-    open-machine-requires
-    reads-events-requires
-    listing-requires
-    same-length
-    same-length-2
-    same-length-3
+    (λ c. search needs)
+    (λ c κs. search needs)
+    (λ c κs. search needs)
+    (λ c κs. search needs)
+    (λ c. search needs)
+    (λ c. search needs)
+    (λ c. search needs)
     returns
-    same-length-4
-    same-length-5
-    same-length-6
+    (λ c κs. search needs)
+    (λ c. search needs)
+    (λ c. search needs)
+    (λ c. search needs)
     returns-2
-    stop-requires
-    enum-told
-    listing-requires-2
-    enum-told-2
-    same-length-7
+    (λ c κs. search needs)
+    (λ c. search needs)
+    (λ c κs. search needs)
+    (λ c. search needs)
+    (λ c. search needs)
     returns-3
-    same-length-8
-    same-length-9
-    same-length-10
+    (λ c. search needs)
+    (λ c. search needs)
+    (λ c. search needs)
     returns-4
     returns-5)

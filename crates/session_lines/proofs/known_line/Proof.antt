@@ -7,32 +7,11 @@ use borrow.Author.Needs.{needs}
 use Rattle.session_lines.proofs.known_line.Statement.{statement}
 use Rattle.session_lines.proofs.known_line.Tie as tie
 
-enum-known-phase : tie.Need-enum-known-phase
-enum-known-phase c = search needs
-
-header-line-requires : tie.Need-header-line-requires
-header-line-requires c κs = search needs
-
-enum-told : tie.Need-enum-told
-enum-told c = search needs
-
 event-line-requires : tie.Need-event-line-requires
 event-line-requires c κs =
     let at-enum-told = c .before .before .before in
     let entry = at-enum-told .before .before .before .before .before .before in
     known-events _ _ _ (at-enum-told .enum-told .given .1) (entry .pre)
-
-enum-told-2 : tie.Need-enum-told-2
-enum-told-2 c = search needs
-
-same-length : tie.Need-same-length
-same-length c = search needs
-
-same-length-2 : tie.Need-same-length-2
-same-length-2 c = search needs
-
-same-length-3 : tie.Need-same-length-3
-same-length-3 c = search needs
 
 returns : tie.Need-returns
 unfolding phase-effect
@@ -42,15 +21,6 @@ returns c =
     let entry = at-phase .before .before .before .before .before .before in
     handles (entry .args .s) (Due (at-phase .phase .given .0 .0)) (at-phase .phase .given .1) _ _ _ _ _ _ _ _
     (at-header-line .header-line .ensures)
-
-same-length-4 : tie.Need-same-length-4
-same-length-4 c = search needs
-
-same-length-5 : tie.Need-same-length-5
-same-length-5 c = search needs
-
-same-length-6 : tie.Need-same-length-6
-same-length-6 c = search needs
 
 returns-2 : tie.Need-returns-2
 unfolding phase-effect
@@ -70,17 +40,17 @@ pub known-line-spec : {M : Type 1} → statement M
 known-line-spec =
     tie.close
     (tie.spec
-    enum-known-phase
-    header-line-requires
-    enum-told
+    (λ c. search needs)
+    (λ c κs. search needs)
+    (λ c. search needs)
     event-line-requires
-    enum-told-2
-    same-length
-    same-length-2
-    same-length-3
+    (λ c. search needs)
+    (λ c. search needs)
+    (λ c. search needs)
+    (λ c. search needs)
     returns
-    same-length-4
-    same-length-5
-    same-length-6
+    (λ c. search needs)
+    (λ c. search needs)
+    (λ c. search needs)
     returns-2
     returns-3)

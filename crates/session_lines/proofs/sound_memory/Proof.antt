@@ -6,12 +6,6 @@ use borrow.Author.Needs.{needs}
 use Rattle.session_lines.proofs.sound_memory.Statement.{statement}
 use Rattle.session_lines.proofs.sound_memory.Tie as tie
 
-reads-events-requires : tie.Need-reads-events-requires
-reads-events-requires c κs = search needs
-
-is-sound-requires : tie.Need-is-sound-requires
-is-sound-requires c κs = search needs
-
 returns : tie.Need-returns
 returns c =
     let at-if1 = c .before .before .before in
@@ -22,4 +16,4 @@ returns-2 : tie.Need-returns-2
 returns-2 c = known-unread _ _ (sym (c .before .reads-events .ensures) ∙ c .if1 .left)
 
 pub sound-memory-spec : {M : Type 1} → statement M
-sound-memory-spec = tie.close (tie.spec reads-events-requires is-sound-requires returns returns-2)
+sound-memory-spec = tie.close (tie.spec (λ c κs. search needs) (λ c κs. search needs) returns returns-2)

@@ -10,12 +10,6 @@ use borrow.Author.Needs.{needs}
 use Rattle.session_machine.proofs.is_sound.Statement.{statement}
 use Rattle.session_machine.proofs.is_sound.Tie as tie
 
-node-extent-requires : tie.Need-node-extent-requires
-node-extent-requires c κs = search needs
-
-bucket-extent-requires : tie.Need-bucket-extent-requires
-bucket-extent-requires c κs = search needs
-
 slice-aggregate-check : tie.Need-slice-aggregate-check
 slice-aggregate-check c =
     let at-node-extent = c .before .before in
@@ -27,9 +21,6 @@ slice-aggregate-check-2 c =
     let at-bucket-extent = c .before .before in
     let entry = at-bucket-extent .before .before .before .before in
     sym (length-take-le (at-bucket-extent .bucket-extent .result) (now (entry .args .bs)) (at-bucket-extent .bucket-extent .ensures .1))
-
-check-requires : tie.Need-check-requires
-check-requires c κs = search needs
 
 returns : tie.Need-returns
 unfolding told
@@ -46,9 +37,9 @@ pub is-sound-spec : {M : Type 1} → statement M
 is-sound-spec =
     tie.close
     (tie.spec
-    node-extent-requires
-    bucket-extent-requires
+    (λ c κs. search needs)
+    (λ c κs. search needs)
     slice-aggregate-check
     slice-aggregate-check-2
-    check-requires
+    (λ c κs. search needs)
     returns)

@@ -5,11 +5,8 @@ use borrow.Author.Needs.{needs}
 use Rattle.session_machine.proofs.start.Statement.{statement}
 use Rattle.session_machine.proofs.start.Tie as tie
 
-start-requires : tie.Need-start-requires
-start-requires c κs = search needs
-
 returns : tie.Need-returns
 returns c = λ h ns bs e. unwritten h ns bs _ _ (c .start .ensures (node-part h ns) (bucket-part h bs) e)
 
 pub start-spec : {M : Type 1} → statement M
-start-spec = tie.close (tie.spec start-requires returns)
+start-spec = tie.close (tie.spec (λ c κs. search needs) returns)

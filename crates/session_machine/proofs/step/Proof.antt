@@ -10,23 +10,11 @@ use borrow.Author.Needs.{needs}
 use Rattle.session_machine.proofs.step.Statement.{statement}
 use Rattle.session_machine.proofs.step.Tie as tie
 
-node-extent-requires : tie.Need-node-extent-requires
-node-extent-requires c κs = search needs
-
-bucket-extent-requires : tie.Need-bucket-extent-requires
-bucket-extent-requires c κs = search needs
-
-slice-relend-prefix-step : tie.Need-slice-relend-prefix-step
-slice-relend-prefix-step c = search needs
-
 slice-aggregate-step : tie.Need-slice-aggregate-step
 slice-aggregate-step c =
     let at-node-extent = c .before .before in
     let entry = at-node-extent .before .before .before in
     sym (length-take-le (at-node-extent .node-extent .result) (now (entry .args .ns)) (at-node-extent .node-extent .ensures .1))
-
-slice-relend-prefix-step-2 : tie.Need-slice-relend-prefix-step-2
-slice-relend-prefix-step-2 c = search needs
 
 slice-aggregate-step-2 : tie.Need-slice-aggregate-step-2
 slice-aggregate-step-2 c =
@@ -45,12 +33,6 @@ step-requires c κs =
     entry .pre
     ∙ ap sound (sym (same-part (call .h) (now (call .ns)) (now (call .bs)) (a .result) (b .result) (a .ensures .0) (b .ensures .0) (call .m)))
 
-same-length : tie.Need-same-length
-same-length c = search needs
-
-same-length-2 : tie.Need-same-length-2
-same-length-2 c = search needs
-
 returns : tie.Need-returns
 returns c =
     let at-step = c .before .before .before .before in
@@ -67,13 +49,13 @@ pub step-spec : {M : Type 1} → statement M
 step-spec =
     tie.close
     (tie.spec
-    node-extent-requires
-    bucket-extent-requires
-    slice-relend-prefix-step
+    (λ c κs. search needs)
+    (λ c κs. search needs)
+    (λ c. search needs)
     slice-aggregate-step
-    slice-relend-prefix-step-2
+    (λ c. search needs)
     slice-aggregate-step-2
     step-requires
-    same-length
-    same-length-2
+    (λ c. search needs)
+    (λ c. search needs)
     returns)

@@ -12,12 +12,6 @@ use borrow.Author.Needs.{needs}
 use Rattle.session_state.proofs.new_session.Statement.{statement}
 use Rattle.session_state.proofs.new_session.Tie as tie
 
-zero-config-requires : tie.Need-zero-config-requires
-zero-config-requires c κs = search needs
-
-zero-state-requires : tie.Need-zero-state-requires
-zero-state-requires c κs = search needs
-
 returns : tie.Need-returns
 unfolding new-session empty-header
 returns c =
@@ -25,4 +19,4 @@ returns c =
     ∙ ap (λ (m : State). session (Due Tasks) (header zero-config 0 0) m) (c .zero-state .ensures)
 
 pub new-session-spec : {M : Type 1} → statement M
-new-session-spec = tie.close (tie.spec zero-config-requires zero-state-requires returns)
+new-session-spec = tie.close (tie.spec (λ c κs. search needs) (λ c κs. search needs) returns)

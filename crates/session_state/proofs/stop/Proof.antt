@@ -6,15 +6,6 @@ use borrow.Author.Needs.{needs}
 use Rattle.session_state.proofs.stop.Statement.{statement}
 use Rattle.session_state.proofs.stop.Tie as tie
 
-refusal-requires : tie.Need-refusal-requires
-refusal-requires c κs = search needs
-
-after-line-requires : tie.Need-after-line-requires
-after-line-requires c κs = search needs
-
-same-length : tie.Need-same-length
-same-length c = search needs
-
 returns : tie.Need-returns
 unfolding stopped
 returns c =
@@ -22,4 +13,4 @@ returns c =
     session-as _ _ _ _ _ (c .after-line .ensures) (record { next = refl; wrote = at-refusal .refusal .ensures })
 
 pub stop-spec : {M : Type 1} → statement M
-stop-spec = tie.close (tie.spec refusal-requires after-line-requires same-length returns)
+stop-spec = tie.close (tie.spec (λ c κs. search needs) (λ c κs. search needs) (λ c. search needs) returns)

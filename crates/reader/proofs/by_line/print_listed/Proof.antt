@@ -3,7 +3,8 @@
 use mathlib.Core.Path.{sym}
 use denote.Ref.{now}
 use lib.Seq.{length-take-le}
-use Rattle.reader.proofs.Places.{counts-few, prints-counted, prints-refused, prints-none}
+use Rattle.session_lines.proofs.Laws.{few-listed}
+use Rattle.reader.proofs.Places.{prints-counted, prints-refused, prints-none}
 use native.Mathlib.Omega.{arith}
 use borrow.Author.Needs.{needs}
 use Rattle.reader.proofs.by_line.print_listed.Statement.{statement}
@@ -31,14 +32,14 @@ array-share-prefix-w : tie.Need-array-share-prefix-w
 array-share-prefix-w c =
     let at-listed = c .before .before in
     let l = at-listed .before .before .before .list in
-    omega (arith, counts-few _ _ (at-listed .listed .given .0 .0) (l .result) (l .ensures .0) (at-listed .listed .given .1), l .kept .1 .1 .1 .0)
+    omega (arith, few-listed _ _ (at-listed .listed .given .0 .0) (l .result) (l .ensures .0) (at-listed .listed .given .1), l .kept .1 .1 .1 .0)
 
 slice-aggregate-print-listed : tie.Need-slice-aggregate-print-listed
 slice-aggregate-print-listed c =
     let at-listed = c .before .before .before in
     let l = at-listed .before .before .before .list in
     let n = at-listed .listed .given .0 .0 in
-    let few = counts-few _ _ n (l .result) (l .ensures .0) (at-listed .listed .given .1) in
+    let few = few-listed _ _ n (l .result) (l .ensures .0) (at-listed .listed .given .1) in
     sym (length-take-le n (l .last .1 .1 .1 .0) (omega (arith, few, l .kept .1 .1 .1 .0)))
 
 returns : tie.Need-returns

@@ -1,10 +1,9 @@
 -- `reader::by_line::read_end` meets its contract. Each phase, as `phase-end` says. Assumes nothing.
-use denote.Ref.{now}
 use mathlib.Core.Path.{sym, ap, _∙_}
 use Rattle.recording.specs.declared.Verdict.the-variants.{Refusal}
 use Rattle.recording.specs.declared.ReaderPhase.the-variants.{Due, Event, Printed, Listed, Decided}
 use Rattle.reader_state.specs.Standing.{missing, answer-at-end, phase-end}
-use Rattle.reader.proofs.Turns.{reads-end, ends-answered, ends-judged}
+use Rattle.reader.proofs.Turns.{reads-end, ends-answered, judged-refused, judged-accepted}
 use borrow.Author.Needs.{needs}
 use Rattle.reader.proofs.by_line.read_end.Statement.{statement}
 use Rattle.reader.proofs.by_line.read_end.Tie as tie
@@ -12,74 +11,88 @@ use Rattle.reader.proofs.by_line.read_end.Tie as tie
 returns : tie.Need-returns
 unfolding phase-end
 returns c =
-    let at-if1 = c .before .before in
-    let at-match = at-if1 .before .before .before in
-    let at-missing = at-match .before .before in
-    let entry = at-missing .before .before .before in
-    let call = entry .args in
-    reads-end (call .r) (Due (at-match .phase .given .0 .0)) (at-match .phase .given .1) _ _ _ _
-    (rw (sym (at-if1 .before .optional .ensures) ∙ at-if1 .if1 .taken)
-    (ends-judged (call .r .header) _ _ (now (call .ns)) (now (call .bs)) (at-missing .missing .ensures) _ (c .judge-opening .ensures)))
+    let at-judge-opening = c .before in
+    let at-if1 = at-judge-opening .before .before in
+    let at-optional = at-if1 .before in
+    let at-phase = at-optional .before .before in
+    let entry = at-phase .before .before .before .before .before in
+    let told = at-phase .phase .given in
+    let j = at-judge-opening .judge-opening in
+    reads-end (entry .args .r) (Due (told .0 .0)) (told .1) _ _ _ _
+    (rw (sym (at-optional .optional .ensures) ∙ at-if1 .if1 .taken) (judged-refused (j .result) _ _ (j .ensures) (c .if2 .taken)))
 
 returns-2 : tie.Need-returns-2
 unfolding phase-end
 returns-2 c =
-    let at-match = c .before .before .before in
-    let at-missing = at-match .before .before in
+    let at-judge-opening = c .before in
+    let at-if1 = at-judge-opening .before .before in
+    let at-optional = at-if1 .before in
+    let at-phase = at-optional .before .before in
+    let at-missing = at-phase .before .before in
     let entry = at-missing .before .before .before in
-    let call = entry .args in
-    reads-end (call .r) (Listed (at-match .phase2 .given .0 .0)) (at-match .phase2 .given .1) _ _ _ _
-    (rw (c .before .if2 .taken) (c .listed-end .ensures))
+    let told = at-phase .phase .given in
+    let j = at-judge-opening .judge-opening in
+    reads-end (entry .args .r) (Due (told .0 .0)) (told .1) _ _ _ _
+    (rw (sym (at-optional .optional .ensures) ∙ at-if1 .if1 .taken)
+    (judged-accepted (j .result) _ _ (j .ensures) (c .if2 .left) (at-missing .missing .ensures)))
 
 returns-3 : tie.Need-returns-3
 unfolding phase-end
 returns-3 c =
-    let at-match = c .before .before .before in
-    let at-missing = at-match .before .before in
-    let entry = at-missing .before .before .before in
-    let call = entry .args in
-    reads-end (call .r) (Due (at-match .phase .given .0 .0)) (at-match .phase .given .1) _ _ _ _
-    (rw (sym (c .before .optional .ensures) ∙ c .if1 .left) (ap Refusal (at-missing .missing .ensures)))
+    let at-if3 = c .before in
+    let at-phase2 = at-if3 .before .before in
+    let entry = at-phase2 .before .before .before .before .before in
+    let told = at-phase2 .phase2 .given in
+    reads-end (entry .args .r) (Listed (told .0 .0)) (told .1) _ _ _ _ (rw (at-if3 .if3 .taken) (c .listed-end .ensures))
 
 returns-4 : tie.Need-returns-4
-unfolding phase-end answer-at-end
+unfolding phase-end
 returns-4 c =
-    let at-match = c .before in
-    let at-missing = at-match .before .before in
+    let at-optional = c .before in
+    let at-phase = at-optional .before .before in
+    let at-missing = at-phase .before .before in
     let entry = at-missing .before .before .before in
-    let call = entry .args in
-    reads-end (call .r) (Event) (at-match .enum-told .given .1) _ _ _ _
-    (ends-answered (call .r .phase) (Event) (at-match .enum-told .given .1) _ _ (at-missing .missing .ensures) _ (c .answer-at-end .ensures))
+    let told = at-phase .phase .given in
+    reads-end (entry .args .r) (Due (told .0 .0)) (told .1) _ _ _ _
+    (rw (sym (at-optional .optional .ensures) ∙ c .if1 .left) (ap Refusal (at-missing .missing .ensures)))
 
 returns-5 : tie.Need-returns-5
 unfolding phase-end answer-at-end
 returns-5 c =
-    let at-match = c .before in
-    let at-missing = at-match .before .before in
+    let at-enum-told = c .before in
+    let at-missing = at-enum-told .before .before in
     let entry = at-missing .before .before .before in
-    let call = entry .args in
-    reads-end (call .r) (Printed _ _) (at-match .enum-told2 .given .1) _ _ _ _
-    (ends-answered (call .r .phase) (Printed _ _) (at-match .enum-told2 .given .1) _ _ (at-missing .missing .ensures) _ (c .answer-at-end2 .ensures))
+    reads-end (entry .args .r) (Event) (at-enum-told .enum-told .given .1) _ _ _ _
+    (ends-answered (entry .args .r .phase) (Event) (at-enum-told .enum-told .given .1) _ _ (at-missing .missing .ensures) _ (c .answer-at-end .ensures))
 
 returns-6 : tie.Need-returns-6
-unfolding phase-end
+unfolding phase-end answer-at-end
 returns-6 c =
-    let at-match = c .before .before in
-    let at-missing = at-match .before .before in
+    let at-enum-told2 = c .before in
+    let at-missing = at-enum-told2 .before .before in
     let entry = at-missing .before .before .before in
-    let call = entry .args in
-    reads-end (call .r) (Listed (at-match .phase2 .given .0 .0)) (at-match .phase2 .given .1) _ _ _ _
-    (rw (c .if2 .left) (ap Refusal (at-missing .missing .ensures ∙ ap missing (c .if2 .left))))
+    reads-end (entry .args .r) (Printed _ _) (at-enum-told2 .enum-told2 .given .1) _ _ _ _
+    (ends-answered (entry .args .r .phase) (Printed _ _) (at-enum-told2 .enum-told2 .given .1) _ _ (at-missing .missing .ensures) _
+    (c .answer-at-end2 .ensures))
 
 returns-7 : tie.Need-returns-7
-unfolding phase-end answer-at-end
+unfolding phase-end
 returns-7 c =
-    let at-match = c .before in
-    let at-missing = at-match .before .before in
+    let at-phase2 = c .before .before in
+    let at-missing = at-phase2 .before .before in
     let entry = at-missing .before .before .before in
-    let call = entry .args in
-    reads-end (call .r) (Decided _) (at-match .enum-told3 .given .1) _ _ _ _
-    (ends-answered (call .r .phase) (Decided _) (at-match .enum-told3 .given .1) _ _ (at-missing .missing .ensures) _ (c .answer-at-end3 .ensures))
+    let told = at-phase2 .phase2 .given in
+    reads-end (entry .args .r) (Listed (told .0 .0)) (told .1) _ _ _ _
+    (rw (c .if3 .left) (ap Refusal (at-missing .missing .ensures ∙ ap missing (c .if3 .left))))
+
+returns-8 : tie.Need-returns-8
+unfolding phase-end answer-at-end
+returns-8 c =
+    let at-enum-told3 = c .before in
+    let at-missing = at-enum-told3 .before .before in
+    let entry = at-missing .before .before .before in
+    reads-end (entry .args .r) (Decided _) (at-enum-told3 .enum-told3 .given .1) _ _ _ _
+    (ends-answered (entry .args .r .phase) (Decided _) (at-enum-told3 .enum-told3 .given .1) _ _ (at-missing .missing .ensures) _ (c .answer-at-end3 .ensures))
 
 pub read-end-spec : {M : Type 1} → statement M
 read-end-spec =
@@ -90,17 +103,18 @@ read-end-spec =
     (λ c κs. search needs)
     (λ c κs. search needs)
     returns
-    (λ c. search needs)
-    (λ c κs. search needs)
-    (λ c. search needs)
-    (λ c κs. search needs)
-    (λ c. search needs)
-    (λ c κs. search needs)
     returns-2
     (λ c. search needs)
     (λ c κs. search needs)
+    (λ c. search needs)
+    (λ c κs. search needs)
+    (λ c. search needs)
+    (λ c κs. search needs)
     returns-3
+    (λ c. search needs)
+    (λ c κs. search needs)
     returns-4
     returns-5
     returns-6
-    returns-7)
+    returns-7
+    returns-8)

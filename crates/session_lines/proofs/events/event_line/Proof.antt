@@ -6,30 +6,6 @@ use borrow.Author.Needs.{needs}
 use Rattle.session_lines.proofs.events.event_line.Statement.{statement}
 use Rattle.session_lines.proofs.events.event_line.Tie as tie
 
-event-line-requires : tie.Need-event-line-requires
-event-line-requires c κs = search needs
-
-enum-known-k : tie.Need-enum-known-k
-enum-known-k c = search needs
-
-start-task-requires : tie.Need-start-task-requires
-start-task-requires c κs = search needs
-
-enum-known-k-2 : tie.Need-enum-known-k-2
-enum-known-k-2 c = search needs
-
-step-task-requires : tie.Need-step-task-requires
-step-task-requires c κs = search needs
-
-enum-told : tie.Need-enum-told
-enum-told c = search needs
-
-stop-requires : tie.Need-stop-requires
-stop-requires c κs = search needs
-
-same-length : tie.Need-same-length
-same-length c = search needs
-
 returns : tie.Need-returns
 unfolding event-effect
 returns c =
@@ -39,15 +15,6 @@ returns c =
     let entry = at-event-line .before .before .before .before .before in
     rw (sym (at-event-line .event-line .ensures) ∙ at-k .k .given .1) (at-start-task .start-task .ensures _ _ (entry .pre))
 
-same-length-2 : tie.Need-same-length-2
-same-length-2 c = search needs
-
-same-length-3 : tie.Need-same-length-3
-same-length-3 c = search needs
-
-same-length-4 : tie.Need-same-length-4
-same-length-4 c = search needs
-
 returns-2 : tie.Need-returns-2
 unfolding event-effect
 returns-2 c =
@@ -55,9 +22,6 @@ returns-2 c =
     let at-k2 = at-step-task .before .before .before .before .before in
     let at-event-line = at-k2 .before .before in
     rw (sym (at-event-line .event-line .ensures) ∙ at-k2 .k2 .given .1) (at-step-task .step-task .ensures)
-
-same-length-5 : tie.Need-same-length-5
-same-length-5 c = search needs
 
 returns-3 : tie.Need-returns-3
 unfolding event-effect
@@ -71,18 +35,18 @@ pub event-line-spec : {M : Type 1} → statement M
 event-line-spec =
     tie.close
     (tie.spec
-    event-line-requires
-    enum-known-k
-    start-task-requires
-    enum-known-k-2
-    step-task-requires
-    enum-told
-    stop-requires
-    same-length
+    (λ c κs. search needs)
+    (λ c. search needs)
+    (λ c κs. search needs)
+    (λ c. search needs)
+    (λ c κs. search needs)
+    (λ c. search needs)
+    (λ c κs. search needs)
+    (λ c. search needs)
     returns
-    same-length-2
-    same-length-3
-    same-length-4
+    (λ c. search needs)
+    (λ c. search needs)
+    (λ c. search needs)
     returns-2
-    same-length-5
+    (λ c. search needs)
     returns-3)

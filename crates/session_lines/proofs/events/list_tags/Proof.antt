@@ -10,20 +10,11 @@ use borrow.Author.Needs.{needs}
 use Rattle.session_lines.proofs.events.list_tags.Statement.{statement}
 use Rattle.session_lines.proofs.events.list_tags.Tie as tie
 
-node-extent-requires : tie.Need-node-extent-requires
-node-extent-requires c κs = search needs
-
-bucket-extent-requires : tie.Need-bucket-extent-requires
-bucket-extent-requires c κs = search needs
-
 slice-aggregate-node-size : tie.Need-slice-aggregate-node-size
 slice-aggregate-node-size c =
     let at-node-extent = c .before .before .before in
     let entry = at-node-extent .before .before .before .before .before in
     sym (length-take-le (at-node-extent .node-extent .result) (now (entry .args .ns)) (at-node-extent .node-extent .ensures .1))
-
-node-size-requires : tie.Need-node-size-requires
-node-size-requires c κs = search needs
 
 slice-aggregate-list : tie.Need-slice-aggregate-list
 slice-aggregate-list c =
@@ -37,18 +28,6 @@ slice-aggregate-list-2 c =
     let entry = at-bucket-extent .before .before .before .before .before .before in
     sym
     (length-take-le (at-bucket-extent .bucket-extent .result) (now (entry .args .bs)) (at-bucket-extent .bucket-extent .ensures .1))
-
-slice-aggregate-list-3 : tie.Need-slice-aggregate-list-3
-slice-aggregate-list-3 c = search needs
-
-list-requires : tie.Need-list-requires
-list-requires c κs = search needs
-
-enum-known-listed : tie.Need-enum-known-listed
-enum-known-listed c = search needs
-
-cast-e : tie.Need-cast-e
-cast-e c = search needs
 
 array-share-prefix-w : tie.Need-array-share-prefix-w
 array-share-prefix-w c =
@@ -65,18 +44,6 @@ slice-aggregate-listing c =
     let few = few-listed _ _ n (l .result) (l .ensures .0) (at-listed .listed .given .1) in
     sym (length-take-le n (l .last .1 .1 .1 .0) (omega (arith, few, l .kept .1 .1 .1 .0)))
 
-listing-requires : tie.Need-listing-requires
-listing-requires c κs = search needs
-
-enum-known-listed-2 : tie.Need-enum-known-listed-2
-enum-known-listed-2 c = search needs
-
-refusal-requires : tie.Need-refusal-requires
-refusal-requires c κs = search needs
-
-same-length : tie.Need-same-length
-same-length c = search needs
-
 returns : tie.Need-returns
 returns c =
     let at-listed = c .before .before .before .before .before .before in
@@ -92,9 +59,6 @@ returns c =
     lists-count (call .s) (now (call .ns)) (now (call .bs)) (a .result) (b .result) (a .ensures .0) (b .ensures .0)
     (l .result) (replicate 64 0) (l .last .1 .1 .1 .0) (l .ensures .0) (l .ensures .1) (at-listed .listed .given .0 .0)
     (at-node-size .node-size .result) _ _ (at-listed .listed .given .1) (at-node-size .node-size .ensures) (c .before .before .listing .ensures)
-
-same-length-2 : tie.Need-same-length-2
-same-length-2 c = search needs
 
 returns-2 : tie.Need-returns-2
 returns-2 c =
@@ -115,22 +79,22 @@ pub list-tags-spec : {M : Type 1} → statement M
 list-tags-spec =
     tie.close
     (tie.spec
-    node-extent-requires
-    bucket-extent-requires
+    (λ c κs. search needs)
+    (λ c κs. search needs)
     slice-aggregate-node-size
-    node-size-requires
+    (λ c κs. search needs)
     slice-aggregate-list
     slice-aggregate-list-2
-    slice-aggregate-list-3
-    list-requires
-    enum-known-listed
-    cast-e
+    (λ c. search needs)
+    (λ c κs. search needs)
+    (λ c. search needs)
+    (λ c. search needs)
     array-share-prefix-w
     slice-aggregate-listing
-    listing-requires
-    enum-known-listed-2
-    refusal-requires
-    same-length
+    (λ c κs. search needs)
+    (λ c. search needs)
+    (λ c κs. search needs)
+    (λ c. search needs)
     returns
-    same-length-2
+    (λ c. search needs)
     returns-2)

@@ -5,19 +5,10 @@ use borrow.Author.Needs.{needs}
 use Rattle.session_lines.proofs.events.listing.Statement.{statement}
 use Rattle.session_lines.proofs.events.listing.Tie as tie
 
-list-tags-requires : tie.Need-list-tags-requires
-list-tags-requires c κs = search needs
-
-after-line-requires : tie.Need-after-line-requires
-after-line-requires c κs = search needs
-
-same-length : tie.Need-same-length
-same-length c = search needs
-
 returns : tie.Need-returns
 returns c =
     let at-list-tags = c .before .before .before .before .before in
     session-as _ _ _ _ _ (c .after-line .ensures) (record { next = refl; wrote = at-list-tags .list-tags .ensures })
 
 pub listing-spec : {M : Type 1} → statement M
-listing-spec = tie.close (tie.spec list-tags-requires after-line-requires same-length returns)
+listing-spec = tie.close (tie.spec (λ c κs. search needs) (λ c κs. search needs) (λ c. search needs) returns)

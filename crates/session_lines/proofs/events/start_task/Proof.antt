@@ -5,18 +5,6 @@ use borrow.Author.Needs.{needs}
 use Rattle.session_lines.proofs.events.start_task.Statement.{statement}
 use Rattle.session_lines.proofs.events.start_task.Tie as tie
 
-start-requires : tie.Need-start-requires
-start-requires c κs = search needs
-
-output-requires : tie.Need-output-requires
-output-requires c κs = search needs
-
-after-line-requires : tie.Need-after-line-requires
-after-line-requires c κs = search needs
-
-same-length : tie.Need-same-length
-same-length c = search needs
-
 returns : tie.Need-returns
 returns c =
     let at-output = c .before .before .before in
@@ -28,4 +16,4 @@ returns c =
 
 pub start-task-spec : {M : Type 1} → statement M
 start-task-spec =
-    tie.close (tie.spec start-requires output-requires after-line-requires same-length returns)
+    tie.close (tie.spec (λ c κs. search needs) (λ c κs. search needs) (λ c κs. search needs) (λ c. search needs) returns)

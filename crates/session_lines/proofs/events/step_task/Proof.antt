@@ -6,24 +6,6 @@ use borrow.Author.Needs.{needs}
 use Rattle.session_lines.proofs.events.step_task.Statement.{statement}
 use Rattle.session_lines.proofs.events.step_task.Tie as tie
 
-step-requires : tie.Need-step-requires
-step-requires c κs = search needs
-
-output-requires : tie.Need-output-requires
-output-requires c κs = search needs
-
-after-line-requires : tie.Need-after-line-requires
-after-line-requires c κs = search needs
-
-same-length : tie.Need-same-length
-same-length c = search needs
-
-same-length-2 : tie.Need-same-length-2
-same-length-2 c = search needs
-
-same-length-3 : tie.Need-same-length-3
-same-length-3 c = search needs
-
 returns : tie.Need-returns
 returns c =
     let at-output = c .before .before .before in
@@ -36,10 +18,10 @@ pub step-task-spec : {M : Type 1} → statement M
 step-task-spec =
     tie.close
     (tie.spec
-    step-requires
-    output-requires
-    after-line-requires
-    same-length
-    same-length-2
-    same-length-3
+    (λ c κs. search needs)
+    (λ c κs. search needs)
+    (λ c κs. search needs)
+    (λ c. search needs)
+    (λ c. search needs)
+    (λ c. search needs)
     returns)

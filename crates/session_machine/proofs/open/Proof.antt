@@ -1,12 +1,11 @@
--- `game_text::open_machine` meets its contract: the contract of `opening::open` over the session's part of the pools, put back into the whole of
--- them. Assumes nothing.
+-- `session_machine::open` meets its contract: the opening over the part of the pools, put back into the whole of them. Assumes nothing.
 use mathlib.Core.Path.{sym}
-use lib.Seq.{length-take-le}
 use denote.Ref.{now}
+use lib.Seq.{length-take-le}
+use Rattle.session_machine.proofs.Laws.{opens}
 use borrow.Author.Needs.{needs}
-use Rattle.game_text.proofs.Laws.{opened-at}
-use Rattle.game_text.proofs.open_machine.Statement.{statement}
-use Rattle.game_text.proofs.open_machine.Tie as tie
+use Rattle.session_machine.proofs.open.Statement.{statement}
+use Rattle.session_machine.proofs.open.Tie as tie
 
 slice-aggregate-open : tie.Need-slice-aggregate-open
 slice-aggregate-open c =
@@ -22,18 +21,17 @@ slice-aggregate-open-2 c =
 
 returns : tie.Need-returns
 returns c =
-    let at-open = c .before .before .before .before .before .before in
+    let at-open = c .before .before .before .before in
     let at-bucket-extent = at-open .before .before .before .before in
     let at-node-extent = at-bucket-extent .before in
-    let entry = at-node-extent .before .before .before in
+    let call = at-node-extent .before .before .before .args in
     let a = at-node-extent .node-extent in
     let b = at-bucket-extent .bucket-extent in
     let o = at-open .«open» in
-    opened-at (entry .args .h) (now (entry .args .ns)) (now (entry .args .bs)) (a .result) (b .result) (a .ensures .0) (b .ensures .0)
-    (o .result .state) _ _ (o .result .refusal) (o .ensures .0) (o .ensures .1) _ (c .stands .ensures)
+    opens (call .h) (now (call .ns)) (now (call .bs)) (a .result) (b .result) (a .ensures .0) (b .ensures .0) (o .result) _ _ (o .ensures .0) (o .ensures .1)
 
-pub open-machine-spec : {M : Type 1} → statement M
-open-machine-spec =
+pub open-spec : {M : Type 1} → statement M
+open-spec =
     tie.close
     (tie.spec
     (λ c κs. search needs)
@@ -42,7 +40,6 @@ open-machine-spec =
     slice-aggregate-open
     (λ c. search needs)
     slice-aggregate-open-2
-    (λ c κs. search needs)
     (λ c κs. search needs)
     (λ c. search needs)
     (λ c. search needs)
