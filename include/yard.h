@@ -3,7 +3,7 @@
  * Link libyard_c.a (`rt staticlib yard_c` writes target/staticlib/libyard_c.a, examples/firmware/build one for a board), and for schedule_run
  * libschedule_c.a, beside it or alone. They need memcpy and memset, on a 32-bit board also 64-bit division, allocate nothing and keep no state of their
  * own, and their functions always return. Every function is total: any numbers and any words are allowed, and each answers as is said here. Each is proved
- * equal to its definition (crates/yard_c/specs: Calls, Runs; crates/schedule_c/specs: Whole). examples/firmware/build compares the parameters declared
+ * equal to its definition (crates/c_calls/specs: Calls, Runs; crates/schedule_c/specs: Whole). examples/firmware/build compares the parameters declared
  * here with the libraries'; nothing else checks this header against the source.
  *
  * WORDS LENT

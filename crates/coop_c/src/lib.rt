@@ -22,12 +22,12 @@ const SPOILT: u32 = 264;
 pub extern "C" fn coop_open(tasks: u32, w: &mut [u32], vs: &mut [u32]) -> u32
     ensures { λ r. ⌜ called r (now (w .exit)) (now (vs .exit)) [] ≡ c-open tasks (now (w .entry)) (now (vs .entry)) ⌝ }
 {
-    if w.len() != coop_state_words::STATE_WORDS {
+    if w.len() != coop_c_words::STATE_WORDS {
         return SPOILT;
     }
     let o = coop_opening::open(tasks, vs);
     let s = o.state;
-    coop_state_words::put_state(w, s);
+    coop_c_words::put_state(w, s);
     let why = o.refusal;
     yard_answers::open_number(why)
 }
@@ -64,14 +64,14 @@ fn started(w: &mut [u32], k: u32, call: Call, op: u32, tag: u32, vs: &[u32], out
     ensures { λ r. ⌜ called r (now (w .exit)) (now (vs .entry)) (now (out .exit))
         ≡ c-start call (now (w .entry)) k op tag (now (vs .entry)) (now (out .entry)) ⌝ }
 {
-    let ok = coop_state_words::state_fits(w) & (out.len() == 4);
+    let ok = coop_c_words::state_fits(w) & (out.len() == 4);
     if !ok {
         return SPOILT;
     }
-    let s = coop_state_words::state_of_words(w);
+    let s = coop_c_words::state_of_words(w);
     let r = coop::start(s, k, call, op, tag, vs);
     let z = r.state;
-    coop_state_words::put_state(w, z);
+    coop_c_words::put_state(w, z);
     let o = r.out;
     put_output(out, o)
 }
@@ -149,14 +149,14 @@ pub extern "C" fn coop_step(w: &mut [u32], k: u32, vs: &mut [u32], out: &mut [u3
     ensures { λ r. ⌜ called r (now (w .exit)) (now (vs .exit)) (now (out .exit))
         ≡ c-step (now (w .entry)) k (now (vs .entry)) (now (out .entry)) ⌝ }
 {
-    let ok = coop_state_words::state_fits(w) & (out.len() == 4);
+    let ok = coop_c_words::state_fits(w) & (out.len() == 4);
     if !ok {
         return SPOILT;
     }
-    let s = coop_state_words::state_of_words(w);
+    let s = coop_c_words::state_of_words(w);
     let r = coop::step(s, k, vs);
     let z = r.state;
-    coop_state_words::put_state(w, z);
+    coop_c_words::put_state(w, z);
     let o = r.out;
     put_output(out, o)
 }
@@ -182,11 +182,11 @@ pub extern "C" fn coop_show(w: &[u32], k: u32, vs: &[u32], out: &mut [u32]) -> u
     ensures { λ r. ⌜ called r (now (w .entry)) (now (vs .entry)) (now (out .exit))
         ≡ c-show (now (w .entry)) k (now (vs .entry)) (now (out .entry)) ⌝ }
 {
-    let ok = coop_state_words::state_fits(w) & (out.len() == 1);
+    let ok = coop_c_words::state_fits(w) & (out.len() == 1);
     if !ok {
         return 0;
     }
-    let s = coop_state_words::state_of_words(w);
+    let s = coop_c_words::state_of_words(w);
     let n = tags_shown(s, k, vs);
     if n == 0 {
         return 0;

@@ -23,7 +23,7 @@ use Rattle.dispatcher.specs.InOrder.{move-keeps}
 use Rattle.dispatch.specs.Turned.{next-to-step, chosen-after}
 use Rattle.dispatch.proofs.TurnLaws.{names-its-step}
 use Rattle.schedule_words.proofs.Laws.{output-length, over-none, over-then}
-use Rattle.dispatch_turns.specs.Turns.{names, turns-of, turn-words, Written, written, turns-written, TurnedSo, turned-so, next-turn}
+use Rattle.turns.specs.Turns.{names, turns-of, turn-words, Written, written, turns-written, TurnedSo, turned-so, next-turn}
 
 -- ---- one turn, by its outcome
 

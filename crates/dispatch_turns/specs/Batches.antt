@@ -12,7 +12,7 @@ use Rattle.spec.specs.Schedule.{Event, event, run}
 use Rattle.turns.specs.Moves.{Move, enters, turns, entered, turned, Run, move, moves, run-of}
 use Rattle.turns.specs.Promises.{IsSchedule, LinearizableRun, NoEightRun}
 use Rattle.dispatcher.specs.Theorems.{in-two-parts, is-schedule, linearizable-run, never-8-run}
-use Rattle.dispatch_turns.specs.Turns.{turns-of, turns-are-moves}
+use Rattle.turns.specs.Turns.{turns-of, turns-are-moves}
 
 pub data Batch : Type 0 where
   single : Move → Batch

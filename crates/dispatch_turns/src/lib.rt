@@ -7,7 +7,7 @@ ghost use Prim.Native.Nat.{_*_, _≤_};
 ghost use lib.ListN.{length};
 ghost use Rattle.spec.specs.Machine.{machine-of};
 ghost use Rattle.spec.specs.Sound.{sound};
-ghost use Rattle.dispatch_turns.specs.Turns.{turned-so, next-turn, written, turns-written};
+ghost use Rattle.turns.specs.Turns.{turned-so, next-turn, written, turns-written};
 
 // Whether a turn named a task, and the state that it leaves.
 pub struct Taken {

@@ -16,7 +16,7 @@ use Rattle.mattered.specs.declared.Verdict.{Verdict}
 use Rattle.mattered.specs.declared.Verdict.the-variants.{Place, NoStep, Refused}
 use Rattle.mattered.specs.EndedCalls.{EndedCall, ended-by, ended-calls, same-call, same-calls}
 use Rattle.mattered.specs.Mattered.{is-step, step-at, without, alters, first-place, mattered}
-use Rattle.mattered.specs.SessionVerdict.{events-verdict, events-lines-verdict, opened-verdict, header-verdict, lines-verdict, verdict}
+use Rattle.mattered.specs.SessionVerdict.{events-verdict, events-lines-verdict, opened-verdict, header-verdict, lines-verdict, verdict, words-after}
 
 -- one name that opens every definition of the step that mattered
 unfoldable pub mattered-definitions : ℕ
@@ -70,3 +70,10 @@ another-order = refl
 pub ten-first : say (("tasks=1\nnodes=1\nbuckets=1\n" ∷ (replicate 257 "step=1\n" ++ ("x\n" ∷ []))) ∷ []) ≡ Refused 10 ∷ []
 unfolding mattered-definitions
 ten-first = refl
+
+-- the words that a pool had, of one that the opening makes zeros: kept with a refusal alone
+pub refusal-keeps-words :
+    map (λ v. words-after v (7 ∷ 7 ∷ []) (0 ∷ 0 ∷ [])) (Refused 1 ∷ Refused 15 ∷ Place 3 ∷ NoStep ∷ [])
+    ≡ (7 ∷ 7 ∷ []) ∷ (7 ∷ 7 ∷ []) ∷ (0 ∷ 0 ∷ []) ∷ (0 ∷ 0 ∷ []) ∷ []
+unfolding words-after
+refusal-keeps-words = refl

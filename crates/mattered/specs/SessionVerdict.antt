@@ -12,7 +12,7 @@ use Rattle.session.specs.Grammar.{InputLine, input-lines}
 use Rattle.session.specs.Header.{HeaderRead, complete, incomplete, read-header}
 use Rattle.session.specs.Transcript.{events, all-events, session-opening}
 use Rattle.mattered.specs.declared.Verdict.{Verdict}
-use Rattle.mattered.specs.declared.Verdict.the-variants.{Refused}
+use Rattle.mattered.specs.declared.Verdict.the-variants.{Place, NoStep, Refused}
 use Rattle.mattered.specs.Mattered.{mattered}
 
 -- "Given a session of at most 256 events"; "Refused: 15, a session of more events"
@@ -44,3 +44,10 @@ lines-verdict ls = header-verdict (read-header ls)
 
 unfoldable pub verdict : List ℕ → Verdict
 verdict input = lines-verdict (input-lines input)
+
+-- of code that is lent both pools: the words of a pool after this verdict, by what they were before and what the opening makes of them. "A refusal gives
+-- only its number; state and slices keep every word."
+unfoldable pub words-after : Verdict → List ℕ → List ℕ → List ℕ
+words-after (Refused r) before opened = before
+words-after (Place n) before opened = opened
+words-after NoStep before opened = opened

@@ -24,8 +24,8 @@ use Rattle.mattered.specs.declared.Verdict.{Verdict}
 use Rattle.mattered.specs.declared.Verdict.the-variants.{Place, NoStep, Refused}
 use Rattle.mattered.specs.EndedCalls.{EndedCall, ended-calls}
 use Rattle.mattered.specs.Mattered.{is-step, step-at, without, alters, first-place, mattered}
-use Rattle.mattered.specs.SessionVerdict.{events-verdict}
-use Rattle.mattered_run.specs.Judged.{opened-events-verdict, words-after}
+use Rattle.mattered.specs.SessionVerdict.{events-verdict, words-after}
+use Rattle.mattered_run.specs.Judged.{opened-events-verdict}
 use Rattle.mattered_replay.specs.Replay.{all-words}
 use Rattle.mattered_replay.proofs.Replayed.{words-front}
 use Rattle.mattered_run.proofs.Compared.{words-compared}

@@ -13,18 +13,12 @@ use Rattle.spec.specs.Schedule.{Event, steps}
 use Rattle.schedule_events.specs.Events.{event-of}
 use Rattle.schedule_events.specs.EventLaws.{event-at}
 use Rattle.mattered.specs.declared.Verdict.{Verdict}
-use Rattle.mattered.specs.declared.Verdict.the-variants.{Place, NoStep, Refused}
-use Rattle.mattered.specs.SessionVerdict.{events-verdict}
+use Rattle.mattered.specs.declared.Verdict.the-variants.{Refused}
+use Rattle.mattered.specs.SessionVerdict.{events-verdict, words-after}
 
 -- the opening's refusal; 15 for more than 256 events; the place, or none
 unfoldable pub opened-events-verdict : Opened → List Event → Verdict
 opened-events-verdict o es = if eqb (o .refusal) 0 then events-verdict (o .machine) es else Refused (o .refusal)
-
--- the words of a pool after this verdict, by what they were before and what the opening makes of them
-unfoldable pub words-after : Verdict → List ℕ → List ℕ → List ℕ
-words-after (Refused r) before opened = before
-words-after (Place n) before opened = opened
-words-after NoStep before opened = opened
 
 -- that verdict, and both pools after it
 pub record Judged (g : Config) (ns bs : List ℕ) (es : List Event) (v : Verdict) (ns' bs' : List ℕ) : Type 0 where

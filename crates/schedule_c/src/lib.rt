@@ -3,8 +3,8 @@
 // and leave.
 ghost use mathlib.Core.Path.{_≡_};
 ghost use Rattle.schedule.specs.Encoding.{c-config, run-words};
-ghost use Rattle.yard_c.specs.Calls.{called};
-ghost use Rattle.yard_c.specs.Runs.{c-run};
+ghost use Rattle.c_calls.specs.Calls.{called};
+ghost use Rattle.c_calls.specs.Runs.{c-run};
 ghost use Rattle.schedule_c.specs.Whole.{c-result, c-result-of};
 
 // 256 and the number of refusal 8.

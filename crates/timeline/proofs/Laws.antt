@@ -22,7 +22,7 @@ use Rattle.session_bytes.proofs.Laws.{append-2}
 use Rattle.timeline.specs.declared.Timeline.{Timeline}
 use Rattle.timeline.specs.declared.Taken.{Taken}
 use Rattle.timeline.specs.Lines.{timeline, taken, front, count-after, after-line, timeline-line, timeline-end, TakenAs, EndedBy}
-use Rattle.timeline.specs.Rows.{column, task-columns, task-name, task-names}
+use Rattle.timeline_rows.specs.Rows.{column, task-columns, task-name, task-names}
 
 -- ---- the columns from task j on, of the n tasks that have one
 

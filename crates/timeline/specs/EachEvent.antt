@@ -32,8 +32,9 @@ use Rattle.session_state.specs.declared.Phase.the-variants.{Events}
 use Rattle.session_state.specs.declared.Session.{Session}
 use Rattle.session_state.specs.Handling.{reads-events, session-machine, with-machine, reply-effect, event-effect, phase-effect, line-effect}
 use Rattle.timeline.specs.declared.Timeline.{Timeline}
-use Rattle.timeline.specs.Rows.{blank, figure, number-field, mark, stands-first, stands-second, column, task-columns, row-columns, row}
-use Rattle.timeline.specs.Lines.{timeline, one-more, counted, columns-of, heading-of, front, count-after, TimelineEffect, after-line, timeline-line}
+use Rattle.timeline_rows.specs.Rows.{blank, figure, number-field, mark, stands-first, stands-second, column, task-columns, row-columns, row}
+use Rattle.timeline_rows.specs.Columns.{one-more, counted, columns-of, heading-of}
+use Rattle.timeline.specs.Lines.{timeline, front, count-after, TimelineEffect, after-line, timeline-line}
 
 -- ---- lines are counted by their closing bytes
 

@@ -1,20 +1,18 @@
 -- A timeline, a line of the session's input at a time: the session goes on as it does (Handling of session_state), and before what it prints for an
 -- event's line stand the row's columns, after an opening that is accepted the first row. Assumes nothing.
-use Prim.Native.Nat.{ℕ, _+_}
+use Prim.Native.Nat.{ℕ}
 use mathlib.Core.Path.{_≡_}
 use mathlib.Core.List.{List, [], _++_}
 use mathlib.Core.Bool.{Bool, true, false}
-use lib.Dec.{ltb}
 use Rattle.spec.specs.Lists.{if_then_else_}
 use Rattle.session.specs.declared.EventLine.{EventLine}
-use Rattle.session.specs.declared.EventLine.the-variants.{Start, Step, Outside}
 use Rattle.session.specs.Buffer.{buffer, append}
 use Rattle.session.specs.Grammar.{InputLine, open-line, parse-event-line}
 use Rattle.session_state.specs.declared.Session.{Session}
 use Rattle.session_state.specs.Handling.{new-session, reads-events, LineEffect, line-effect, end-effect}
 use Rattle.timeline.specs.declared.Timeline.{Timeline}
 use Rattle.timeline.specs.declared.Taken.{Taken}
-use Rattle.timeline.specs.Rows.{row-columns, heading}
+use Rattle.timeline_rows.specs.Columns.{counted, columns-of, heading-of}
 
 abbrev pub timeline : Session → ℕ → Timeline
 timeline s n = record { session = s; events = n }
@@ -25,26 +23,6 @@ taken t n = record { timeline = t; printed = n }
 -- no line is read yet
 unfoldable pub new-timeline : Timeline
 new-timeline = timeline new-session 0
-
--- events are counted from 1; the count stays at the greatest number of 32 bits
-unfoldable pub one-more : ℕ → ℕ
-one-more n = if ltb n 4294967295 then (n + 1) else n
-
--- the count after a line, where events are read
-unfoldable pub counted : EventLine → ℕ → ℕ
-counted (Start k call tag) n = one-more n
-counted (Step k) n = one-more n
-counted Outside n = n
-
--- the columns of the line's row; a line that is no event's has none. The session stands after the line as `after`
-unfoldable pub columns-of : EventLine → ℕ → Session → Session → List ℕ
-columns-of (Start k call tag) n before after = row-columns (one-more n) (after .header .config .tasks) k (before .state)
-columns-of (Step k) n before after = row-columns (one-more n) (after .header .config .tasks) k (before .state)
-columns-of Outside n before after = []
-
--- the first row, where the line has opened the set
-unfoldable pub heading-of : Bool → Session → List ℕ
-heading-of reading after = if reading then [] else heading (after .header .config .tasks)
 
 -- what is printed before the session's own line, and the count: where events are read after the line
 unfoldable pub front : EventLine → Timeline → Session → List ℕ

@@ -3,9 +3,10 @@
 ghost use mathlib.Core.Path.{_≡_};
 ghost use Prim.Native.Nat.{min};
 ghost use Rattle.session.specs.Buffer.{buffer, append};
-ghost use Rattle.timeline.specs.Rows.{figure, number-field, mark, stands-first, stands-second, column, task-columns, row-columns};
-ghost use Rattle.timeline.specs.Rows.{task-name, task-names, heading};
-ghost use Rattle.timeline.specs.Lines.{timeline, taken, one-more, counted, columns-of, heading-of, front, count-after};
+ghost use Rattle.timeline_rows.specs.Rows.{figure, number-field, mark, stands-first, stands-second, column, task-columns, row-columns};
+ghost use Rattle.timeline_rows.specs.Rows.{task-name, task-names, heading};
+ghost use Rattle.timeline_rows.specs.Columns.{one-more, counted, columns-of, heading-of};
+ghost use Rattle.timeline.specs.Lines.{timeline, taken, front, count-after};
 use crate::Taken;
 use crate::Timeline;
 use session::EventLine;

@@ -14,12 +14,12 @@ use Rattle.spec.specs.Everything.{everything}
 use Rattle.spec.specs.WholeRows.{call_tag_line_i_own_t_s_b_m_n_new-node_new-bucket_, whole-rows}
 use Rattle.spec.specs.EditEntryRows.{small, wants-node, worn}
 use Rattle.turns.specs.declared.Turn.the-variants as Turn
-use Rattle.turns.specs.Turn.{gives, idle-tasks, next-task, after-step, turn-to, turn}
+use Rattle.turns.specs.Turn.{gives, idle-tasks, next-task, after-step, turn-to, turn, refusal-of}
 use Rattle.turns.specs.Moves.{Move, enters, turns, Said, entered, turned, move, moves, run-of, stands-for, outputs}
 
 -- opens all definitions of a run
 unfoldable pub all-turns : ℕ
-unfolding everything whole-rows small wants-node worn idle-tasks next-task after-step turn-to turn move moves run-of stands-for outputs
+unfolding everything whole-rows small wants-node worn idle-tasks next-task after-step turn-to turn refusal-of move moves run-of stands-for outputs
 all-turns = 0
 
 -- ---- one turn, in a small yard of two tasks: the last one chosen, and the tasks

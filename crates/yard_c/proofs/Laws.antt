@@ -35,10 +35,10 @@ use Rattle.state_words.specs.RoundTrip.{words-again}
 use Rattle.yard_answers.proofs.Laws.{over-five}
 use Rattle.yard_answers.specs.Answers.{open-number, out-number, out-left, turn-number, turn-left}
 use Rattle.yard_answers.specs.CallLaws.{Ready, ready-test, one-word}
-use Rattle.dispatch_turns.specs.Turns.{written, turns-written}
-use Rattle.yard_c.specs.Calls.{called, c-reply, machine-in}
-use Rattle.yard_c.specs.Calls.{c-open, c-start, c-step, c-turn, c-list, c-show}
-use Rattle.yard_c.specs.Runs.{c-run, c-turns}
+use Rattle.turns.specs.Turns.{written, turns-written}
+use Rattle.c_calls.specs.Calls.{called, c-reply, machine-in}
+use Rattle.c_calls.specs.Calls.{c-open, c-start, c-step, c-turn, c-list, c-show}
+use Rattle.c_calls.specs.Runs.{c-run, c-turns}
 
 -- ---- refusals have small numbers
 

@@ -22,9 +22,9 @@ use Rattle.schedule.specs.Encoding.{decoded}
 use Rattle.state_words.specs.StateWords.{state-fits}
 use Rattle.state_words.specs.RoundTrip.{Stored, words-fit}
 use Rattle.state_words.specs.EntriesStore.{words-stored, opening-stored, start-stored, step-stored}
-use Rattle.dispatch_turns.specs.Turns.{names, Turns, turns-of, turns-written}
-use Rattle.yard_c.specs.Calls.{Called, machine-in, c-open, c-reply, c-start, c-step, c-turn}
-use Rattle.yard_c.specs.Runs.{c-run, c-turns}
+use Rattle.turns.specs.Turns.{names, Turns, turns-of, turns-written}
+use Rattle.c_calls.specs.Calls.{Called, machine-in, c-open, c-reply, c-start, c-step, c-turn}
+use Rattle.c_calls.specs.Runs.{c-run, c-turns}
 
 pub open-leaves-a-state : (g : Config) (w ns bs : List ℕ) → length w ≡ 113 → state-fits (c-open g w ns bs .state) ≡ true
 unfolding c-open

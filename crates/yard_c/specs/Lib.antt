@@ -1,5 +1,3 @@
-pub mod Calls
-pub mod Runs
 pub mod Unchanged
 pub mod Fits
 pub mod OneByOne

@@ -39,9 +39,9 @@ use Rattle.turns.specs.Turn.{turn}
 use Rattle.schedule_events.specs.Events.{listing-number}
 use Rattle.state_words.specs.StateWords.{state-fits}
 use Rattle.yard_answers.specs.Answers.{open-number, out-number, turn-number, turn-left}
-use Rattle.dispatch_turns.specs.Turns.{turns-of, turns-most, turns-written}
-use Rattle.yard_c.specs.Calls.{Called, machine-in, c-open, c-reply, c-start, c-step, c-turn, c-list, c-show}
-use Rattle.yard_c.specs.Runs.{c-run, c-turns}
+use Rattle.turns.specs.Turns.{turns-of, turns-most, turns-written}
+use Rattle.c_calls.specs.Calls.{Called, machine-in, c-open, c-reply, c-start, c-step, c-turn, c-list, c-show}
+use Rattle.c_calls.specs.Runs.{c-run, c-turns}
 use Rattle.yard_c.specs.RefusedTurns.{refused-words, told}
 
 -- ---- conditions put together

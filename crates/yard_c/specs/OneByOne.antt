@@ -23,9 +23,9 @@ use Rattle.state_words.specs.StateWords.{state-words, state-fits}
 use Rattle.state_words.specs.RoundTrip.{Stored, words-again, state-again, words-fit}
 use Rattle.state_words.specs.EntriesStore.{words-stored}
 use Rattle.yard_answers.specs.Answers.{out-number, out-left, turn-number, turn-left}
-use Rattle.dispatch_turns.specs.Turns.{names, Turns, turns-of, turn-words, turns-written}
-use Rattle.yard_c.specs.Calls.{Called, called, machine-in, c-reply, c-start, c-step, c-turn}
-use Rattle.yard_c.specs.Runs.{c-run, c-turns}
+use Rattle.turns.specs.Turns.{names, Turns, turns-of, turn-words, turns-written}
+use Rattle.c_calls.specs.Calls.{Called, called, machine-in, c-reply, c-start, c-step, c-turn}
+use Rattle.c_calls.specs.Runs.{c-run, c-turns}
 use Rattle.yard_c.specs.Fits.{turn-stored, event-stored}
 
 -- ---- events, call by call

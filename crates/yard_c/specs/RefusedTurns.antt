@@ -21,7 +21,7 @@ use Rattle.corollaries.specs.Turns.{refused-turn-changes-nothing, seven-moves-t
 use Rattle.state_words.specs.StateWords.{state-words, state-fits}
 use Rattle.state_words.specs.RoundTrip.{words-again}
 use Rattle.yard_answers.specs.Answers.{turn-number, turn-left}
-use Rattle.yard_c.specs.Calls.{Called, called, machine-in, c-turn}
+use Rattle.c_calls.specs.Calls.{Called, called, machine-in, c-turn}
 
 -- the answer's words name the task and say that its step was refused with r
 abbrev pub refused-words : ℕ → ℕ → List ℕ

@@ -29,9 +29,9 @@ use Rattle.state_words.specs.StateWords.{state-words, state-fits}
 use Rattle.state_words.specs.RoundTrip.{words-again}
 use Rattle.yard_answers.specs.Answers.{open-number, out-number, out-left, turn-number, turn-left}
 use Rattle.yard_answers.specs.CallLaws.{opens-with-0}
-use Rattle.dispatch_turns.specs.Turns.{turns-most, turns-written}
-use Rattle.yard_c.specs.Calls.{Called, called, machine-in, c-open, c-reply, c-start, c-step, c-turn, c-list, c-show}
-use Rattle.yard_c.specs.Runs.{c-run, c-turns}
+use Rattle.turns.specs.Turns.{turns-most, turns-written}
+use Rattle.c_calls.specs.Calls.{Called, called, machine-in, c-open, c-reply, c-start, c-step, c-turn, c-list, c-show}
+use Rattle.c_calls.specs.Runs.{c-run, c-turns}
 
 -- ---- start, step and turn
 

@@ -6,8 +6,8 @@ ghost use mathlib.Core.List.{[]};
 ghost use Prim.Native.Nat.{_/_, min};
 ghost use Rattle.spec.specs.declared.Call.the-variants.{Insert, Remove, Contains, Grow, Shrink};
 ghost use Rattle.schedule.specs.Encoding.{c-config};
-ghost use Rattle.yard_c.specs.Calls.{called, c-open, c-start, c-step, c-turn, c-list, c-show};
-ghost use Rattle.yard_c.specs.Runs.{c-turns};
+ghost use Rattle.c_calls.specs.Calls.{called, c-open, c-start, c-step, c-turn, c-list, c-show};
+ghost use Rattle.c_calls.specs.Runs.{c-turns};
 
 // 256 and the number of refusal 8.
 const SPOILT: u32 = 264;

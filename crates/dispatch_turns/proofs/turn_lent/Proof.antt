@@ -51,7 +51,7 @@ use Rattle.spec.specs.declared.State.{State}
 use Rattle.spec.specs.Machine.{machine-of}
 use Rattle.spec.specs.Sound.{sound as is-sound}
 use Rattle.dispatch_turns.specs.declared.Taken.{Taken}
-use Rattle.dispatch_turns.specs.Turns.{turned-so, next-turn}
+use Rattle.turns.specs.Turns.{turned-so, next-turn}
 use Rattle.spec.proofs.State as S
 use Rattle.spec.proofs.State.Laws as S′
 use Rattle.dispatch_turns.proofs.Taken as D

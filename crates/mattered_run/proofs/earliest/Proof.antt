@@ -6,7 +6,7 @@ use borrow.Author.Tests.{ltb-true, ltb-false}
 use Rattle.spec.specs.Machine.{Machine}
 use Rattle.opening.specs.Opening.{opening-refusal}
 use Rattle.schedule_events.specs.Events.{events-of}
-use Rattle.mattered_run.specs.Judged.{words-after}
+use Rattle.mattered.specs.SessionVerdict.{words-after}
 use Rattle.mattered_run.proofs.Verdicts.{again-machine, words-found, verdict-refused, verdict-many, verdict-found}
 use borrow.Author.Needs.{needs}
 use Rattle.mattered_run.proofs.earliest.Statement.{statement}

@@ -8,7 +8,7 @@ use Rattle.spec.specs.declared.State.{State}
 use Rattle.spec.specs.Machine.{machine-of}
 use Rattle.spec.specs.Entries.{show}
 use Rattle.state_words.specs.RoundTrip.{fits-long}
-use Rattle.yard_c.specs.Calls.{called, machine-in}
+use Rattle.c_calls.specs.Calls.{called, machine-in}
 use Rattle.state_words.specs.StateWords.{state-fits}
 use Rattle.yard_answers.specs.CallLaws.{ready, tested}
 use Rattle.yard_c.proofs.Laws.{show-spoilt, show-none, show-some, shown-few}

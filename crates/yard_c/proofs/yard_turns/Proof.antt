@@ -10,7 +10,7 @@ use Rattle.spec.specs.Machine.{Machine, machine-of}
 use Rattle.spec.specs.Sound.{sound}
 use Rattle.state_words.specs.StateWords.{state-fits}
 use Rattle.state_words.specs.RoundTrip.{fits-long}
-use Rattle.dispatch_turns.specs.Turns.{Written, turns-of, turns-written, turns-most}
+use Rattle.turns.specs.Turns.{Written, turns-of, turns-written, turns-most}
 use Rattle.yard_c.proofs.Laws.{turns-spoilt, turns-unsound, turns-called}
 use borrow.Author.Needs.{needs}
 use Rattle.yard_c.proofs.yard_turns.Statement.{statement}

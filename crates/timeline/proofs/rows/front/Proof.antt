@@ -1,6 +1,7 @@
 -- `timeline::rows::front` meets its contract. The first row, if the line opened the set, and the columns of its row. Assumes nothing.
 use Rattle.session.specs.Buffer.{append}
-use Rattle.timeline.specs.Lines.{columns-of, heading-of, front}
+use Rattle.timeline_rows.specs.Columns.{columns-of, heading-of}
+use Rattle.timeline.specs.Lines.{front}
 use Rattle.session_bytes.proofs.Laws.{append-2}
 use mathlib.Core.Path.{sym, _∙_}
 use borrow.Author.Needs.{needs}

@@ -1,6 +1,6 @@
 -- `timeline::rows::heading` meets its contract. Three parts appended one after the other. Assumes nothing.
 use Prim.Native.Nat.{min}
-use Rattle.timeline.specs.Rows.{event-word, answer-word, task-names, heading}
+use Rattle.timeline_rows.specs.Rows.{event-word, answer-word, task-names, heading}
 use Rattle.session_bytes.proofs.Laws.{append-3}
 use borrow.Author.Needs.{needs}
 use Rattle.timeline.proofs.rows.heading.Statement.{statement}

@@ -1,5 +1,5 @@
 -- `timeline::rows::row_columns` meets its contract. The event's number, and then the tasks' columns. Assumes nothing.
-use Rattle.timeline.specs.Rows.{number-field, task-columns, row-columns}
+use Rattle.timeline_rows.specs.Rows.{number-field, task-columns, row-columns}
 use Prim.Native.Nat.{min}
 use Rattle.session_bytes.proofs.Laws.{append-2}
 use borrow.Author.Needs.{needs}
