@@ -1,7 +1,6 @@
--- A line that is too long or not closed says the same whatever its bytes are, and refuses the input with the number with which an end there
--- refuses it. Assumes nothing.
+-- A line that is too long or not closed refuses the input with the number with which an end there refuses it. Assumes nothing.
 use Prim.Native.Nat.{ℕ}
-use mathlib.Core.Path.{_≡_, refl, sym, ap, _∙_}
+use mathlib.Core.Path.{_≡_, refl, ap, _∙_}
 use mathlib.Core.List.{List}
 use mathlib.Core.Bool.{Bool, true, false}
 use native.Mathlib.Omega.{arith}
@@ -46,15 +45,6 @@ outside-unasked p l ph e =
     (ap (λ (q : Phase). after-event (phase-effect q s (p .nodes) (p .buckets) l)) ph
     ∙ ap (λ (x : EventLine). after-event (event-effect x s (p .nodes) (p .buckets))) (outside-event l e))
 
-outside-turn : (p : Place) (l k : InputLine) → p .standing .session .phase ≡ Events → admissible l ≡ false → admissible k ≡ false
-    → take-turn p l ≡ take-turn p k
-unfolding take-turn take-asked
-outside-turn p l k ph e f = go (p .standing .asked)
-  where
-    go : (a : Asked) → take-asked a p l ≡ take-asked a p k
-    go NotYet = outside-unasked p l ph e ∙ sym (outside-unasked p k ph f)
-    go (Turns n) = refl
-
 turn-refuses : (p : Place) (l : InputLine) → p .standing .session .phase ≡ Events → admissible l ≡ false → take-turn p l .standing .refused ≡ 10
 unfolding take-turn take-asked after-event event-effect pools-kept stopped reads-events refused-with
 turn-refuses p l ph e = go (p .standing .asked)
@@ -70,11 +60,6 @@ unfolding opened with-machine
 opened-reads h ns bs = refl
 
 -- what the opening gives, if it is refused; else what the line gives
-if-opened-line : (p : Place) (l k : InputLine) → p .standing .session .phase ≡ Events → admissible l ≡ false → admissible k ≡ false
-    → if-opened p l ≡ if-opened p k
-unfolding if-opened
-if-opened-line p l k ph e f = ap (λ (q : Place). if eqb (p .standing .refused) 0 then q else p) (outside-turn p l k ph e f)
-
 if-opened-refuses : (p : Place) (l : InputLine) → p .standing .session .phase ≡ Events → admissible l ≡ false
     → if-opened p l .standing .refused ≡ judged (p .standing .refused)
 unfolding if-opened judged
@@ -87,11 +72,6 @@ if-opened-refuses p l ph e = go (eqb (p .standing .refused) 0)
 module _ (p : Place) where
   abbrev absent : Bool → HeaderStep
   absent b = if b then Absent (p .standing .session .header) else Missing
-
-  header-line : (l k : InputLine) → admissible l ≡ false → admissible k ≡ false → (b : Bool) → header-taken (absent b) p l ≡ header-taken (absent b) p k
-  unfolding header-taken
-  header-line l k e f true = if-opened-line (opened _ (p .nodes) (p .buckets)) l k (opened-reads _ (p .nodes) (p .buckets)) e f
-  header-line l k e f false = refl
 
   header-refuses : (l : InputLine) → admissible l ≡ false → (due : HeaderLine)
       → header-taken (absent (optional due)) p l .standing .refused ≡ phase-refusal (Due due) p
@@ -108,16 +88,6 @@ module _ (p : Place) where
 
   -- ---- wherever the input stands
 
-  phase-line : (l k : InputLine) → admissible l ≡ false → admissible k ≡ false → (q : Phase) → p .standing .session .phase ≡ q
-      → phase-taken q p l ≡ phase-taken q p k
-  unfolding phase-taken
-  phase-line l k e f (Due due) ph =
-      let h = p .standing .session .header in
-      ap (λ (a : HeaderStep). header-taken a p l) (outside-step due h l e) ∙ header-line l k e f (optional due)
-      ∙ ap (λ (a : HeaderStep). header-taken a p k) (sym (outside-step due h k f))
-  phase-line l k e f Events ph = outside-turn p l k ph e f
-  phase-line l k e f Stopped ph = refl
-
   phase-refuses : (l : InputLine) → admissible l ≡ false → (q : Phase) → p .standing .session .phase ≡ q
       → phase-taken q p l .standing .refused ≡ phase-refusal q p
   unfolding phase-taken phase-refusal refused-with
@@ -126,11 +96,6 @@ module _ (p : Place) where
   phase-refuses l e Events ph = turn-refuses p l ph e
   phase-refuses l e Stopped ph = refl
 
-  pub same-outside : (l k : InputLine) → admissible l ≡ false → admissible k ≡ false → on-line p l ≡ on-line p k
-  unfolding on-line
-  same-outside l k e f = ap (λ (q : Place). if eqb (p .standing .refused) 0 then q else p) (phase-line l k e f (p .standing .session .phase) refl)
-
-  -- it refuses with the number with which an input that ends there is refused, which is not 0
   pub outside-refuses : (l : InputLine) → admissible l ≡ false → on-line p l .standing .refused ≡ end-refusal p
   unfolding on-line end-refusal
   outside-refuses l e = go (eqb (p .standing .refused) 0)
@@ -142,6 +107,7 @@ module _ (p : Place) where
       go true = phase-refuses l e q refl
       go false = refl
 
+  -- which is not 0
   pub end-refuses : ¬ (end-refusal p ≡ 0)
   unfolding end-refusal phase-refusal judged
   end-refuses = or-else (p .standing .refused) (phase-refusal (p .standing .session .phase) p) (at (p .standing .session .phase))

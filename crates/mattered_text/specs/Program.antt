@@ -1,44 +1,49 @@
--- A session as a reader of lines (Readers of stdio) has it: `mattered-reader`. After a line outside the grammar, or a refused opening, whatever follows
--- gives the same answer: `mattered-decides`. The answer is short: `answer-short`. Assumes nothing.
+-- A session as a reader of lines (Readers of stdio) has it, `mattered-takes` and `mattered-outside`. After a line outside the grammar, or a refused opening,
+-- whatever follows gives the same answer: `mattered-decides`. What is printed for an input in memory is its answer: `mattered-exact`. Assumes nothing.
 use Prim.Native.Nat.{ℕ, _≤_}
 use mathlib.Core.Path.{_≡_, refl, sym, ap, _∙_}
 use mathlib.Core.List.{List, [], _∷_}
 use mathlib.Core.Bool.{Bool, true, false, not, _||_}
 use native.Mathlib.Omega.{arith}
-use borrow.Author.Tests.{lt-leb}
 use lib.Dec.{eqb}
-use lib.ListN.{length, length-append}
+use lib.ListN.{length, take, length-append}
 use Rattle.spec.specs.Lists.{if_then_else_}
 use Rattle.session.specs.declared.Header.{Header}
-use Rattle.session.specs.declared.HeaderStep.{HeaderStep}
-use Rattle.session.specs.declared.HeaderStep.the-variants.{Absent, Missing}
-use Rattle.session.specs.Grammar.{InputLine, closed-line, open-line, admissible}
-use Rattle.session.specs.Header.{optional}
-use Rattle.session.specs.LineLaws.{outside-step, outside-event}
+use Rattle.session.specs.Buffer.{buffer, append}
+use Rattle.session.specs.Grammar.{InputLine, closed-line, open-line, input-lines, admissible}
 use Rattle.session.specs.OutputLengths.{refusal-length}
 use Rattle.session.specs.Print.{decimal, key-line, refusal-line}
-use Rattle.session.specs.Transcript.{is-event, session-opening}
+use Rattle.session.specs.Transcript.{session-opening}
 use Rattle.session_state.specs.declared.Phase.{Phase}
 use Rattle.session_state.specs.declared.Phase.the-variants.{Due, Events, Stopped}
 use Rattle.partial_line.specs.PartialLines.{line-bytes}
 use Rattle.stdio.specs.declared.input.Input.{Input}
-use Rattle.stdio.specs.Inputs.{unclosed-end}
-use Rattle.stdio.specs.Readers.{LineReader, last-lines}
+use Rattle.stdio.specs.Inputs.{cut-off}
+use Rattle.stdio.specs.Readers.{TakesLines, OutsideFixes, Countable, Follows, last-lines}
+use Rattle.stdio.specs.Loops.{never}
+use Rattle.stdio.specs.Runs.{Prints, exact, prints-as, prints-at-end}
 use Rattle.mattered.specs.declared.Verdict.{Verdict}
 use Rattle.mattered.specs.declared.Verdict.the-variants.{Place as AtPlace, NoStep, Refused}
-use Rattle.mattered.specs.SessionVerdict.{lines-verdict}
-use Rattle.mattered.specs.Text.{verdict-line}
+use Rattle.mattered.specs.SessionVerdict.{verdict}
+use Rattle.mattered.specs.Text.{verdict-line, mattered-answer}
 use Rattle.mattered_standing.specs.declared.Standing.{Standing}
-use Rattle.mattered_standing.specs.Standings.{standing, after-event, after-header}
-use Rattle.mattered_text.specs.Reading.{Place, place, after-line, on-line, said-at-end}
-use Rattle.mattered_text.specs.OutsideLines.{line-outside, last-line}
-use Rattle.mattered_text.specs.LinesVerdict.{after-lines, answered, outside-answered, refused-answered, stopped-answered}
+use Rattle.mattered_standing.specs.Standings.{standing, new-standing}
+use Rattle.mattered_text.specs.Reading.{Place, place, on-line, said-at-end}
+use Rattle.mattered_text.specs.OutsideLines.{line-outside}
+use Rattle.mattered_text.specs.LinesVerdict.{after-lines, answered, outside-answered, refused-answered, stopped-answered, lines-give-verdict}
 
 abbrev pub says : Place → List InputLine → List ℕ
 says p ls = verdict-line (answered p ls)
 
 abbrev pub taking : Place → List ℕ → Place
 taking p l = on-line p (closed-line l)
+
+pub mattered-takes : TakesLines says taking
+unfolding after-lines
+mattered-takes p l ls short = refl
+
+pub mattered-outside : OutsideFixes says
+mattered-outside p x y ls out out' = ap verdict-line (line-outside p x ls out ∙ sym (line-outside p y [] out'))
 
 -- ---- where the answer is fixed
 
@@ -54,7 +59,7 @@ decided t = phase-decides (t .phase) t
 verdict-decided : (q : Phase) (h : Header) (outside : Bool) (n : ℕ) (w : List ℕ) → phase-decides q (standing q h outside n) ≡ true → (ls : List InputLine)
     → answered (place (standing q h outside n) w) ls ≡ answered (place (standing q h outside n) w) []
 unfolding phase-decides
-verdict-decided (Due due) h outside n w d ls = let z : _≡_ {A = ℕ} 0 1 = cc in absurd (omega arith)
+verdict-decided (Due due) h outside n w d ls = never d
 verdict-decided Events h true n w d ls = outside-answered h ls n w ∙ sym (outside-answered h [] n w)
 verdict-decided Events h false n w d ls = refused-answered h d ls false n w ∙ sym (refused-answered h d [] false n w)
 verdict-decided Stopped h outside n w d ls = stopped-answered h ls outside n w ∙ sym (stopped-answered h [] outside n w)
@@ -63,58 +68,44 @@ pub mattered-decides : (p : Place) → decided (p .standing) ≡ true → (ls : 
 mattered-decides p d ls =
     let t = p .standing in ap verdict-line (verdict-decided (t .phase) (t .header) (t .outside) (t .count) (p .words) d ls)
 
--- ---- a line that is too long or not closed
-
-outside-after : (q : Phase) (t : Standing) (x : InputLine) → t .phase ≡ q → admissible x ≡ false → decided (after-line q t false x) ≡ true
-unfolding after-line after-header after-event phase-decides
-outside-after (Due due) t x ph out =
-    ap (λ (a : HeaderStep). decided (after-header a (t .header) false)) (outside-step due (t .header) x out) ∙ go (optional due)
-  where
-    go : (b : Bool) → decided (after-header (if b then Absent (t .header) else Missing) (t .header) false) ≡ true
-    go true = refl
-    go false = refl
-outside-after Events t x ph out = refl
-outside-after Stopped t x ph out = rw ph
-
-outside-decides : (p : Place) (x : InputLine) → admissible x ≡ false → decided (on-line p x .standing) ≡ true
-unfolding on-line is-event
-outside-decides p x out =
-    let t = p .standing in rw (outside-event x out) (outside-after (t .phase) t x refl out)
-
-pub mattered-reader : LineReader says taking
-unfolding after-lines admissible
-mattered-reader =
-    record {
-      takes = λ p l ls short. refl;
-      too-long =
-          λ p l x ls long out.
-          mattered-decides (on-line p x) (outside-decides p x out) ls
-          ∙ ap (λ (q : Place). says q []) (line-outside p x (closed-line l) out (lt-leb (length l) 40 (omega (arith, long))));
-    }
-
--- what is said at the end, in the middle of a line or not
-pub ended-says : (q : Input) (p : Place) → said-at-end (not (unclosed-end q)) p ≡ answered p (last-lines q)
+-- what is said at the end, after a line that is too long or not closed, or not
+ended-says : (q : Input) (p : Place) → said-at-end (not (cut-off q)) p ≡ answered p (last-lines q)
 unfolding last-lines admissible after-lines
-ended-says q p = go (unclosed-end q)
+ended-says q p = go (cut-off q)
   where
     last : InputLine
     last = open-line (line-bytes (q .line))
 
     go : (b : Bool) → said-at-end (not b) p ≡ answered p (if b then (last ∷ []) else [])
-    go true = last-line p last refl
+    go true = sym (line-outside p last [] refl)
     go false = refl
-
--- ---- the whole program, which answers the lines that it reads as the definitions do (SessionVerdict of mattered), whatever they are
-
-abbrev pub paper-answer : Unit {0} → List InputLine → List ℕ
-paper-answer u ls = verdict-line (lines-verdict ls)
 
 -- ---- the answer is one line of at most 28 bytes
 
-pub answer-short : (v : Verdict) → length (verdict-line v) ≤ 28
+answer-short : (v : Verdict) → length (verdict-line v) ≤ 28
 unfolding verdict-line refusal-line key-line
 answer-short (AtPlace n) =
     let digits : length (decimal n) ≤ 20 = omega (arith, simp length-append at (refusal-length n)) in
     simp length-append (omega arith)
 answer-short NoStep = omega arith
 answer-short (Refused r) = refusal-length r
+
+-- ---- the whole input, from whatever the lent words of events hold
+
+module _ (w : List ℕ) (fit : 1024 ≤ length w) where
+  whole-answer : (xs : List ℕ) → mattered-answer xs ≡ says (place new-standing w) (input-lines xs)
+  unfolding mattered-answer verdict
+  whole-answer xs = sym (ap verdict-line (lines-give-verdict w fit (input-lines xs)))
+
+  pub mattered-prints : (reads : Bool) (input : List ℕ) (p : Input) (room : List ℕ) (s : Place) → length (p .line .bytes) ≡ 41 → p .left ≤ 0
+      → Follows says reads input (place new-standing w) p room s → (b : Bool) → b ≡ cut-off p → (v : Verdict) → v ≡ said-at-end (not b) s
+      → (before after : List ℕ) (n : ℕ) → buffer after n ≡ append (verdict-line v) (buffer before 0) → 28 ≤ length before
+      → Prints mattered-answer reads input p (take n after)
+  mattered-prints reads input p room s line stopped f b ends v said before after n e fits =
+      let same = said ∙ ap (λ (x : Bool). said-at-end (not x) s) ends ∙ ended-says p s in
+      prints-as _ mattered-answer whole-answer reads input p (take n after)
+      (prints-at-end says reads input _ mattered-outside p room s line stopped f before after n
+      (e ∙ ap (λ (x : Verdict). append (verdict-line x) (buffer before 0)) same) (omega (arith, answer-short (answered s (last-lines p)), fits)))
+
+pub mattered-exact : (input : List ℕ) (p : Input) (text : List ℕ) → Countable input → Prints mattered-answer false input p text → mattered-answer input ≡ text
+mattered-exact input p text = exact mattered-answer input p text

@@ -13,20 +13,6 @@ ghost use Rattle.schedule_events.specs.Events.{events-of};
 ghost use Rattle.mattered.specs.Text.{verdict-line};
 ghost use Rattle.mattered_text.specs.Reading.{place, header-complete, opened-says, said-at-end};
 
-// 64 nodes of 34 words. The `ensures` gives the length, which lending the array needs.
-fn node_words() -> [u32; 2176]
-    ensures { λ r. ⌜ 2176 ≡ length r ⌝ }
-{
-    [0; 2176]
-}
-
-// 200 buckets of 66 words.
-fn bucket_words() -> [u32; 13200]
-    ensures { λ r. ⌜ 13200 ≡ length r ⌝ }
-{
-    [0; 13200]
-}
-
 // Whether an input may end where it stands so.
 fn header_complete(phase: Phase) -> bool
     ensures { λ r. ⌜ r ≡ header-complete phase ⌝ }
@@ -83,8 +69,8 @@ pub fn verdict(t: Standing, closed: bool, events: &[u32]) -> Verdict
     }
     let header = t.header;
     let outside = !closed | t.outside;
-    let mut ns = node_words();
-    let mut bs = bucket_words();
+    let mut ns = session_pools::node_words();
+    let mut bs = session_pools::bucket_words();
     judge(header, outside, t.count, &mut ns, &mut bs, events)
 }
 

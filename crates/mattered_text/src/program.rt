@@ -5,15 +5,15 @@ use session_state::Phase;
 use stdio::input;
 use stdio::input::Input;
 use stdio::output;
+use stdio::output::Text;
 ghost use mathlib.Core.Path.{_≡_};
-ghost use lib.ListN.{length};
-ghost use Rattle.session.specs.Buffer.{buffer, append};
-ghost use Rattle.stdio.specs.Inputs.{unread};
-ghost use Rattle.stdio.specs.Readers.{Follows, after-call, last-lines};
-ghost use Rattle.stdio.specs.Outcomes.{Ran};
-ghost use Rattle.mattered_standing.specs.Standings.{new-standing};
+ghost use Prim.Native.Nat.{_≤_};
+ghost use lib.ListN.{length, take};
+ghost use Rattle.stdio.specs.Readers.{after-call};
+ghost use Rattle.stdio.specs.Runs.{Prints, Ran};
+ghost use Rattle.mattered.specs.Text.{mattered-answer};
 ghost use Rattle.mattered_text.specs.Reading.{place, StandsAt};
-ghost use Rattle.mattered_text.specs.Program.{says, taking, decided, paper-answer};
+ghost use Rattle.mattered_text.specs.Program.{taking, decided};
 
 // Whether what is said at the end is fixed, whatever follows. It is not after 257 events: a line outside the grammar goes before their 15.
 fn decided(t: Standing) -> bool
@@ -32,7 +32,7 @@ fn decided(t: Standing) -> bool
 
 // Takes the line that a call gave, if it gave one.
 fn take_given(t: Standing, q: Input, events: &mut [u32]) -> Standing
-    ensures { λ r. ⌜ StandsAt (after-call says taking (place t (now (events .entry))) q) r (now (events .exit)) ⌝ }
+    ensures { λ r. ⌜ StandsAt (after-call taking (place t (now (events .entry))) q) r (now (events .exit)) ⌝ }
 {
     if input::has_line(q) {
         let h = q.line;
@@ -43,18 +43,14 @@ fn take_given(t: Standing, q: Input, events: &mut [u32]) -> Standing
     t
 }
 
-// An input as far as it is read: what was given last, and where it stands.
-struct Reading {
-    input: Input,
-    standing: Standing,
-}
-
-// Reads until the input ends, or a line fixes the answer.
-fn read(room: &mut [u8], events: &mut [u32]) -> Reading
-    ensures { λ r. ⌜ Follows says unread (now (room .entry)) (place new-standing (now (events .entry)))
-        (r .input) (now (room .exit)) (place (r .standing) (now (events .exit))) ⌝ }
+// What is printed for an input: standard input if `reads`, else the bytes of the room. One line of at most 28 bytes (`answer-short`). Reads until the
+// input ends, or a line fixes the answer.
+pub fn text(reads: bool, room: &mut [u8], events: &mut [u32], out: &mut [u8]) -> Text
+    requires { ⌜ (1024 ≤ length (now events)) × (28 ≤ length (now out)) ⌝ }
+    ensures { λ r. ⌜ Prints mattered-answer reads (now (room .entry)) (r .input) (take (r .len) (now (out .exit))) ⌝ }
+    ensures { λ r. ⌜ r .len ≤ length (now (out .exit)) ⌝ }
 {
-    let mut p = input::unread();
+    let mut p = input::begin(reads, room.len());
     let mut s = mattered_standing::new_standing();
     while 0 < p.left {
         let q = input::next_line(p, room);
@@ -63,35 +59,10 @@ fn read(room: &mut [u8], events: &mut [u32]) -> Reading
         let d = input::settle(q, decided(s));
         p = d;
     }
-    Reading {
-        input: p,
-        standing: s,
-    }
-}
-
-// What is printed at the end of the input, written from the buffer's first byte on, and how many bytes these are.
-fn finish(r: Reading, events: &[u32], out: &mut [u8]) -> usize
-    ensures { λ n. ⌜ buffer (now (out .exit)) n
-        ≡ append (says (place (r .standing) (now (events .entry))) (last-lines (r .input))) (buffer (now (out .entry)) 0) ⌝ }
-{
-    let p = r.input;
-    let t = r.standing;
-    let closed = !input::unclosed(p);
-    let v = crate::ending::verdict(t, closed, events);
-    crate::ending::print(out, v)
-}
-
-// The program over lent words for events. The answer is one line of at most 28 bytes (`answer-short`).
-fn run(events: &mut [u32]) -> i32
-    ensures { λ r. ⌜ Ran says (place new-standing (now (events .entry))) r ⌝ }
-{
-    let mut room = input::room();
-    let r = read(&mut room, events);
-    let mut out = [0u8; 28];
-    let m = finish(r, events, &mut out);
-    let p = r.input;
-    let o = output::answer(b"mattered", p, &out[..m]);
-    output::status(o)
+    let closed = !input::cut_off(p);
+    let v = crate::ending::verdict(s, closed, events);
+    let len = crate::ending::print(out, v);
+    Text { input: p, len }
 }
 
 // Words for 256 events, 4 each. The `ensures` gives the length, which lending the array needs.
@@ -103,8 +74,11 @@ fn room_for_events() -> [u32; 1024]
 
 // The program: its exit status.
 pub fn yardmattered() -> i32
-    ensures { λ r. ⌜ Ran paper-answer tt r ⌝ }
+    ensures { λ r. ⌜ Ran mattered-answer r ⌝ }
 {
+    let mut room = input::room();
     let mut events = room_for_events();
-    run(&mut events)
+    let mut out = [0u8; 28];
+    let t = text(true, &mut room, &mut events, &mut out);
+    output::exit(b"mattered", t, &out)
 }

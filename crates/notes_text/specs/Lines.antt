@@ -1,22 +1,20 @@
 -- Line by line, an input of notes prints its transcript: `lines-print-transcript`. A seventh note of a lane, and those after it, change nothing but
--- that the list is longer. A line that is too long or not closed is outside the grammar (`notes-reader`), after which the answer is fixed
--- (`outside-decides`). Assumes nothing.
+-- that the list is longer. A line outside the grammar fixes the answer (`outside-decides`), and so does one that is too long or not closed
+-- (`notes-outside`). Assumes nothing.
 use mathlib.Core.Path.{_≡_, refl, sym, _∙_}
 use mathlib.Core.List.{List, [], _∷_, _++_, append-assoc, append-nil}
 use mathlib.Core.Bool.{Bool, true, false, _||_}
-use Prim.Native.Nat.{ℕ, _+_, _<_}
-use native.Mathlib.Omega.{arith}
-use borrow.Author.Tests.{lt-leb, lt-ltb, le-ltb, ltb-true, ltb-false}
+use Prim.Native.Nat.{ℕ, _+_}
+use borrow.Author.Tests.{lt-ltb, le-ltb, ltb-true, ltb-false}
 use lib.Dec.{ltb}
-use lib.IntN.{ℤ}
-use lib.ListN.{length, take, set}
+use lib.ListN.{take, set}
 use Rattle.spec.specs.Lists.{if_then_else_}
 use Rattle.session.specs.Grammar.{InputLine, input-lines, admissible}
 use Rattle.session.specs.Print.{refusal-line}
 use Rattle.session.specs.KeptLists.{KeptIn, KeptAs, past, whole as all-kept, kept-as, keeps-one, keeps-past}
-use Rattle.stdio.specs.Readers.{LineReader}
-use Rattle.stdio.specs.Outcomes.{Ran}
-use Rattle.stdio.specs.Runs.{Prints, ran-prints}
+use Rattle.stdio.specs.declared.input.Input.{Input}
+use Rattle.stdio.specs.Readers.{TakesLines, OutsideFixes, Countable}
+use Rattle.stdio.specs.Runs.{Prints, exact}
 use Rattle.laws.specs.Tests.{or-l, or-r}
 use Rattle.notes.specs.declared.Note.{Note}
 use Rattle.notes.specs.declared.Notes.{Notes}
@@ -45,14 +43,16 @@ outside-refused r e (l ∷ ls) = outside-refused (add-line r (parse-note-line l)
 pub outside-decides : (r : Reading) → r .outside ≡ true → (ls : List InputLine) → answer r ls ≡ answer r []
 outside-decides r e ls = outside-refused r e ls ∙ sym (outside-refused r e [])
 
-pub notes-reader : LineReader answer take-line
-unfolding answer take-line add-line parse-note-line admissible
-notes-reader =
-    record {
-      takes = λ r l ls short. refl;
-      too-long = λ r l x ls long out.
-          let h : 40 < length l = omega (arith, long) in rw (lt-leb _ _ h, out) (outside-decides (add-line r Outside) refl ls);
-    }
+pub notes-takes : TakesLines answer take-line
+unfolding answer take-line
+notes-takes r l ls short = refl
+
+cut-off-refused : (r : Reading) (l : InputLine) (ls : List InputLine) → admissible l ≡ false → answer r (l ∷ ls) ≡ refusal-line 10
+unfolding answer add-line parse-note-line
+cut-off-refused r l ls e = rw e (outside-refused (add-line r Outside) refl ls)
+
+pub notes-outside : OutsideFixes answer
+notes-outside r x y ls e f = cut-off-refused r x ls e ∙ sym (cut-off-refused r y [] f)
 
 -- ---- a lane's notes, and what is kept of them
 
@@ -97,12 +97,6 @@ kept-lines a b xs ys (whole e) (longer u v) =
 
 -- ---- an input in the middle of it
 
--- what was read: whether a line was outside the grammar, and the notes of both lanes
-record Read (r : Reading) (outside : Bool) (xs ys : List Note) : Type 0 where
-  out : r .outside ≡ outside
-  one : Keeps (r .one) xs
-  two : Keeps (r .two) ys
-
 -- what is printed if these lines are still to come
 unfoldable output-left : Bool → List Note → List Note → List InputLine → List ℕ
 output-left outside xs ys ls =
@@ -129,29 +123,28 @@ module _ (outside : Bool) (xs ys : List Note) (l : InputLine) (ls : List InputLi
 
 -- what is printed for these lines, whatever was read before them
 abbrev PrintsLines : List InputLine → Type 0
-PrintsLines ls = (r : Reading) (outside : Bool) (xs ys : List Note) → Read r outside xs ys → answer r ls ≡ output-left outside xs ys ls
+PrintsLines ls =
+    (r : Reading) (xs ys : List Note) → Keeps (r .one) xs → Keeps (r .two) ys → answer r ls ≡ output-left (r .outside) xs ys ls
 
 answer-left : (ls : List InputLine) → PrintsLines ls
 unfolding answer output-left all-notes first-notes second-notes add-line
-answer-left [] r outside xs ys o =
-    let same = kept-lines (r .one) (r .two) xs ys (kept-list (r .one) xs (o .one)) (kept-list (r .two) ys (o .two)) in
-    rw (o .out, append-nil xs, append-nil ys, same)
-answer-left (l ∷ ls) r outside xs ys o = go (answer-left ls) (parse-note-line l) refl
+answer-left [] r xs ys m n =
+    let same = kept-lines (r .one) (r .two) xs ys (kept-list (r .one) xs m) (kept-list (r .two) ys n) in
+    rw (append-nil xs, append-nil ys, same)
+answer-left (l ∷ ls) r xs ys m n = go (answer-left ls) (parse-note-line l) refl
   where
-    go : PrintsLines ls → (n : NoteLine) → parse-note-line l ≡ n → answer (add-line r n) ls ≡ output-left outside xs ys (l ∷ ls)
+    go : PrintsLines ls → (said : NoteLine) → parse-note-line l ≡ said → answer (add-line r said) ls ≡ output-left (r .outside) xs ys (l ∷ ls)
     go ih (First y) e =
-        ih (add-line r (First y)) outside (xs ++ (y ∷ [])) ys (record { out = o .out; one = keeps-more (r .one) xs y (o .one); two = o .two })
-        ∙ first-left outside xs ys l ls y e
+        ih (add-line r (First y)) (xs ++ (y ∷ [])) ys (keeps-more (r .one) xs y m) n ∙ first-left (r .outside) xs ys l ls y e
     go ih (Second y) e =
-        ih (add-line r (Second y)) outside xs (ys ++ (y ∷ [])) (record { out = o .out; one = o .one; two = keeps-more (r .two) ys y (o .two) })
-        ∙ second-left outside xs ys l ls y e
-    go ih Outside e = ih (add-line r Outside) true xs ys (record { out = refl; one = o .one; two = o .two }) ∙ outside-left outside xs ys l ls e
+        ih (add-line r (Second y)) xs (ys ++ (y ∷ [])) m (keeps-more (r .two) ys y n) ∙ second-left (r .outside) xs ys l ls y e
+    go ih Outside e = ih (add-line r Outside) xs ys m n ∙ outside-left (r .outside) xs ys l ls e
 
-pub lines-print-transcript : (input : List ℕ) → answer new-reading (input-lines input) ≡ notes-transcript input
+pub lines-print-transcript : (input : List ℕ) → notes-transcript input ≡ answer new-reading (input-lines input)
 unfolding new-reading notes-transcript notes-output output-left
-lines-print-transcript input =
-    answer-left (input-lines input) new-reading false [] [] (record { out = refl; one = keeps-none; two = keeps-none })
+lines-print-transcript input = sym (answer-left (input-lines input) new-reading [] [] keeps-none keeps-none)
 
--- by its contract, `yardnotes` prints the transcript of what it read
-pub yardnotes-prints : (status : ℤ) (r : Ran answer new-reading status) → Prints notes-transcript (r .input) (r .shown ++ r .text)
-yardnotes-prints = ran-prints answer new-reading notes-transcript lines-print-transcript
+-- of an input in memory `text` gives the transcript
+pub notes-exact : (input : List ℕ) (p : Input) (text : List ℕ) → Countable input → Prints notes-transcript false input p text
+    → notes-transcript input ≡ text
+notes-exact = exact notes-transcript

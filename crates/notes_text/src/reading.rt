@@ -84,7 +84,7 @@ fn add_line(r: Reading, said: NoteLine) -> Reading
 
 // The line that a call for one gave, if it gave one.
 pub fn take_given(r: Reading, q: Input) -> Reading
-    ensures { λ s. ⌜ s ≡ after-call answer take-line r q ⌝ }
+    ensures { λ s. ⌜ s ≡ after-call take-line r q ⌝ }
 {
     if stdio::input::has_line(q) {
         let h = q.line;
@@ -103,7 +103,7 @@ pub fn finish(r: Reading, p: Input, out: &mut [u8]) -> usize
     if r.outside {
         return session_bytes::refusal(out, 0, 10);
     }
-    if stdio::input::unclosed(p) {
+    if stdio::input::cut_off(p) {
         return session_bytes::refusal(out, 0, 10);
     }
     let one = r.one;

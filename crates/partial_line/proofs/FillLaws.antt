@@ -1,8 +1,8 @@
 -- Laws that the proof of `fill` cites, a byte at a time: it closes the line, or the line is one byte longer. Assumes nothing.
-use mathlib.Core.Path.{_≡_, sym, ap, _∙_}
+use mathlib.Core.Path.{_≡_, refl, sym, ap, _∙_}
 use mathlib.Core.List.{List, [], _∷_, _++_}
 use mathlib.Core.Bool.{Bool, true, false}
-use Prim.Native.Nat.{ℕ, suc, _+_, _<_}
+use Prim.Native.Nat.{ℕ, zero, suc, _+_, _<_}
 use native.Mathlib.Numerals.{add-one}
 use native.Mathlib.Omega.{arith}
 use borrow.Author.Tests.{lt-ltb}
@@ -50,3 +50,7 @@ module _ (xs : List ℕ) (i : ℕ) (l : i < length xs) (more : List ℕ) where
 
 pub not-both : {X : Type 0} → _≡_ {A = Bool} false true → X
 not-both e = let z : _≡_ {A = ℕ} 0 1 = cc in absurd (omega arith)
+
+pub not-zero : (n : ℕ) → (n ≡ 0 → ⊥) → 0 < n
+not-zero zero f = absurd (f refl)
+not-zero (suc n) f = omega arith

@@ -22,4 +22,5 @@ pub record Fills (h : PartialLine) (xs : List ℕ) (r : Filled) : Type 0 where
   pub whole : r .closed ≡ false → r .line .len < 41 → r .used ≡ length xs
   pub short : r .closed ≡ true → r .line .len < 41
   pub uses : r .closed ≡ true → 0 < r .used
+  pub some-used : 0 < length xs → h .len < 41 → 0 < r .used
   pub room : length (r .line .bytes) ≡ 41

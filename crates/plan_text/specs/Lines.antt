@@ -1,21 +1,20 @@
 -- Line by line, an input prints its transcript: `lines-print-transcript`. A 65th call, and those after it, change nothing but that the list is
--- longer. A line that is too long or not closed is outside the grammar (`plan-reader`), after which the answer is fixed (`plan-decides`). Assumes nothing.
+-- longer. A line outside the grammar fixes the answer (`plan-decides`), and so does one that is too long or not closed (`plan-outside`). Assumes nothing.
 use mathlib.Core.Path.{_≡_, refl, sym, ap, _∙_}
 use mathlib.Core.List.{List, [], _∷_, _++_}
 use mathlib.Core.Bool.{Bool, true, false}
 use Prim.Native.Nat.{ℕ, _+_, _<_}
 use native.Mathlib.Omega.{arith}
-use borrow.Author.Tests.{lt-ltb, le-ltb, lt-leb, ltb-true, ltb-false}
+use borrow.Author.Tests.{lt-ltb, le-ltb, ltb-true, ltb-false}
 use lib.Dec.{ltb}
-use lib.IntN.{ℤ}
 use lib.ListN.{length, take, set}
 use Rattle.spec.specs.Lists.{if_then_else_}
-use Rattle.session.specs.Grammar.{InputLine, closed-line, input-lines, admissible, parse-header-line}
+use Rattle.session.specs.Grammar.{InputLine, input-lines, admissible, parse-header-line}
 use Rattle.session.specs.Print.{refusal-line}
 use Rattle.session.specs.KeptLists.{KeptIn, KeptAs, past, whole, kept-as, keeps-one, keeps-past}
-use Rattle.stdio.specs.Readers.{LineReader}
-use Rattle.stdio.specs.Outcomes.{Ran}
-use Rattle.stdio.specs.Runs.{Prints, ran-prints}
+use Rattle.stdio.specs.declared.input.Input.{Input}
+use Rattle.stdio.specs.Readers.{TakesLines, OutsideFixes, Countable}
+use Rattle.stdio.specs.Runs.{Prints, exact}
 use Rattle.plans.specs.declared.Planned.{Planned}
 use Rattle.plans.specs.declared.Calls.{Calls}
 use Rattle.plans.specs.Plan.{plan, list-of}
@@ -57,15 +56,12 @@ pub outside-refused : (r : Reading) (x : InputLine) (ls : List InputLine) → ad
 unfolding answer add-line
 outside-refused r x ls e = rw (outside-line (r .due) x e) (nothing-refused (add-line r Outside) refl ls)
 
-pub plan-reader : LineReader answer take-line
-unfolding answer take-line admissible
-plan-reader =
-    record {
-      takes = λ r l ls short. refl;
-      too-long = λ r l x ls long out.
-          let h : 40 < length l = omega (arith, long) in
-          outside-refused r x ls out ∙ sym (outside-refused r (closed-line l) [] (lt-leb _ _ h));
-    }
+pub plan-takes : TakesLines answer take-line
+unfolding answer take-line
+plan-takes r l ls short = refl
+
+pub plan-outside : OutsideFixes answer
+plan-outside r x y ls e f = outside-refused r x ls e ∙ sym (outside-refused r y [] f)
 
 -- ---- the calls, and what is kept of them
 
@@ -127,11 +123,12 @@ answer-left (l ∷ ls) r p o =
     let said = line-says (p .due) l in
     ap (λ (d : Due). answer (add-line r (line-says d l)) ls) (o .due) ∙ answer-left ls (add-line r said) (after-line p said) (with-line r p o said)
 
-pub lines-print-transcript : (input : List ℕ) → answer new-reading (input-lines input) ≡ plan-transcript input
+pub lines-print-transcript : (input : List ℕ) → plan-transcript input ≡ answer new-reading (input-lines input)
 unfolding new-reading plan-transcript no-input
 lines-print-transcript input =
-    answer-left (input-lines input) new-reading (input-of Tasks 0 1 []) (record { due = refl; tasks = refl; version = refl; calls = keeps-none })
+    sym
+    (answer-left (input-lines input) new-reading (input-of Tasks 0 1 []) (record { due = refl; tasks = refl; version = refl; calls = keeps-none }))
 
--- by its contract, `yardplan` prints the transcript of what it read
-pub yardplan-prints : (status : ℤ) (r : Ran answer new-reading status) → Prints plan-transcript (r .input) (r .shown ++ r .text)
-yardplan-prints = ran-prints answer new-reading plan-transcript lines-print-transcript
+-- of an input in memory `text` gives the transcript
+pub plan-exact : (input : List ℕ) (p : Input) (text : List ℕ) → Countable input → Prints plan-transcript false input p text → plan-transcript input ≡ text
+plan-exact = exact plan-transcript

@@ -93,7 +93,7 @@ fn add_line(r: Reading, said: PlanLine) -> Reading
 
 // The line that a call for one gave, if it gave one.
 pub fn take_given(r: Reading, q: Input) -> Reading
-    ensures { λ s. ⌜ s ≡ after-call answer take-line r q ⌝ }
+    ensures { λ s. ⌜ s ≡ after-call take-line r q ⌝ }
 {
     if stdio::input::has_line(q) {
         let h = q.line;
@@ -134,7 +134,7 @@ fn in_grammar(due: Due) -> bool
 pub fn finish(r: Reading, p: Input, out: &mut [u8]) -> usize
     ensures { λ n. ⌜ buffer (now (out .exit)) n ≡ append (answer r (last-lines p)) (buffer (now (out .entry)) 0) ⌝ }
 {
-    if stdio::input::unclosed(p) {
+    if stdio::input::cut_off(p) {
         return session_bytes::refusal(out, 0, 10);
     }
     let due = r.due;

@@ -5,7 +5,7 @@ use bucket::Response;
 use bucket::WORDS;
 ghost use mathlib.Core.Path.{_≡_};
 ghost use Prim.Native.Nat.{_≤_};
-ghost use lib.ListN.{length, take, set};
+ghost use lib.ListN.{length};
 ghost use Rattle.spec.specs.Words.{overwrite};
 ghost use Rattle.bucket.specs.Bucket.{found, tags-in, added, removed, frozen-of};
 ghost use Rattle.pool.specs.Pool.{bucket-at, front-of, store-bucket, answer-of};

@@ -1,20 +1,20 @@
 // The programs as functions for C, each with its exit status: the command `yard` (programs/yard.c) calls them, and the crates yardrun to yardtimeline
-// the same functions of the crates below. Each contract is of what was read and written, in the terms of the papers' definitions.
-ghost use Rattle.stdio.specs.Transcripts.{Transcribed};
+// the same functions of the crates below. Each contract has the papers' definition of what an input prints.
+ghost use Rattle.stdio.specs.Runs.{Ran};
 ghost use Rattle.stdio.specs.Outcomes.{IsStatus};
 ghost use Rattle.session.specs.Transcript.{transcript};
-ghost use Rattle.timeline_program.specs.Outcomes.{TimelineRan};
+ghost use Rattle.timeline_program.specs.Running.{timeline-transcript};
 ghost use Rattle.recorder.specs.Runs.{RanRecorder};
-ghost use Rattle.reader.specs.Verifies.{VerifyRan};
+ghost use Rattle.reader.specs.Verifies.{verify-output};
 ghost use Rattle.notes.specs.Text.{notes-transcript};
 ghost use Rattle.plan_text.specs.Text.{plan-transcript};
 ghost use Rattle.game.specs.Text.{game-answer};
-ghost use Rattle.programs.specs.Answers.{mattered-answer};
+ghost use Rattle.mattered.specs.Text.{mattered-answer};
 
 // A session: what the set answers.
 #[no_mangle]
 pub extern "C" fn yardrun() -> i32
-    ensures { λ r. ⌜ Transcribed transcript r ⌝ }
+    ensures { λ r. ⌜ Ran transcript r ⌝ }
 {
     session_run::yardrun()
 }
@@ -30,7 +30,7 @@ pub extern "C" fn yarddump() -> i32
 // A session as rows.
 #[no_mangle]
 pub extern "C" fn yardtimeline() -> i32
-    ensures { λ r. ⌜ TimelineRan r ⌝ }
+    ensures { λ r. ⌜ Ran timeline-transcript r ⌝ }
 {
     timeline_program::yardtimeline()
 }
@@ -46,7 +46,7 @@ pub extern "C" fn yardrecord() -> i32
 // Whether a recording is what the set prints.
 #[no_mangle]
 pub extern "C" fn yardverify() -> i32
-    ensures { λ r. ⌜ VerifyRan r ⌝ }
+    ensures { λ r. ⌜ Ran verify-output r ⌝ }
 {
     reader::program::yardverify()
 }
@@ -54,7 +54,7 @@ pub extern "C" fn yardverify() -> i32
 // Two lanes' notes in one order.
 #[no_mangle]
 pub extern "C" fn yardnotes() -> i32
-    ensures { λ r. ⌜ Transcribed notes-transcript r ⌝ }
+    ensures { λ r. ⌜ Ran notes-transcript r ⌝ }
 {
     notes_text::program::yardnotes()
 }
@@ -62,7 +62,7 @@ pub extern "C" fn yardnotes() -> i32
 // What a list of calls comes to.
 #[no_mangle]
 pub extern "C" fn yardplan() -> i32
-    ensures { λ r. ⌜ Transcribed plan-transcript r ⌝ }
+    ensures { λ r. ⌜ Ran plan-transcript r ⌝ }
 {
     plan_text::program::yardplan()
 }
@@ -70,7 +70,7 @@ pub extern "C" fn yardplan() -> i32
 // Lane against office.
 #[no_mangle]
 pub extern "C" fn yardgame() -> i32
-    ensures { λ r. ⌜ Transcribed game-answer r ⌝ }
+    ensures { λ r. ⌜ Ran game-answer r ⌝ }
 {
     game_text::program::yardgame()
 }
@@ -78,7 +78,7 @@ pub extern "C" fn yardgame() -> i32
 // The step that mattered.
 #[no_mangle]
 pub extern "C" fn yardmattered() -> i32
-    ensures { λ r. ⌜ Transcribed mattered-answer r ⌝ }
+    ensures { λ r. ⌜ Ran mattered-answer r ⌝ }
 {
     mattered_text::program::yardmattered()
 }

@@ -1,56 +1,60 @@
 -- Laws of the program, over plain lists: one turn of the loop, a line that is too long, the end. Assumes nothing.
 use mathlib.Core.Path.{_≡_, refl, sym, ap, subst, _∙_}
 use mathlib.Core.List.{List, [], _∷_, _++_, append-assoc, append-nil}
+use mathlib.Core.Logic.{inl, inr}
 use mathlib.Core.Bool.{Bool, true, false, not}
-use Prim.Native.Nat.{ℕ, _<_, _≤_}
+use Prim.Native.Nat.{ℕ, suc, _+_, _<_, _≤_}
 use native.Mathlib.Omega.{arith}
-use borrow.Author.Tests.{ne-eqb}
-use lib.Dec.{eqb}
-use lib.IntN.{ℤ}
+use borrow.Author.Tests.{le-ltb, ltb-true, ltb-false, eqb-true}
+use lib.Dec.{ltb}
 use lib.ListN.{length, take, length-append}
 use Rattle.spec.specs.Lists.{if_then_else_}
-use Rattle.laws.specs.Tests.{tf}
-use Rattle.session.specs.Keys.{newline}
-use Rattle.session.specs.Grammar.{InputLine, closed-line, open-line, split-lines}
-use Rattle.session.specs.OutputLengths.{refusal-length}
-use Rattle.session.specs.Print.{decimal, key-line, refusal-line}
+use Rattle.laws.specs.Tests.{and-right}
+use Rattle.session.specs.Grammar.{closed-line, open-line, input-lines}
+use Rattle.session.specs.OutputLengths.{decimal-length, refusal-length}
+use Rattle.session.specs.Print.{key-line}
 use Rattle.partial_line.specs.PartialLines.{line-bytes}
 use Rattle.recording.specs.declared.Verdict.{Verdict}
 use Rattle.recording.specs.declared.Verdict.the-variants.{Same, Differs, Refusal}
+use Rattle.recording.specs.Reader as defined
+use Rattle.recording.specs.Reader.{new-reader as new-defined, read-line as read-defined, read-lines}
+use Rattle.recording_laws.specs.ReaderVerdict.{reader-gives-verdict}
 use Rattle.reader_state.specs.declared.Reader.{Reader}
-use Rattle.reader_state.specs.Standing.{new-reader, LineRead, line-read, read-line, read-end, ReadAs}
+use Rattle.reader_state.specs.Standing.{most-lines, new-reader, LineRead, line-read, read-line, read-end, ReadAs}
 use Rattle.stdio.specs.declared.input.Given.{Given}
 use Rattle.stdio.specs.declared.input.Given.the-variants.{Part, Line, TooLong, Ended, Settled, ReadFailed, WriteFailed}
 use Rattle.stdio.specs.declared.input.Input.{Input}
-use Rattle.stdio.specs.Inputs.{is-line, at-end, fixed, unread, begun-line, settled-if, unclosed-end, pending, lines-left, Gives}
-use Rattle.stdio.specs.Readers.{Answers, last-lines, comes-to}
-use Rattle.stdio.specs.LongLines.{is-long, is-settled, coming, after-closed, Reaches, reaches-none, reaches-call, reaches-settled, reaches-follows, Closes}
-use Rattle.reader.specs.declared.program.ReadTo.{ReadTo}
-use Rattle.reader.specs.declared.program.LongLine.{LongLine}
+use Rattle.stdio.specs.Inputs.{given-number, is-line, is-long, at-end, goes-on, fixed, failed, begin, settled-if, cut-off, lines-left, Gives}
+use Rattle.stdio.specs.Readers.{after-call, to-come, Follows, Answers, last-lines}
+use Rattle.stdio.specs.Loops.{never, begins, turn, turn-left, begun-line-ends, ends-at}
+use Rattle.stdio.specs.LongLines.{Over, Closes}
+use Rattle.stdio.specs.Runs.{Prints, prints-as}
 use Rattle.reader.specs.declared.program.Answered.{Answered}
+use Rattle.reader.specs.declared.program.LongLine.{LongLine}
+use Rattle.reader.specs.AsDefined.{AsDefined, in-header, same-phase, is-decided, decides, Both, line-as-defined, end-as-defined}
 use Rattle.reader.specs.KnownMemory.{KnownIn, KnownAfter, known-as, read-known, Known}
-use Rattle.reader.specs.LentVerdict.{end-at, take-line, lines-verdict, takes-closed, is-decided, verify-decides}
-use Rattle.reader.specs.OutsideLines.{ends-unclosed, long-closed}
-use Rattle.reader.specs.Verifies.{Reads, LongGives, EndedAs, Verifies, verdict-text, lines-text, Written, VerifyRan}
+use Rattle.reader.specs.ShortPrinted.{printed-length}
+use Rattle.reader.specs.Verifies.{verdict-text, verify-output, take-line, lines-text, Reading, Verifies, EndedAs, LongGives}
+use Rattle.reader.proofs.LongLines.{long-closed}
 
--- ---- one turn of the loop
+-- ---- a line is taken
 
 module _ (r : Reader) (ns bs : List ℕ) (q : Input) where
   abbrev at : LineRead
   at = line-read r ns bs
 
   pub takes-line : (line : List ℕ) (s : Reader) (n' b' : List ℕ) → is-line (q .given) ≡ true → line ≡ line-bytes (q .line)
-      → ReadAs (read-line r ns bs (closed-line line)) s n' b' → ReadAs (after-closed take-line at q) s n' b'
-  unfolding after-closed take-line
+      → ReadAs (read-line r ns bs (closed-line line)) s n' b' → ReadAs (after-call take-line at q) s n' b'
+  unfolding after-call take-line
   takes-line line s n' b' e f h = rw e (subst (λ (l : List ℕ). ReadAs (read-line r ns bs (closed-line l)) s n' b') f h)
 
-  pub takes-none : is-line (q .given) ≡ false → ReadAs (after-closed take-line at q) r ns bs
-  unfolding after-closed
+  pub takes-none : is-line (q .given) ≡ false → ReadAs (after-call take-line at q) r ns bs
+  unfolding after-call
   takes-none e = rw e (record { next = refl; nodes = refl; buckets = refl })
 
-  pub known-given : (s : Reader) (n' b' : List ℕ) → KnownIn true r ns bs → ReadAs (after-closed take-line at q) s n' b' → KnownIn true s n' b'
-  unfolding after-closed take-line
-  known-given s n' b' k h = known-as true (after-closed take-line at q) (h .next) (h .nodes) (h .buckets) (go (is-line (q .given)))
+  known-given : (s : Reader) (n' b' : List ℕ) → KnownIn true r ns bs → ReadAs (after-call take-line at q) s n' b' → KnownIn true s n' b'
+  unfolding after-call take-line
+  known-given s n' b' k h = known-as true (after-call take-line at q) (h .next) (h .nodes) (h .buckets) (go (is-line (q .given)))
     where
       go : (b : Bool) → KnownAfter true (if b then take-line at (line-bytes (q .line)) else at)
       go true = read-known true (closed-line (line-bytes (q .line))) r ns bs k
@@ -60,214 +64,186 @@ read-so : (d : LineRead) (s : Reader) (n' b' : List ℕ) → ReadAs d s n' b' �
 read-so d s n' b' h =
     let e : line-read s n' b' ≡ line-read (d .reader) (d .nodes) (d .buckets) = cc (h .next, h .nodes, h .buckets) in sym e
 
-pub known-new : (r : Reader) (ns bs : List ℕ) → r ≡ new-reader → KnownIn true r ns bs
-unfolding new-reader Known
-known-new r ns bs e = subst (λ (x : Reader). KnownIn true x ns bs) (sym e) refl
+-- ---- one turn of the loop
 
-pub ends-after : (r : Reader) (ns bs line l : List ℕ) (s : Reader) (n' b' : List ℕ) (v : Verdict) → ReadAs (read-line r ns bs (closed-line line)) s n' b'
-    → line ≡ l → v ≡ read-end true s n' b' → v ≡ end-at true (take-line (line-read r ns bs) l)
-unfolding take-line
-ends-after r ns bs line l s n' b' v h e f =
-    f ∙ ap (end-at true) (sym (read-so (read-line r ns bs (closed-line line)) s n' b' h))
-    ∙ ap (λ (w : List ℕ). end-at true (read-line r ns bs (closed-line w))) e
+abbrev take-defined : defined.Reader → List ℕ → defined.Reader
+take-defined e l = read-defined e (closed-line l)
 
-module _ (ns₀ bs₀ room₀ : List ℕ) where
-  abbrev start : LineRead
-  start = line-read new-reader ns₀ bs₀
+module _ (reads : Bool) (input : List ℕ) where
+  pub starts : (p : Input) (r : Reader) (ns bs : List ℕ) → p ≡ begin reads (length input) → r ≡ new-reader → 2176 ≤ length ns → 13200 ≤ length bs
+      → Reading reads input p input r ns bs
+  unfolding begin new-reader new-defined Known
+  starts p r ns bs e f nodes-fit buckets-fit =
+      subst (λ (x : Reader). Reading reads input p input x ns bs) (sym f)
+      (record {
+        place = new-defined;
+        follows = begins lines-text reads input new-defined p new-defined e refl;
+        stands = in-header refl nodes-fit buckets-fit;
+        numbered = rw e (omega arith);
+        long-numbered = λ z. omega arith;
+        known = refl;
+      })
 
-  pub starts : (p : Input) (r : Reader) → p ≡ unread → r ≡ new-reader → Reaches lines-verdict unread room₀ start p room₀ (line-read r ns₀ bs₀)
-  unfolding unread
-  starts p r e f =
-      let none : Reaches lines-verdict unread room₀ start unread room₀ start =
-      reaches-none lines-verdict unread room₀ start (omega arith, omega arith) refl (omega arith) in
-      subst (λ (x : Input). Reaches lines-verdict unread room₀ start x room₀ (line-read r ns₀ bs₀)) (sym e)
-      (subst (λ (x : Reader). Reaches lines-verdict unread room₀ start unread room₀ (line-read x ns₀ bs₀)) (sym f) none)
+  module _ (p : Input) (room : List ℕ) (r : Reader) (ns bs : List ℕ) (i : Reading reads input p room r ns bs) (going : 0 < p .left)
+      (q : Input) (room' : List ℕ) (g : Gives p room q room') where
+    -- a call gave something: one more was left
+    one-more : failed (q .given) ≡ false → i .place .number < most-lines
+    one-more e = go (ltb (p .left) 2) refl
+      where
+        go : (b : Bool) → ltb (p .left) 2 ≡ b → i .place .number < most-lines
+        go true z = never (sym e ∙ g .no-calls (ltb-true (p .left) 2 z))
+        go false z = omega (arith, ltb-false (p .left) 2 z, i .numbered)
 
-  pub turns : (p : Input) (room : List ℕ) (r : Reader) (ns bs : List ℕ) (q : Input) (room' : List ℕ) (s : Reader) (n' b' : List ℕ) (b : Bool) (d : Input)
-      → Reaches lines-verdict unread room₀ start p room (line-read r ns bs) → 0 < p .left → Gives p room q room'
-      → ReadAs (after-closed take-line (line-read r ns bs) q) s n' b' → b ≡ is-decided (s .phase) → d ≡ settled-if b q
-      → Reaches lines-verdict unread room₀ start d room' (line-read s n' b')
-  turns p room r ns bs q room' s n' b' b d f going g h e i =
-      let given = reaches-call lines-verdict unread room₀ start take-line takes-closed p room (line-read r ns bs) q room' f going g in
-      let taken = subst (λ (x : LineRead). Reaches lines-verdict unread room₀ start q room' x)
-      (read-so (after-closed take-line (line-read r ns bs) q) s n' b' h) given in
-      subst (λ (x : Input). Reaches lines-verdict unread room₀ start x room' (line-read s n' b')) (sym i)
-      (reaches-settled lines-verdict unread room₀ start q room' (line-read s n' b') b (λ z. verify-decides (line-read s n' b') (sym e ∙ z)) taken)
+    takes : Both (after-call take-line (line-read r ns bs) q) (after-call take-defined (i .place) q) (suc (i .place .number))
+    unfolding after-call take-line
+    takes = go (is-line (q .given)) refl
+      where
+        go : (b : Bool) → is-line (q .given) ≡ b
+            → Both (if b then take-line (line-read r ns bs) (line-bytes (q .line)) else line-read r ns bs)
+            (if b then take-defined (i .place) (line-bytes (q .line)) else (i .place)) (suc (i .place .number))
+        go true e =
+            let n = given-number (q .given) in
+            line-as-defined (line-read r ns bs) (closed-line (line-bytes (q .line))) (i .stands) (one-more (le-ltb 4 n (omega (arith, eqb-true n 1 e))))
+        go false e = record { stands = i .stands; number = omega arith }
+
+    pub turns : (s : Reader) (n' b' : List ℕ) (b : Bool) (d : Input) → ReadAs (after-call take-line (line-read r ns bs) q) s n' b' → b ≡ is-decided (s .phase)
+        → d ≡ settled-if b q → Reading reads input d room' s n' b'
+    unfolding lines-text read-lines settled-if after-call given-number
+    turns s n' b' b d h e settled =
+        let stood = subst (λ (x : LineRead). AsDefined x (after-call take-defined (i .place) q)) (read-so _ s n' b' h) (takes .stands) in
+        let decided : is-decided (s .phase) ≡ is-decided (after-call take-defined (i .place) q .phase) = ap is-decided (same-phase _ stood) in
+        record {
+          place = after-call take-defined (i .place) q;
+          follows =
+              turn lines-text reads input new-defined take-defined (λ x l ls few. refl) p room (i .place) q room' _ b d (i .follows) going g refl
+              (λ z ls. ap verdict-text (decides _ (sym decided ∙ sym e ∙ z) ls)) settled;
+          stands = stood;
+          numbered = omega (arith, takes .number, i .numbered, turn-left p room q room' b d going g settled);
+          long-numbered = λ z. long b (sym (ap (λ (x : Input). x .given) settled) ∙ z);
+          known = known-given r ns bs q s n' b' (i .known) h;
+        }
+      where
+        long : (c : Bool) → settled-if c q .given ≡ TooLong → after-call take-defined (i .place) q .number < most-lines
+        long true z = let y : _≡_ {A = ℕ} 0 1 = cc in absurd (omega arith)
+        long false z = rw z (one-more (rw z))
 
 -- ---- a line that is too long
 
-long-split : (l xs : List ℕ) → 0 < length l → (P : List InputLine → Type 0) → ((rest : List ℕ) (ls : List InputLine) → P (closed-line (l ++ rest) ∷ ls))
-    → ((rest : List ℕ) → P (open-line (l ++ rest) ∷ [])) → P (split-lines l xs)
-unfolding split-lines
-long-split l [] some P c o =
-    rw (ne-eqb (length l) 0 (λ z. absurd (omega arith))) (subst (λ (w : List ℕ). P (open-line w ∷ [])) (append-nil l) (o []))
-long-split l (x ∷ xs) some P c o =
-    let more : (rest : List ℕ) → l ++ (x ∷ rest) ≡ (l ++ (x ∷ [])) ++ rest = λ rest. sym (append-assoc l (x ∷ []) rest) in
-    go (eqb x newline)
-    (long-split (l ++ (x ∷ [])) xs (omega (arith, length-append l (x ∷ []))) P
-    (λ rest ls. subst (λ (w : List ℕ). P (closed-line w ∷ ls)) (more rest) (c (x ∷ rest) ls))
-    (λ rest. subst (λ (w : List ℕ). P (open-line w ∷ [])) (more rest) (o (x ∷ rest))))
-  where
-    go : (b : Bool) → P (split-lines (l ++ (x ∷ [])) xs) → P (if b then (closed-line l ∷ split-lines [] xs) else split-lines (l ++ (x ∷ [])) xs)
-    go true k = subst (λ (w : List ℕ). P (closed-line w ∷ split-lines [] xs)) (append-nil l) (c [] (split-lines [] xs))
-    go false k = k
+pub long-gives-so : (d : LineRead) (l : List ℕ) (g : LongLine) (line : List ℕ) (s : Reader) (n' b' : List ℕ)
+    → g .unclosed ≡ read-end false (d .reader) (d .nodes) (d .buckets) → line ≡ l
+    → ReadAs (read-line (d .reader) (d .nodes) (d .buckets) (closed-line line)) s n' b' → g .closed ≡ read-end true s n' b'
+    → printed-length (d .reader .phase) ≤ 41 → (e : defined.Reader) → AsDefined d e → e .number < most-lines → length l ≡ 41 → LongGives e l g
+unfolding read-lines
+long-gives-so d l g line s n' b' unclosed same taken closed short e a few long =
+    let b = line-as-defined d (closed-line line) a few in
+    let stood = subst (λ (x : LineRead). AsDefined x (read-defined e (closed-line line))) (read-so _ s n' b' taken) (b .stands) in
+    let printed : printed-length (e .phase) ≤ 41 = subst (λ (n : ℕ). n ≤ 41) (ap printed-length (same-phase d a)) short in
+    record {
+      unclosed-gives = λ w. sym (unclosed ∙ end-as-defined false w d a);
+      closed-gives = λ rest ls. long-closed e l rest ls (omega (arith, long)) printed
+          ∙ ap (λ (w : List ℕ). read-lines e (closed-line w ∷ [])) (sym same)
+          ∙ sym (closed ∙ end-as-defined true [] (line-read s n' b') stood);
+    }
 
-module _ (d : LineRead) (p : Input) (room : List ℕ) (e : p .given ≡ TooLong) (long : length (line-bytes (p .line)) ≡ 41) (g : LongLine)
-    (gives : LongGives d (line-bytes (p .line)) g) where
-  closed-so : (rest : List ℕ) (ls : List InputLine) → lines-verdict d (closed-line (line-bytes (p .line) ++ rest) ∷ ls) ≡ g .closed
-  closed-so rest ls = long-closed d (line-bytes (p .line)) rest ls (omega (arith, long)) (gives .short) ∙ sym (gives .closed-gives)
+module _ (reads : Bool) (input : List ℕ) (p : Input) (room : List ℕ) (e : defined.Reader) (f : Follows lines-text reads input new-defined p room e)
+    (long : p .given ≡ TooLong) (g : LongLine) (gives : LongGives e (line-bytes (p .line)) g) where
+  abbrev printed : List ℕ → List ℕ
+  printed xs = lines-text new-defined (input-lines xs)
 
-  unclosed-so : (l : List ℕ) → lines-verdict d (open-line l ∷ []) ≡ g .unclosed
-  unclosed-so l = ends-unclosed d l ∙ sym (gives .unclosed-gives)
+  still-coming : (more : List ℕ) → to-come p room more ≡ lines-left p room more
+  unfolding to-come given-number
+  still-coming more = rw long
 
   -- one refusal, whether it is closed or not
-  pub answers-now : g .unclosed ≡ g .closed → Answers lines-verdict p room d p (g .closed)
-  unfolding lines-left begun-line is-line
-  answers-now same =
+  pub answers-now : length (p .line .bytes) ≡ 41 → g .unclosed ≡ g .closed → Answers printed reads input p (verdict-text (g .closed))
+  unfolding lines-text last-lines cut-off given-number
+  answers-now line same =
+      let l = line-bytes (p .line) in
+      let unclosed : (w : List ℕ) → read-lines e (open-line w ∷ []) ≡ g .closed = λ w. gives .unclosed-gives w ∙ same in
+      subst (λ (w : List ℕ). Answers printed reads input p w) (rw long (ap verdict-text (unclosed l)))
+      (ends-at lines-text reads input new-defined p room e line (let z = f .over (rw long) in omega arith) f
+      (λ i more. ap verdict-text (begun-line-ends l _ (omega (arith, f .long long)) (λ ls. read-lines e ls ≡ read-lines e (open-line l ∷ []))
+      (λ rest ls. gives .closed-gives rest ls ∙ sym (unclosed l)) (λ rest. unclosed _ ∙ sym (unclosed l)))))
+
+  -- its end was sought: byte 10 closed it, or the input ended in the middle of it
+  pub answers-then : (q : Input) (room' : List ℕ) → Closes p room q room' → (b : Bool) → at-end (q .given) ≡ b
+      → Answers printed reads input q (verdict-text (if b then g .unclosed else g .closed))
+  unfolding lines-text to-come given-number
+  answers-then q room' c b h =
       record {
-        read = [];
-        none-read = λ z. refl;
-        whole = λ z. let y : _≡_ {A = ℕ} 0 1 = cc in absurd (omega arith);
-        whatever = λ z more. rw e
-            (long-split (line-bytes (p .line)) (pending p room ++ more) (omega (arith, long)) (λ ls. lines-verdict d ls ≡ g .closed) closed-so
-            (λ rest. unclosed-so _ ∙ same));
+        read = f .read ++ c .read;
+        in-memory = λ z. ap (λ (w : List ℕ). f .read ++ w) (c .in-memory (f .source ∙ z) .0) ∙ append-nil (f .read) ∙ f .in-memory z .0;
+        over = over (c .over);
+        never-fails = λ z few. c .never-fails (f .source ∙ z) (omega (arith, few, f .fits, ap length (f .in-memory z .1)));
+        whole = λ z. ap printed (sym (append-nil (f .read ++ c .read)))
+            ∙ on []
+            ∙ ap (lines-text e) (ap (lines-left p room) (append-nil (c .read)) ∙ c .ended z)
+            ∙ ap verdict-text (gives .unclosed-gives _ ∙ chosen true (ap at-end z));
+        whatever = λ z more.
+            let y = settled (c .over) z in
+            on more ∙ ap (lines-text e) (c .closed y more) ∙ ap verdict-text (gives .closed-gives _ _ ∙ chosen false (ap at-end y));
       }
+    where
+      on : (more : List ℕ) → printed ((f .read ++ c .read) ++ more) ≡ lines-text e (lines-left p room (c .read ++ more))
+      on more =
+          ap printed (append-assoc (f .read) (c .read) more) ∙ f .same (c .read ++ more) ∙ ap (lines-text e) (still-coming (c .read ++ more))
 
-  module _ (q : Input) (room' : List ℕ) (c : Closes p room q room') where
-    -- the input ended in the middle of it
-    pub answers-unclosed : at-end (q .given) ≡ true → Answers lines-verdict p room d q (g .unclosed)
-    unfolding at-end fixed
-    answers-unclosed z =
-        record {
-          read = c .read;
-          none-read = c .none-read;
-          whole = λ y. ap (lines-verdict d) (c .ended y) ∙ unclosed-so _;
-          whatever = λ y. absurd (go (q .given) z y);
-        }
-      where
-        go : (x : Given) → at-end x ≡ true → fixed x ≡ true → ⊥
-        go Part a f = tf a refl
-        go Line a f = tf a refl
-        go TooLong a f = tf a refl
-        go Ended a f = tf f refl
-        go Settled a f = tf a refl
-        go ReadFailed a f = tf a refl
-        go WriteFailed a f = tf a refl
+      chosen : (x : Bool) → at-end (q .given) ≡ x → (if x then g .unclosed else g .closed) ≡ (if b then g .unclosed else g .closed)
+      chosen x z = ap (λ (y : Bool). if y then g .unclosed else g .closed) (sym z ∙ h)
 
-    -- byte 10 closed it, or a read failed
-    pub answers-closed : at-end (q .given) ≡ false → Answers lines-verdict p room d q (g .closed)
-    unfolding at-end fixed
-    answers-closed z =
-        record {
-          read = c .read;
-          none-read = c .none-read;
-          whole = λ y. absurd (tf (ap at-end y) z);
-          whatever = λ y more. ap (lines-verdict d) (c .closed (go (q .given) refl y) more) ∙ closed-so _ _;
-        }
-      where
-        go : (x : Given) → q .given ≡ x → fixed x ≡ true → q .given ≡ Settled
-        go Part i f = absurd (tf f refl)
-        go Line i f = absurd (tf f refl)
-        go TooLong i f = absurd (c .not-long i)
-        go Ended i f = absurd (tf f refl)
-        go Settled i f = i
-        go ReadFailed i f = absurd (tf f refl)
-        go WriteFailed i f = absurd (tf f refl)
+      over : Over (q .given) → goes-on (q .given) ≡ false
+      over (inl x) = rw x refl
+      over (inr (inl x)) = rw x refl
+      over (inr (inr x)) = le-ltb (given-number (q .given)) 2 (omega (arith, ltb-true 4 (given-number (q .given)) x))
+
+      settled : Over (q .given) → fixed (q .given) ≡ true → q .given ≡ Settled
+      settled (inl x) z = x
+      settled (inr (inl x)) z = never (rw x at z)
+      settled (inr (inr x)) z =
+          let n = given-number (q .given) in
+          absurd (omega (arith, ltb-true 4 n x, ltb-true n 4 (and-right (not (goes-on (q .given))) (ltb n 4) z)))
 
 -- ---- the end
 
 pub long-given : (p : Input) → is-long (p .given) ≡ true → p .given ≡ TooLong
-unfolding is-long
+unfolding given-number
 long-given p h = go (p .given) h
   where
     go : (x : Given) → is-long x ≡ true → x ≡ TooLong
-    go Part e = absurd (tf e refl)
-    go Line e = absurd (tf e refl)
+    go Part e = never e
+    go Line e = never e
     go TooLong e = refl
-    go Ended e = absurd (tf e refl)
-    go Settled e = absurd (tf e refl)
-    go ReadFailed e = absurd (tf e refl)
-    go WriteFailed e = absurd (tf e refl)
+    go Settled e = never e
+    go Ended e = never e
+    go ReadFailed e = never e
+    go WriteFailed e = never e
 
-still-coming : (p : Input) (room more : List ℕ) → p .given ≡ TooLong → coming p room more ≡ lines-left p room more
-unfolding coming is-settled
-still-coming p room more e = rw e
-
-module _ (ns bs room : List ℕ) (t : ReadTo) (n' b' room' : List ℕ) (f : Reads ns bs room t n' b' room') where
-  abbrev stood : LineRead
-  stood = line-read (t .reader) n' b'
-
-  -- after a line that is too long
-  pub answers-long : is-long (t .input .given) ≡ true → (a : Answered) → Answers lines-verdict (t .input) room' stood (a .input) (a .verdict)
-      → Verifies ns bs room a
-  answers-long h a g =
-      let e = long-given (t .input) h in
-      let r = f .reaches in
-      let same : (more : List ℕ) → lines-verdict (line-read new-reader ns bs) (lines-left unread room (r .read ++ more))
-      ≡ lines-verdict stood (lines-left (t .input) room' more) = λ more. r .same more ∙ ap (lines-verdict stood) (still-coming (t .input) room' more e) in
-      let joined : (more : List ℕ) → lines-verdict (line-read new-reader ns bs) (lines-left unread room ((r .read ++ g .read) ++ more))
-      ≡ lines-verdict stood (lines-left (t .input) room' (g .read ++ more)) =
-      λ more. ap (λ (w : List ℕ). lines-verdict (line-read new-reader ns bs) (lines-left unread room w)) (append-assoc (r .read) (g .read) more)
-      ∙ same (g .read ++ more) in
-      record {
-        read = r .read ++ g .read;
-        none-read = λ z. ap (λ (w : List ℕ). w ++ g .read) (r .none-read z) ∙ g .none-read (r .source ∙ z);
-        whole = λ z. ap (λ (w : List ℕ). lines-verdict (line-read new-reader ns bs) (lines-left unread room w)) (sym (append-nil (r .read ++ g .read)))
-            ∙ joined []
-            ∙ ap (λ (w : List ℕ). lines-verdict stood (lines-left (t .input) room' w)) (append-nil (g .read))
-            ∙ g .whole z;
-        whatever = λ z more. joined more ∙ g .whatever z more;
-      }
-
-  -- otherwise, and its last line is closed or is not
-  pub answers-end : is-long (t .input .given) ≡ false → (a : Answered) → EndedAs stood (t .input) a → Verifies ns bs room a
-  unfolding last-lines lines-verdict
-  answers-end h a e =
-      subst (λ (p : Input). Answers lines-verdict unread room (line-read new-reader ns bs) p (a .verdict)) (sym (e .input))
-      (subst (λ (x : Verdict). Answers lines-verdict unread room (line-read new-reader ns bs) (t .input) x) (go (unclosed-end (t .input)) ∙ sym (e .verdict))
-      (comes-to lines-verdict unread room (line-read new-reader ns bs) (t .input) room' stood (e .room)
-      (reaches-follows lines-verdict unread room (line-read new-reader ns bs) (t .input) room' stood h (f .reaches))))
-    where
-      go : (b : Bool) → lines-verdict stood (if b then (open-line (line-bytes (t .input .line)) ∷ []) else []) ≡ end-at (not b) stood
-      go true = ends-unclosed stood (line-bytes (t .input .line))
-      go false = refl
+-- the last line is closed or is not
+pub answers-end : (reads : Bool) (input : List ℕ) (p : Input) (room : List ℕ) (r : Reader) (ns bs : List ℕ) → Reading reads input p room r ns bs
+    → p .left ≤ 0 → is-long (p .given) ≡ false → (a : Answered) → EndedAs r ns bs p a → Verifies reads input a
+unfolding lines-text last-lines given-number
+answers-end reads input p room r ns bs i stopped short a e =
+    subst (λ (x : Input). Answers (λ xs. lines-text new-defined (input-lines xs)) reads input x (verdict-text (a .verdict))) (sym (e .input))
+    (subst (λ (w : List ℕ). Answers (λ xs. lines-text new-defined (input-lines xs)) reads input p w)
+    (ap verdict-text (sym (e .verdict ∙ go (cut-off p))))
+    (ends-at lines-text reads input new-defined p room (i .place) (e .room) stopped (i .follows) (λ z. never (sym short ∙ ap is-long z))))
+  where
+    go : (b : Bool) → read-end (not b) r ns bs ≡ read-lines (i .place) (if b then (open-line (line-bytes (p .line)) ∷ []) else [])
+    go true = end-as-defined false (line-bytes (p .line)) (line-read r ns bs) (i .stands)
+    go false = end-as-defined true [] (line-read r ns bs) (i .stands)
 
 -- ---- the text
-
-decimal-few : (n : ℕ) → length (decimal n) ≤ 20
-unfolding refusal-line key-line
-decimal-few n = omega (arith, simp length-append at (refusal-length n))
 
 pub text-fits : (v : Verdict) → length (verdict-text v) ≤ 32
 unfolding verdict-text key-line
 text-fits Same = omega arith
-text-fits (Differs n) = simp length-append (omega (arith, decimal-few n))
+text-fits (Differs n) = simp length-append (omega (arith, decimal-length n))
 text-fits (Refusal r) = omega (arith, refusal-length r)
 
-pub runs-whole : (ns bs room : List ℕ) (a : Answered) (status : ℤ) → 2176 ≡ length ns → 13200 ≡ length bs → Verifies ns bs room a → Written a status
-    → VerifyRan status
-unfolding lines-text
-runs-whole ns bs room a status n b v w =
-    record {
-      nodes = ns;
-      buckets = bs;
-      node-words = sym n;
-      bucket-words = sym b;
-      ran =
-          record {
-            room = room;
-            shown = [];
-            text = verdict-text (a .verdict);
-            input = a .input;
-            answered =
-                record {
-                  read = v .read;
-                  none-read = v .none-read;
-                  whole = λ z. ap verdict-text (v .whole z);
-                  whatever = λ z more. ap verdict-text (v .whatever z more);
-                };
-            outcome = w .outcome;
-            ends = w .ends;
-            gives = w .gives;
-          };
-    }
+pub prints-verdict : (reads : Bool) (input : List ℕ) (a : Answered) (text : List ℕ) → Verifies reads input a → text ≡ verdict-text (a .verdict)
+    → Prints verify-output reads input (a .input) text
+unfolding lines-text verify-output
+prints-verdict reads input a text v e =
+    let f : List ℕ → List ℕ = λ xs. lines-text new-defined (input-lines xs) in
+    prints-as f verify-output (λ xs. ap verdict-text (sym (reader-gives-verdict xs))) reads input (a .input) text
+    (record { shown = []; none-shown = λ z. refl; answered = subst (λ (w : List ℕ). Answers f reads input (a .input) w) (sym e) v })

@@ -1,8 +1,5 @@
-pub mod Follows
-pub mod LentVerdict
-pub mod ListingPlaces
-pub mod OutsideLines
-pub mod GivesVerdict
+pub mod AsDefined
 pub mod KnownMemory
+pub mod ListingPlaces
 pub mod ShortPrinted
 pub mod Verifies

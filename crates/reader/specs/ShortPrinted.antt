@@ -12,7 +12,17 @@ use Rattle.spec.specs.declared.Occupancy.the-variants.{NotGiven, Tags}
 use Rattle.spec.specs.declared.Output.the-variants.{At, End, Refuse}
 use Rattle.spec.specs.Lists.{if_then_else_}
 use Rattle.session.specs.OutputLengths.{decimal-length, refusal-length, word-length}
+use Rattle.recording.specs.declared.ReaderPhase.{ReaderPhase}
+use Rattle.recording.specs.declared.ReaderPhase.the-variants.{Due, Event as EventDue, Printed, Listed, Decided}
 use Rattle.session.specs.Print.{decimal-digits, decimal, occupancy-field, output-line}
+
+-- of the line that a reader awaits, where it is printed
+unfoldable pub printed-length : ReaderPhase → ℕ
+printed-length (Due due) = 0
+printed-length EventDue = 0
+printed-length (Printed k o) = length (output-line k o)
+printed-length (Listed k) = 0
+printed-length (Decided v) = 0
 
 -- 10 to the power of q
 unfoldable tenfold : ℕ → ℕ

@@ -1,24 +1,26 @@
-// yardverify: what a reader of recordings answers, the recording on standard input and `same`, `line=N` or `refuse=N` on standard output. It
+// yardverify: what a reader of recordings answers, the recording on standard input or in memory and `same`, `line=N` or `refuse=N` on standard output. It
 // holds one read of the input, one line, and the two pools.
 ghost use mathlib.Core.Path.{_≡_};
-ghost use mathlib.Core.Bool.{true};
-ghost use Prim.Native.Nat.{_≤_};
-ghost use lib.ListN.{length};
+ghost use mathlib.Core.Bool.{Bool, true};
+ghost use mathlib.Core.List.{List};
+ghost use Prim.Native.Nat.{ℕ, _<_, _≤_};
+ghost use lib.ListN.{length, take};
 ghost use Rattle.session.specs.Print.{output-line};
 ghost use Rattle.session.specs.Buffer.{buffer, append};
 ghost use Rattle.partial_line.specs.PartialLines.{line-bytes};
+ghost use Rattle.recording.specs.Reader as defined;
 ghost use Rattle.stdio.specs.declared.input.Given.the-variants.{TooLong};
 ghost use Rattle.stdio.specs.Inputs.{Fits};
-ghost use Rattle.stdio.specs.Readers.{Answers};
-ghost use Rattle.stdio.specs.LongLines.{after-closed};
-ghost use Rattle.reader_state.specs.Standing.{LineRead, line-read, ReadAs};
+ghost use Rattle.stdio.specs.Readers.{after-call, Follows};
+ghost use Rattle.stdio.specs.Runs.{Prints, Ran};
+ghost use Rattle.reader_state.specs.Standing.{most-lines, line-read, ReadAs};
 ghost use Rattle.spec.specs.declared.Answer.{Answer};
 ghost use Rattle.spec.specs.declared.Occupancy.the-variants.{NotGiven, Tags};
 ghost use Rattle.spec.specs.declared.Output.the-variants.{End};
+ghost use Rattle.reader.specs.AsDefined.{AsDefined, is-decided};
 ghost use Rattle.reader.specs.KnownMemory.{KnownIn};
-ghost use Rattle.reader.specs.LentVerdict.{take-line, lines-verdict, is-decided};
-ghost use Rattle.reader.specs.OutsideLines.{printed-length};
-ghost use Rattle.reader.specs.Verifies.{Reads, LongGives, EndedAs, Verifies, verdict-text, Written, VerifyRan};
+ghost use Rattle.reader.specs.ShortPrinted.{printed-length};
+ghost use Rattle.reader.specs.Verifies.{verdict-text, verify-output, take-line, lines-text, Reading, Verifies, EndedAs, LongGives};
 use crate::by_line;
 use reader_state::Reader;
 use recording::ReaderPhase;
@@ -27,22 +29,8 @@ use spec::Occupancy;
 use spec::Output;
 use stdio::input;
 use stdio::input::Input;
-use stdio::output;
+use stdio::output::Text;
 use stdio::rest;
-
-// 64 nodes of 34 words. The `ensures` gives the length, which lending the array needs.
-fn node_words() -> [u32; 2176]
-    ensures { λ r. ⌜ 2176 ≡ length r ⌝ }
-{
-    [0; 2176]
-}
-
-// 200 buckets of 66 words.
-fn bucket_words() -> [u32; 13200]
-    ensures { λ r. ⌜ 13200 ≡ length r ⌝ }
-{
-    [0; 13200]
-}
 
 // Whether the answer is given.
 fn is_decided(phase: ReaderPhase) -> bool
@@ -57,12 +45,12 @@ fn is_decided(phase: ReaderPhase) -> bool
     }
 }
 
-// A closed line that is at hand is read. One that is too long is not: it may still be closed or not.
+// A closed line that is at hand is read.
 fn take_given(r: Reader, q: Input, ns: &mut [u32], bs: &mut [u32]) -> Reader
     requires { ⌜ KnownIn true r (now ns) (now bs) ⌝ }
-    ensures { λ s. ⌜ ReadAs (after-closed take-line (line-read r (now (ns .entry)) (now (bs .entry))) q) s (now (ns .exit)) (now (bs .exit)) ⌝ }
+    ensures { λ s. ⌜ ReadAs (after-call take-line (line-read r (now (ns .entry)) (now (bs .entry))) q) s (now (ns .exit)) (now (bs .exit)) ⌝ }
 {
-    if rest::has_closed(q) {
+    if input::has_line(q) {
         let h = q.line;
         let n = partial_line::line_length(h);
         let b = h.bytes;
@@ -71,17 +59,19 @@ fn take_given(r: Reader, q: Input, ns: &mut [u32], bs: &mut [u32]) -> Reader
     r
 }
 
-// Standard input and the reader, where reading stopped.
+// The input and the reader, where reading stopped.
 pub struct ReadTo {
     pub input: Input,
     pub reader: Reader,
 }
 
 // Reads until the input ends, the answer is given, or a line is too long.
-fn read(ns: &mut [u32], bs: &mut [u32], room: &mut [u8]) -> ReadTo
-    ensures { λ t. ⌜ Reads (now (ns .entry)) (now (bs .entry)) (now (room .entry)) t (now (ns .exit)) (now (bs .exit)) (now (room .exit)) ⌝ }
+fn read(reads: bool, room: &mut [u8], ns: &mut [u32], bs: &mut [u32]) -> ReadTo
+    requires { ⌜ (2176 ≤ length (now ns)) × (13200 ≤ length (now bs)) ⌝ }
+    ensures { λ t. ⌜ Reading reads (now (room .entry)) (t .input) (now (room .exit)) (t .reader) (now (ns .exit)) (now (bs .exit)) ⌝ }
+    ensures { λ t. ⌜ t .input .left ≤ 0 ⌝ }
 {
-    let mut p = input::unread();
+    let mut p = input::begin(reads, room.len());
     let mut r = reader_state::new_reader();
     while 0 < p.left {
         let q = input::next_line(p, room);
@@ -146,7 +136,7 @@ fn same_refusal(u: Verdict, v: Verdict) -> bool
     }
 }
 
-// The answer, and standard input where it was found.
+// The answer, and the input where it was found.
 pub struct Answered {
     pub input: Input,
     pub verdict: Verdict,
@@ -160,7 +150,8 @@ pub struct LongLine {
 
 fn long_gives(r: Reader, p: Input, ns: &mut [u32], bs: &mut [u32]) -> LongLine
     requires { ⌜ KnownIn true r (now ns) (now bs) ⌝ }
-    ensures { λ g. ⌜ LongGives (line-read r (now (ns .entry)) (now (bs .entry))) (line-bytes (p .line)) g ⌝ }
+    ensures { λ g. ⌜ ((e : defined.Reader) → AsDefined (line-read r (now (ns .entry)) (now (bs .entry))) e → e .number < most-lines
+        → length (line-bytes (p .line)) ≡ 41 → LongGives e (line-bytes (p .line)) g) ⌝ }
 {
     let phase = r.phase;
     short_printed(phase);
@@ -175,8 +166,9 @@ fn long_gives(r: Reader, p: Input, ns: &mut [u32], bs: &mut [u32]) -> LongLine
 
 // A line that is too long. Where it gives the same refusal whether it is closed or not nothing more is read; otherwise the line is read to its end.
 fn long_line(g: LongLine, p: Input, room: &mut [u8]) -> Answered
-    requires { ⌜ Fits p (now room) × (p .given ≡ TooLong) × (length (line-bytes (p .line)) ≡ 41) ⌝ }
-    ensures { λ a. ⌜ ((d : LineRead) → LongGives d (line-bytes (p .line)) g → Answers lines-verdict p (now (room .entry)) d (a .input) (a .verdict)) ⌝ }
+    requires { ⌜ Fits p (now room) × (p .given ≡ TooLong) × (0 < length (line-bytes (p .line))) ⌝ }
+    ensures { λ a. ⌜ ((reads : Bool) (input : List ℕ) (e : defined.Reader) → Follows lines-text reads input defined.new-reader p (now (room .entry)) e
+        → LongGives e (line-bytes (p .line)) g → Verifies reads input a) ⌝ }
 {
     let unclosed = g.unclosed;
     let closed = g.closed;
@@ -187,7 +179,7 @@ fn long_line(g: LongLine, p: Input, room: &mut [u8]) -> Answered
         };
     }
     let q = rest::close_line(p, room);
-    if rest::has_ended(q) {
+    if input::has_ended(q) {
         return Answered {
             input: q,
             verdict: unclosed,
@@ -201,21 +193,22 @@ fn long_line(g: LongLine, p: Input, room: &mut [u8]) -> Answered
 
 // The end of the input, whose last line is closed or is not, or of what is read of it.
 fn ended(r: Reader, p: Input, ns: &[u32], bs: &[u32]) -> Answered
-    ensures { λ a. ⌜ EndedAs (line-read r (now (ns .entry)) (now (bs .entry))) p a ⌝ }
+    ensures { λ a. ⌜ EndedAs r (now (ns .entry)) (now (bs .entry)) p a ⌝ }
 {
-    let unclosed = input::unclosed(p);
+    let unclosed = input::cut_off(p);
     let verdict = by_line::read_end(!unclosed, r, ns, bs);
     Answered { input: p, verdict }
 }
 
 // The answer.
-fn answer(ns: &mut [u32], bs: &mut [u32], room: &mut [u8]) -> Answered
-    ensures { λ a. ⌜ Verifies (now (ns .entry)) (now (bs .entry)) (now (room .entry)) a ⌝ }
+fn answer(reads: bool, room: &mut [u8], ns: &mut [u32], bs: &mut [u32]) -> Answered
+    requires { ⌜ (2176 ≤ length (now ns)) × (13200 ≤ length (now bs)) ⌝ }
+    ensures { λ a. ⌜ Verifies reads (now (room .entry)) a ⌝ }
 {
-    let t = read(ns, bs, room);
+    let t = read(reads, room, ns, bs);
     let p = t.input;
     let r = t.reader;
-    if rest::has_long(p) {
+    if input::has_long(p) {
         let g = long_gives(r, p, ns, bs);
         return long_line(g, p, room);
     }
@@ -233,24 +226,27 @@ fn print(buf: &mut [u8], v: Verdict) -> usize
     }
 }
 
-// The answer, written, and the exit status.
-fn write(a: Answered) -> i32
-    ensures { λ r. ⌜ Written a r ⌝ }
+// What is printed for an input: standard input if `reads`, else the bytes of the room.
+pub fn text(reads: bool, room: &mut [u8], ns: &mut [u32], bs: &mut [u32], out: &mut [u8]) -> Text
+    requires { ⌜ (2176 ≤ length (now ns)) × (13200 ≤ length (now bs)) × (32 ≤ length (now out)) ⌝ }
+    ensures { λ t. ⌜ Prints verify-output reads (now (room .entry)) (t .input) (take (t .len) (now (out .exit))) ⌝ }
+    ensures { λ t. ⌜ t .len ≤ length (now (out .exit)) ⌝ }
 {
-    let mut text = [0u8; 32];
+    let a = answer(reads, room, ns, bs);
     let v = a.verdict;
-    let n = print(&mut text, v);
-    let o = output::answer(b"verify", a.input, &text[..n]);
-    output::status(o)
+    let len = print(out, v);
+    let input = a.input;
+    Text { input, len }
 }
 
 // The program: its exit status.
 pub fn yardverify() -> i32
-    ensures { λ r. ⌜ VerifyRan r ⌝ }
+    ensures { λ r. ⌜ Ran verify-output r ⌝ }
 {
-    let mut ns = node_words();
-    let mut bs = bucket_words();
+    let mut ns = session_pools::node_words();
+    let mut bs = session_pools::bucket_words();
     let mut room = input::room();
-    let a = answer(&mut ns, &mut bs, &mut room);
-    write(a)
+    let mut out = [0u8; 32];
+    let t = text(true, &mut room, &mut ns, &mut bs, &mut out);
+    stdio::output::exit(b"verify", t, &out)
 }

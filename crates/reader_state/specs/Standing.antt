@@ -1,6 +1,6 @@
 -- What one line does to a reader whose pools are lent whole, and what it answers at the end of its input: the definitions that the code is
 -- held to. They are recording's, over the machine in the reader's part of the pools; that they give the paper's verdict is shown in
--- the crate reader, GivesVerdict. Assumes nothing.
+-- the crate reader, AsDefined. Assumes nothing.
 use Prim.Native.Nat.{ℕ, suc, _+_, min}
 use mathlib.Core.Path.{_≡_}
 use mathlib.Core.List.{List, _++_}

@@ -1,14 +1,12 @@
 -- The recorder over lent pools: what a line and the end of the input do, and what is written for them. These are the definitions that the code
 -- is held to; that they write the recording is shown in WritesRecording. Assumes nothing.
 use Prim.Native.Nat.{ℕ}
-use mathlib.Core.Path.{_≡_}
 use mathlib.Core.List.{List, [], _∷_, _++_}
 use mathlib.Core.Bool.{Bool, true, false}
 use Rattle.spec.specs.Lists.{if_then_else_}
 use Rattle.session.specs.declared.Header.{Header}
 use Rattle.session.specs.declared.HeaderStep.{HeaderStep}
 use Rattle.session.specs.declared.HeaderStep.the-variants.{Next, Complete, Absent, Missing}
-use Rattle.session.specs.Buffer.{buffer, append}
 use Rattle.session.specs.Grammar.{InputLine, closed-line, parse-event-line}
 use Rattle.session.specs.Header.{optional, header-step}
 use Rattle.session.specs.Transcript.{is-event}
@@ -77,49 +75,36 @@ new-recorder = recorder new-session no-lines
 abbrev pub recorded : Recorder → ℕ → Recorded
 recorded r n = record { recorder = r; written = n }
 
--- where it stands, what the lent pools hold, and all that is written so far
-pub record Progress : Type 0 where
+-- where it stands, and what the lent pools hold
+pub record Lent : Type 0 where
   pub recorder : Recorder
   pub nodes : List ℕ
   pub buckets : List ℕ
-  pub writes : List ℕ
 
-abbrev pub progress : Recorder → List ℕ → List ℕ → List ℕ → Progress
-progress r ns bs writes = record { recorder = r; nodes = ns; buckets = bs; writes = writes }
+abbrev pub lent : Recorder → List ℕ → List ℕ → Lent
+lent r ns bs = record { recorder = r; nodes = ns; buckets = bs }
 
-abbrev pub begin : Recorder → List ℕ → List ℕ → Progress
-begin r ns bs = progress r ns bs []
+-- ---- what a line does, and the end of the input
 
--- a line: what it does and what is kept then
-abbrev pub line-of : Progress → InputLine → LineEffect
-line-of p l = recorded-line l (p .recorder .kept) (p .recorder .session) (p .nodes) (p .buckets)
+abbrev pub line-of : Lent → InputLine → LineEffect
+line-of s l = recorded-line l (s .recorder .kept) (s .recorder .session) (s .nodes) (s .buckets)
 
-unfoldable pub then-line : Progress → InputLine → Progress
-then-line p l =
-    let d = line-of p l in
-    progress (recorder (d .session) (kept-after (p .recorder .session .phase) (p .recorder .kept) (l .bytes))) (d .nodes) (d .buckets) (p .writes ++ d .prints)
+abbrev pub end-of : Lent → LineEffect
+end-of s = recorded-end (s .recorder .session .phase) (s .recorder .kept) (s .recorder .session) (s .nodes) (s .buckets)
+
+unfoldable pub after-line : Lent → InputLine → Lent
+after-line s l =
+    let d = line-of s l in
+    lent (recorder (d .session) (kept-after (s .recorder .session .phase) (s .recorder .kept) (l .bytes))) (d .nodes) (d .buckets)
+
+-- what is written if these lines follow
+unfoldable pub recorded-from : Lent → List InputLine → List ℕ
+recorded-from s [] = end-of s .prints
+recorded-from s (l ∷ ls) = line-of s l .prints ++ recorded-from (after-line s l) ls
 
 -- the bytes of one closed line
-unfoldable pub take-line : Progress → List ℕ → Progress
-take-line p line = then-line p (closed-line line)
+unfoldable pub take-line : Lent → List ℕ → Lent
+take-line s line = after-line s (closed-line line)
 
--- the end of the input
-unfoldable pub record-end : Recorder → List ℕ → List ℕ → LineEffect
-record-end r ns bs = recorded-end (r .session .phase) (r .kept) (r .session) ns bs
-
-abbrev pub end-of : Progress → LineEffect
-end-of p = record-end (p .recorder) (p .nodes) (p .buckets)
-
--- the lines, one after the other, and their end: all that is written
-unfoldable pub all-recorded : Progress → List InputLine → List ℕ
-all-recorded p [] = p .writes ++ end-of p .prints
-all-recorded p (l ∷ ls) = all-recorded (then-line p l) ls
-
--- ---- what the code is held to: what it gives, what it leaves in the pools, and what it appended to the buffer that held `before` from `due` on,
--- and then holds `after`
-
-pub record RecordedAs (d : Progress) (r : Recorded) (ns bs : List ℕ) (due : ℕ) (before after : List ℕ) : Type 0 where
-  pub next : r .recorder ≡ d .recorder
-  pub nodes : ns ≡ d .nodes
-  pub buckets : bs ≡ d .buckets
-  pub wrote : buffer after (r .written) ≡ append (d .writes) (buffer before due)
+unfoldable pub line-prints : Lent → List ℕ → List ℕ
+line-prints s line = line-of s (closed-line line) .prints

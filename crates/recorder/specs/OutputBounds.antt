@@ -1,5 +1,5 @@
 -- How many bytes are written at most: `longest-pair` for each line of an input, and once `longest-last`, the kept header lines and the final
--- listing, whenever these come. So a caller can lend room for it: `line-bound`, `end-bound`. Assumes nothing.
+-- listing, whenever these come. So a caller can lend room for all of it: `line-bound`, `end-bound`. Assumes nothing.
 use mathlib.Core.Path.{_≡_, refl, sym, ap, subst, _∙_}
 use mathlib.Core.List.{List, [], _++_}
 use mathlib.Core.Bool.{Bool, true, false}
@@ -36,8 +36,7 @@ use Rattle.recording_laws.specs.HeaderLaws.{TakenLine, HeaderKnown, goes-on, la
 use Rattle.recorder_lines.specs.declared.KeptLines.{KeptLines}
 use Rattle.recorder_lines.specs.KeptLines.{kept-bytes}
 use Rattle.recorder.specs.LentRecorder.{after-bytes, recorded-event, first-recorded, recorded-opening, recorded-header, recorded-phase, recorded-line}
-use Rattle.recorder.specs.LentRecorder.{recorded-end, Progress, line-of, record-end, end-of}
-use Rattle.recorder.specs.LineRecorder.{outside-line, end-stops}
+use Rattle.recorder.specs.LentRecorder.{recorded-end, Lent, line-of, end-of}
 
 -- an event's line, closed, and its output line
 abbrev pub longest-pair : ℕ
@@ -154,11 +153,11 @@ line-spends Events k l s ns bs e room =
     subst (λ (t : Session). Spends (recorded-event l t ns bs) (longest-end + longest-pair)) same (event-spends (s .header) (s .state) ns bs l)
 line-spends Stopped k l s ns bs e room = omega (arith, ap still-due e)
 
-pub line-bound : (p : Progress) (l : InputLine) → length (p .recorder .kept .bytes) ≡ longest-header
-    → length (line-of p l .prints) + still-due (line-of p l .session .phase) ≤ still-due (p .recorder .session .phase) + longest-pair
+pub line-bound : (s : Lent) (l : InputLine) → length (s .recorder .kept .bytes) ≡ longest-header
+    → length (line-of s l .prints) + still-due (line-of s l .session .phase) ≤ still-due (s .recorder .session .phase) + longest-pair
 unfolding recorded-line
-line-bound p l room =
-    line-spends (p .recorder .session .phase) (p .recorder .kept) l (p .recorder .session) (p .nodes) (p .buckets) refl room
+line-bound s l room =
+    line-spends (s .recorder .session .phase) (s .recorder .kept) l (s .recorder .session) (s .nodes) (s .buckets) refl room
 
 -- ---- the end of the input
 
@@ -178,16 +177,5 @@ phase-end-bound (Due due) k s ns bs room = go (optional due)
 phase-end-bound Events k s ns bs room = session-bounds.end-bound s ns bs
 phase-end-bound Stopped k s ns bs room = omega arith
 
-pub end-bound : (p : Progress) → length (p .recorder .kept .bytes) ≡ longest-header
-    → length (end-of p .prints) ≤ still-due (p .recorder .session .phase)
-unfolding record-end
-end-bound p room = phase-end-bound (p .recorder .session .phase) (p .recorder .kept) (p .recorder .session) (p .nodes) (p .buckets) room
-
--- a line that is too long or not closed has no more written than the end
-pub outside-bound : (p : Progress) (l : InputLine) → admissible l ≡ false → length (p .recorder .kept .bytes) ≡ longest-header
-    → length (line-of p l .prints) + still-due (line-of p l .session .phase) ≤ still-due (p .recorder .session .phase)
-unfolding still-due
-outside-bound p l e room =
-    let o = outside-line p l e in
-    let s : line-of p l .session .phase ≡ Stopped = ap (λ (d : LineEffect). d .session .phase) o ∙ end-stops p in
-    omega (arith, ap (λ (d : LineEffect). length (d .prints)) o, ap still-due s, end-bound p room)
+pub end-bound : (s : Lent) → length (s .recorder .kept .bytes) ≡ longest-header → length (end-of s .prints) ≤ still-due (s .recorder .session .phase)
+end-bound s room = phase-end-bound (s .recorder .session .phase) (s .recorder .kept) (s .recorder .session) (s .nodes) (s .buckets) room

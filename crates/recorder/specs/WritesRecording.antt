@@ -2,7 +2,7 @@
 -- is none the session's refusal: `writes-recording`. The recorder over lent pools stands where that of the definition does, line by
 -- line. Assumes nothing.
 use mathlib.Core.Path.{_≡_, refl, sym, ap, subst, _∙_}
-use mathlib.Core.List.{List, [], _∷_, _++_, append-assoc, append-nil}
+use mathlib.Core.List.{List, [], _∷_, _++_, append-nil}
 use mathlib.Core.Bool.{Bool, true, false}
 use Prim.Native.Nat.{ℕ, _≤_}
 use native.Mathlib.Omega.{arith}
@@ -42,7 +42,7 @@ use Rattle.recorder_lines.specs.declared.KeptLines.{KeptLines}
 use Rattle.recorder_lines.specs.KeptLines.{kept-bytes, keep-line, kept-after}
 use Rattle.recorder_lines.specs.KeptBytes.{KeptIs, kept-none, kept-more}
 use Rattle.recorder.specs.LentRecorder.{after-bytes, recorded-event, first-recorded, recorded-opening, recorded-header, recorded-phase, recorded-line}
-use Rattle.recorder.specs.LentRecorder.{recorded-end, new-recorder, Progress, begin, line-of, then-line, record-end, all-recorded}
+use Rattle.recorder.specs.LentRecorder.{recorded-end, new-recorder, Lent, lent, line-of, after-line, recorded-from}
 
 -- ---- where the recorder over lent pools stands, and where that of the definition does
 
@@ -209,27 +209,20 @@ end-follows s k ns bs q at-end = record { writes = refl; stands = at-end }
 
 -- ---- the lines, one after the other
 
--- what is written so far, and what the definition writes for these lines
-lines-follow : (ls : List InputLine) (p : Progress) (q : defined.Recorder) → Stands (p .recorder .session) (p .recorder .kept) (p .nodes) (p .buckets) q
-    → all-recorded p ls ≡ p .writes ++ defined.record-lines q ls
-unfolding all-recorded record-end then-line recorded-line defined.record-lines
-lines-follow [] p q f =
-    let e = end-follows (p .recorder .session) (p .recorder .kept) (p .nodes) (p .buckets) q f in ap (λ (w : List ℕ). p .writes ++ w) (e .writes)
-lines-follow (l ∷ ls) p q f =
-    let d = line-follows (p .recorder .session) (p .recorder .kept) (p .nodes) (p .buckets) q f l in
+lines-follow : (ls : List InputLine) (s : Lent) (q : defined.Recorder) → Stands (s .recorder .session) (s .recorder .kept) (s .nodes) (s .buckets) q
+    → recorded-from s ls ≡ defined.record-lines q ls
+unfolding recorded-from after-line recorded-line defined.record-lines
+lines-follow [] s q f = end-follows (s .recorder .session) (s .recorder .kept) (s .nodes) (s .buckets) q f .writes
+lines-follow (l ∷ ls) s q f =
+    let d = line-follows (s .recorder .session) (s .recorder .kept) (s .nodes) (s .buckets) q f l in
     let e = defined.record-line q l in
-    lines-follow ls (then-line p l) (e .next) (d .stands)
-    ∙ append-assoc (p .writes) (line-of p l .prints) (defined.record-lines (e .next) ls)
-    ∙ ap (λ (w : List ℕ). p .writes ++ (w ++ defined.record-lines (e .next) ls)) (d .writes)
-
-pub writes-lines : (ns bs : List ℕ) → 2176 ≤ length ns → 13200 ≤ length bs → (ls : List InputLine)
-    → all-recorded (begin new-recorder ns bs) ls ≡ defined.record-lines defined.new-recorder ls
-unfolding new-recorder new-session defined.new-recorder
-writes-lines ns bs nodes-fit buckets-fit ls =
-    lines-follow ls (begin new-recorder ns bs) defined.new-recorder (in-header nodes-fit buckets-fit kept-none)
+    ap (λ (w : List ℕ). line-of s l .prints ++ w) (lines-follow ls (after-line s l) (e .next) (d .stands))
+    ∙ ap (λ (w : List ℕ). w ++ defined.record-lines (e .next) ls) (d .writes)
 
 -- ---- a whole input
 
 pub writes-recording : (ns bs : List ℕ) → 2176 ≤ length ns → 13200 ≤ length bs → (input : List ℕ)
-    → all-recorded (begin new-recorder ns bs) (input-lines input) ≡ recorder-output input
-writes-recording ns bs nodes-fit buckets-fit input = writes-lines ns bs nodes-fit buckets-fit (input-lines input) ∙ recorder-writes input
+    → recorder-output input ≡ recorded-from (lent new-recorder ns bs) (input-lines input)
+unfolding new-recorder new-session defined.new-recorder
+writes-recording ns bs nodes-fit buckets-fit input =
+    sym (lines-follow (input-lines input) (lent new-recorder ns bs) defined.new-recorder (in-header nodes-fit buckets-fit kept-none) ∙ recorder-writes input)

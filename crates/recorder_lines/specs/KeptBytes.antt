@@ -50,18 +50,18 @@ append-length (x ∷ xs) t = append-length xs (append-byte x t) ∙ go (ltb (t .
 
 -- bytes appended after the first n of a buffer
 module _ (xs w : List ℕ) (n : ℕ) (fits : n ≤ length w) where
-  abbrev pub room : ℕ
+  abbrev room : ℕ
   room = min (length xs) (length (drop n w))
 
   long : length (take n w) ≡ n
   long = length-take-le n w fits
 
-  pub appended : append xs (buffer w n) ≡ buffer (take n w ++ (take room xs ++ drop room (drop n w))) (length (take n w) + room)
+  appended : append xs (buffer w n) ≡ buffer (take n w ++ (take room xs ++ drop room (drop n w))) (length (take n w) + room)
   appended =
       append-rest xs w n fits
       ∙ ap (λ (t : Buffer). buffer (take n w ++ t .bytes) (length (take n w) + t .at)) (append-first xs (drop n w))
 
-  pub appended-bytes : take (append xs (buffer w n) .at) (append xs (buffer w n) .bytes) ≡ take (length w) (take n w ++ xs)
+  appended-bytes : take (append xs (buffer w n) .at) (append xs (buffer w n) .bytes) ≡ take (length w) (take n w ++ xs)
   appended-bytes =
       let front = take n w ++ take room xs in
       let l : length (take room xs) ≡ room = length-take-le room xs (omega arith) in

@@ -1,10 +1,9 @@
 // A session over standard input; over standard output the memory that it leaves, for a fitter (docs/FITTERS.md), or the refusal with which it stopped.
 // `yarddump` is the whole program as a function that gives the exit status.
 ghost use mathlib.Core.Path.{_≡_};
-ghost use Prim.Native.Nat.{_+_, _≤_};
+ghost use Prim.Native.Nat.{_+_, _*_, _≤_};
 ghost use lib.ListN.{length};
 ghost use Rattle.session.specs.OutputLengths.{longest-line, longest-end};
-ghost use Rattle.stdio.specs.AtHand.{most-printed};
 ghost use Rattle.stdio.specs.Outcomes.{IsStatus};
 use session_run::Progress;
 use session_state::Handled;
@@ -20,7 +19,7 @@ fn dump_room() -> [u8; 524288]
 }
 
 // The end of the input, as a step of task 8, which no set has: where the session goes on it is refused with 4 and changes no word. An opening that is
-// still due is made by it, and a last line that is not closed is outside the grammar, as a line that is too long. `printed` counts what was due too.
+// still due is made by it, and a last line that is too long or not closed is outside the grammar. `printed` counts what was due too.
 fn ended(
     s: Session,
     p: Input,
@@ -32,7 +31,7 @@ fn ended(
     requires { ⌜ due ≤ length (now out) ⌝ }
     ensures { λ r. ⌜ r .printed ≤ length (now (out .entry)) ⌝ }
 {
-    if stdio::input::unclosed(p) {
+    if stdio::input::cut_off(p) {
         let long = partial_line::too_long();
         let t = session_lines::handle_line(s, ns, bs, &long, &mut out[due..]);
         let session = t.session;
@@ -79,18 +78,18 @@ fn finish(k: Progress, ns: &mut [u32], bs: &mut [u32], out: &mut [u8]) -> Outcom
     let t = ended(s, p, k.due, ns, bs, out);
     let last = t.session;
     let phase = last.phase;
-    if session_run::has_stopped(phase) {
+    if session_state::has_stopped(phase) {
         return refused(p, out, t.printed);
     }
     let n = dump(last, ns, bs, out);
     stdio::output::answer(b"dump", p, &out[..n])
 }
 
-fn run(ns: &mut [u32], bs: &mut [u32], out: &mut [u8], room: &mut [u8]) -> i32
-    requires { ⌜ most-printed longest-line longest-end (now room) ≤ length (now out) ⌝ }
+fn run(room: &mut [u8], ns: &mut [u32], bs: &mut [u32], out: &mut [u8]) -> i32
+    requires { ⌜ longest-line * length (now room) + longest-end ≤ length (now out) ⌝ }
     ensures { λ r. ⌜ IsStatus r ⌝ }
 {
-    let k = session_run::read(false, ns, bs, out, room);
+    let k = session_run::read(true, false, room, ns, bs, out);
     let o = finish(k, ns, bs, out);
     stdio::output::status(o)
 }
@@ -99,9 +98,9 @@ fn run(ns: &mut [u32], bs: &mut [u32], out: &mut [u8], room: &mut [u8]) -> i32
 pub fn yarddump() -> i32
     ensures { λ r. ⌜ IsStatus r ⌝ }
 {
-    let mut ns = session_run::node_words();
-    let mut bs = session_run::bucket_words();
-    let mut out = dump_room();
     let mut room = stdio::input::room();
-    run(&mut ns, &mut bs, &mut out, &mut room)
+    let mut ns = session_pools::node_words();
+    let mut bs = session_pools::bucket_words();
+    let mut out = dump_room();
+    run(&mut room, &mut ns, &mut bs, &mut out)
 }

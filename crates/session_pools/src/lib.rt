@@ -1,20 +1,20 @@
 // The pools that a session uses: words for them, the parts of lent ones, and a node's size.
 ghost use mathlib.Core.Path.{_≡_};
 ghost use Prim.Native.Nat.{_≤_};
-ghost use lib.ListN.{length};
+ghost use lib.ListN.{length, replicate};
 ghost use Rattle.spec.specs.Words.{size};
 ghost use Rattle.session_pools.specs.PoolParts.{extent};
 
-// 64 nodes of 34 words. The `ensures` gives the length, which lending the array needs.
+// 64 nodes of 34 words, all 0. Lending the array needs the length.
 pub fn node_words() -> [u32; 2176]
-    ensures { λ r. ⌜ 2176 ≡ length r ⌝ }
+    ensures { λ r. ⌜ (2176 ≡ length r) × (r ≡ replicate 2176 0) ⌝ }
 {
     [0; 2176]
 }
 
-// 200 buckets of 66 words.
+// 200 buckets of 66 words, all 0.
 pub fn bucket_words() -> [u32; 13200]
-    ensures { λ r. ⌜ 13200 ≡ length r ⌝ }
+    ensures { λ r. ⌜ (13200 ≡ length r) × (r ≡ replicate 13200 0) ⌝ }
 {
     [0; 13200]
 }

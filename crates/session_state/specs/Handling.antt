@@ -1,9 +1,10 @@
 -- What one line does to a session whose pools are lent whole, and what the end of the input prints: the definitions that the
 -- code is held to. That they print the paper's transcript is shown in session_lines, PrintsTranscript. Assumes nothing.
 use Prim.Native.Nat.{ℕ}
-use mathlib.Core.Path.{_≡_}
+use mathlib.Core.Path.{_≡_, refl}
 use mathlib.Core.List.{List, [], _∷_, _++_}
 use mathlib.Core.Bool.{Bool, true, false}
+use native.Mathlib.Omega.{arith}
 use lib.Dec.{eqb}
 use lib.ListN.{drop, replicate}
 use Rattle.spec.specs.declared.State.{State}
@@ -38,6 +39,17 @@ unfoldable pub reads-events : Phase → Bool
 reads-events (Due due) = false
 reads-events Events = true
 reads-events Stopped = false
+
+unfoldable pub has-stopped : Phase → Bool
+has-stopped (Due due) = false
+has-stopped Events = false
+has-stopped Stopped = true
+
+pub is-stopped : (p : Phase) → has-stopped p ≡ true → p ≡ Stopped
+unfolding has-stopped
+is-stopped (Due due) h = let z : _≡_ {A = ℕ} 0 1 = cc in absurd (omega arith)
+is-stopped Events h = let z : _≡_ {A = ℕ} 0 1 = cc in absurd (omega arith)
+is-stopped Stopped h = refl
 
 abbrev pub handled : Session → ℕ → Handled
 handled s n = record { session = s; printed = n }

@@ -1,6 +1,6 @@
 // A session between two lines, and the refusal that stops it.
 ghost use mathlib.Core.Path.{_≡_};
-ghost use Rattle.session_state.specs.Handling.{session, new-session, handled, stopped, reads-events, SessionHandled};
+ghost use Rattle.session_state.specs.Handling.{session, new-session, handled, stopped, reads-events, has-stopped, SessionHandled};
 use session::Header;
 use session::HeaderLine;
 use spec::State;
@@ -51,6 +51,17 @@ pub fn reads_events(phase: Phase) -> bool
         Phase::Due(_) => false,
         Phase::Events => true,
         Phase::Stopped => false,
+    }
+}
+
+// Whether the session has stopped: then whatever follows prints nothing more.
+pub fn has_stopped(phase: Phase) -> bool
+    ensures { λ r. ⌜ r ≡ has-stopped phase ⌝ }
+{
+    match phase {
+        Phase::Due(_) => false,
+        Phase::Events => false,
+        Phase::Stopped => true,
     }
 }
 

@@ -11,7 +11,8 @@ use Rattle.partial_line.specs.declared.PartialLine.{PartialLine}
 use Rattle.stdio.specs.declared.input.Given.the-variants.{WriteFailed}
 use Rattle.stdio.specs.declared.input.Input.{Input}
 use Rattle.stdio.specs.declared.output.Passed.{Passed}
-use Rattle.stdio.specs.Inputs.{goes-on, begun-line, stopped-at}
+use Rattle.stdio.specs.Inputs.{given-number, goes-on, begun-line, stopped-at}
+use Rattle.stdio.specs.Loops.{never}
 use Rattle.stdio.specs.Outcomes.{line-start, last-line-start, digit, refusal-number, will-read, Passes}
 
 -- ---- the last line
@@ -60,37 +61,43 @@ module _ (p : Input) (due : ℕ) where
 
   pub at-hand-still : p .at < p .end → Passes p due (passed p due)
   unfolding will-read
-  at-hand-still l = kept (go (goes-on (p .given)))
+  at-hand-still l = kept (go (goes-on (p .given)) (p .reads))
     where
-      go : (b : Bool) → b && not (ltb (p .at) (p .end)) ≡ false
-      go true = rw (lt-ltb _ _ l)
-      go false = refl
+      go : (b r : Bool) → b && (r && not (ltb (p .at) (p .end))) ≡ false
+      go true true = rw (lt-ltb _ _ l)
+      go true false = refl
+      go false r = refl
 
-  module _ (b : Bool) (e : b ≡ goes-on (p .given)) where
-    pub not-asked : not b ≡ true → Passes p due (passed p due)
+  pub in-memory-still : not (p .reads) ≡ true → Passes p due (passed p due)
+  unfolding will-read
+  in-memory-still e = kept (go (goes-on (p .given)) (p .reads) e)
+    where
+      go : (b r : Bool) → not r ≡ true → b && (r && not (ltb (p .at) (p .end))) ≡ false
+      go b true z = never z
+      go true false z = refl
+      go false false z = refl
+
+  module _ (n : ℕ) (e : n ≡ given-number (p .given)) where
+    pub not-asked : 1 < n → Passes p due (passed p due)
     unfolding will-read
-    not-asked n = kept (go b e n)
-      where
-        go : (a : Bool) → a ≡ goes-on (p .given) → not a ≡ true → will-read p ≡ false
-        go true i z = let y : _≡_ {A = ℕ} 0 1 = cc in absurd (omega arith)
-        go false i z = rw (sym i)
+    not-asked l = kept (rw (le-ltb (given-number (p .given)) 2 (omega (arith, e))))
 
-    reads : not b ≡ false → p .end ≤ p .at → will-read p ≡ true
+    reads : n ≤ 1 → not (p .reads) ≡ false → p .end ≤ p .at → will-read p ≡ true
     unfolding will-read
-    reads n l = go b e n
+    reads l i h = rw (lt-ltb (given-number (p .given)) 2 (omega (arith, e)), le-ltb _ _ h) (go (p .reads) i)
       where
-        go : (a : Bool) → a ≡ goes-on (p .given) → not a ≡ false → goes-on (p .given) && not (ltb (p .at) (p .end)) ≡ true
-        go true i z = rw (sym i, le-ltb _ _ l)
-        go false i z = let y : _≡_ {A = ℕ} 0 1 = cc in absurd (omega arith)
+        go : (r : Bool) → not r ≡ false → r && true ≡ true
+        go true z = refl
+        go false z = never (sym z)
 
-    pub passed-on : not b ≡ false → p .end ≤ p .at → Passes p due (passed p 0)
-    passed-on n l = record { written = true; input = rw (reads n l); left = rw (reads n l) }
+    pub passed-on : n ≤ 1 → not (p .reads) ≡ false → p .end ≤ p .at → Passes p due (passed p 0)
+    passed-on l i h = record { written = true; input = rw (reads l i h); left = rw (reads l i h) }
 
-    pub not-passed : not b ≡ false → p .end ≤ p .at → (h : PartialLine) → h ≡ begun-line p
+    pub not-passed : n ≤ 1 → not (p .reads) ≡ false → p .end ≤ p .at → (h : PartialLine) → h ≡ begun-line p
         → (q : Input) → q ≡ stopped-at h (p .number) (p .reads) (p .at) (p .end) WriteFailed → Passes p due (passed q 0)
-    not-passed n l h i q j =
+    not-passed l i k h j q eq =
         record {
           written = false;
-          input = rw (reads n l) (j ∙ ap (λ (x : PartialLine). stopped-at x (p .number) (p .reads) (p .at) (p .end) WriteFailed) i);
-          left = rw (reads n l);
+          input = rw (reads l i k) (eq ∙ ap (λ (x : PartialLine). stopped-at x (p .number) (p .reads) (p .at) (p .end) WriteFailed) j);
+          left = rw (reads l i k);
         }

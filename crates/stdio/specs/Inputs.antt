@@ -1,9 +1,9 @@
--- Standard input by lines: what is given of it call by call, against the paper's lines. What is read no contract can say: `read` stands for it, and the
--- rest follows from it. Assumes nothing.
+-- An input by lines: what is given of it call by call, against the paper's lines. What is read from standard input no contract can say: `read` stands for
+-- it, and the rest follows from it. An input in memory has all of its bytes at hand. Assumes nothing.
 use Prim.Native.Nat.{ℕ, _+_, _-_, _<_, _≤_}
 use mathlib.Core.Path.{_≡_}
 use mathlib.Core.List.{List, [], _∷_, _++_}
-use mathlib.Core.Bool.{Bool, true, false, not, _&&_}
+use mathlib.Core.Bool.{Bool, true, false, not, _&&_, _||_}
 use lib.Dec.{eqb, ltb}
 use lib.ListN.{length, take, drop}
 use Rattle.spec.specs.Lists.{if_then_else_}
@@ -11,7 +11,7 @@ use Rattle.session.specs.Grammar.{InputLine, closed-line, split-lines}
 use Rattle.partial_line.specs.declared.PartialLine.{PartialLine}
 use Rattle.partial_line.specs.PartialLines.{partial, empty-line, line-bytes}
 use Rattle.stdio.specs.declared.input.Given.{Given}
-use Rattle.stdio.specs.declared.input.Given.the-variants.{Part, Line, TooLong, Ended, Settled, ReadFailed, WriteFailed}
+use Rattle.stdio.specs.declared.input.Given.the-variants.{Part, Line, TooLong, Settled, Ended, ReadFailed, WriteFailed}
 use Rattle.stdio.specs.declared.input.Input.{Input}
 
 -- ---- one call
@@ -19,71 +19,53 @@ use Rattle.stdio.specs.declared.input.Input.{Input}
 abbrev pub most-calls : ℕ
 most-calls = 18446744073709551615
 
--- standard input, of which nothing is read yet
-unfoldable pub unread : Input
-unread = record { at = 0; end = 0; reads = true; number = 1; left = most-calls; line = empty-line; given = Part }
+-- standard input, of which nothing is read yet, or n bytes that are in memory
+unfoldable pub begin : Bool → ℕ → Input
+begin reads n =
+    record { at = 0; end = if reads then 0 else n; reads = reads; number = 1; left = most-calls; line = empty-line; given = Part }
 
-unfoldable pub is-line : Given → Bool
-is-line Part = false
-is-line Line = true
-is-line TooLong = false
-is-line Ended = false
-is-line Settled = false
-is-line ReadFailed = false
-is-line WriteFailed = false
+-- more may be asked for after 0 and 1; a line fixed the answer in 2 and 3; a read or a write failed in 5 and 6
+unfoldable pub given-number : Given → ℕ
+given-number Part = 0
+given-number Line = 1
+given-number TooLong = 2
+given-number Settled = 3
+given-number Ended = 4
+given-number ReadFailed = 5
+given-number WriteFailed = 6
 
--- a line is at hand that is to be taken: closed, or too long
-unfoldable pub to-take : Given → Bool
-to-take Part = false
-to-take Line = true
-to-take TooLong = true
-to-take Ended = false
-to-take Settled = false
-to-take ReadFailed = false
-to-take WriteFailed = false
+abbrev pub is-line : Given → Bool
+is-line given = eqb (given-number given) 1
+
+abbrev pub is-long : Given → Bool
+is-long given = eqb (given-number given) 2
+
+abbrev pub at-end : Given → Bool
+at-end given = eqb (given-number given) 4
 
 -- more may be asked for
-unfoldable pub goes-on : Given → Bool
-goes-on Part = true
-goes-on Line = true
-goes-on TooLong = false
-goes-on Ended = false
-goes-on Settled = false
-goes-on ReadFailed = false
-goes-on WriteFailed = false
-
-unfoldable pub at-end : Given → Bool
-at-end Part = false
-at-end Line = false
-at-end TooLong = false
-at-end Ended = true
-at-end Settled = false
-at-end ReadFailed = false
-at-end WriteFailed = false
-
--- the input ended in the middle of a line
-unfoldable pub unclosed-end : Input → Bool
-unclosed-end p = if at-end (p .given) then not (eqb (p .line .len) 0) else false
+abbrev pub goes-on : Given → Bool
+goes-on given = ltb (given-number given) 2
 
 -- the answer is fixed: by a line that is too long, or by what the program found
-unfoldable pub fixed : Given → Bool
-fixed Part = false
-fixed Line = false
-fixed TooLong = true
-fixed Ended = false
-fixed Settled = true
-fixed ReadFailed = false
-fixed WriteFailed = false
+abbrev pub fixed : Given → Bool
+fixed given = not (goes-on given) && ltb (given-number given) 4
 
 -- a read or a write failed
-unfoldable pub failed : Given → Bool
-failed Part = false
-failed Line = false
-failed TooLong = false
-failed Ended = false
-failed Settled = false
-failed ReadFailed = true
-failed WriteFailed = true
+abbrev pub failed : Given → Bool
+failed given = ltb 4 (given-number given)
+
+-- the input ended in the middle of a line
+abbrev pub unclosed-end : Input → Bool
+unclosed-end p = at-end (p .given) && not (eqb (p .line .len) 0)
+
+-- the last line is outside the grammar: too long, or not closed
+unfoldable pub cut-off : Input → Bool
+cut-off p = is-long (p .given) || unclosed-end p
+
+-- the last line is left out of an answer that goes by the lines before it: it fixed the answer, or is outside the grammar
+unfoldable pub leaves-out : Input → Bool
+leaves-out p = eqb (given-number (p .given)) 3 || cut-off p
 
 -- the line that is begun: none after one that was given whole
 unfoldable pub begun-line : Input → PartialLine
@@ -141,24 +123,41 @@ pub record Taken (h : PartialLine) (at end : ℕ) (reads : Bool) (n : ℕ) (room
   pub long : q .given ≡ TooLong → length (line-bytes (q .line)) ≡ 41
   pub left : q .left ≡ left-of (q .given) n
   pub not-ended : q .given ≡ Ended → ⊥
-  pub not-settled : fixed (q .given) ≡ true → q .given ≡ TooLong
+  pub not-settled : q .given ≡ Settled → ⊥
+  pub not-failed : failed (q .given) ≡ false
   pub onward : (at ≤ q .at) × (q .end ≡ end)
-  pub uses : q .given ≡ Line → at < q .at
+  pub uses : goes-on (q .given) ≡ true → at < end → at < q .at
+  pub line-uses : q .given ≡ Line → at < q .at
+  pub some-used : at < end → h .len < 41 → at < q .at
+
+-- how many bytes are read and not handed on yet
+abbrev pub bytes-left : Input → ℕ
+bytes-left p = p .end - p .at
+
+-- one call over an input that is in memory: nothing is read, and it fails only where no call is left
+pub record InMemory (p : Input) (room : List ℕ) (q : Input) (room' : List ℕ) (read : List ℕ) : Type 0 where
+  pub none-read : read ≡ []
+  pub kept : room' ≡ room
+  pub fewer-bytes : bytes-left q ≤ bytes-left p
+  pub uses-one : goes-on (q .given) ≡ true → (bytes-left q < bytes-left p) × (q .left ≡ p .left - 1)
+  pub long-uses : q .given ≡ TooLong → begun-line p .len < 41 → bytes-left q < bytes-left p
+  pub fails : failed (q .given) ≡ true → p .left < 2
 
 -- one call: `read` is what was read
 pub record Gives (p : Input) (room : List ℕ) (q : Input) (room' : List ℕ) : Type 0 where
   pub read : List ℕ
-  pub none-read : p .reads ≡ false → read ≡ []
+  pub in-memory : p .reads ≡ false → InMemory p room q room' read
   pub source : q .reads ≡ p .reads
   pub fits : Fits q room'
   pub same : (more : List ℕ) → lines-left p room (read ++ more) ≡ with-line q (lines-left q room' more)
   pub short : q .given ≡ Line → length (line-bytes (q .line)) ≤ 40
   pub long : q .given ≡ TooLong → length (line-bytes (q .line)) ≡ 41
   pub ended : q .given ≡ Ended → pending q room' ≡ []
-  pub not-settled : fixed (q .given) ≡ true → q .given ≡ TooLong
+  pub not-settled : q .given ≡ Settled → ⊥
   pub fewer : q .left ≤ p .left - 1
   pub over : goes-on (q .given) ≡ false → q .left ≡ 0
   pub on : goes-on (q .given) ≡ true → 0 < q .left
+  pub no-calls : p .left < 2 → failed (q .given) ≡ true
   -- bytes at hand are taken before any are read, and a line takes one at least
   pub onward : p .at < p .end → (p .at ≤ q .at) × (q .end ≡ p .end)
   pub uses : q .given ≡ Line → (0 < q .at) × (p .at < p .end → p .at < q .at)

@@ -1,10 +1,8 @@
 pub mod Inputs
 pub mod Readers
+pub mod Loops
 pub mod LongLines
 pub mod Outcomes
 pub mod Passing
-pub mod AtHand
-pub mod Loops
 pub mod Runs
-pub mod WholeRun
-pub mod Transcripts
+pub mod Streams

@@ -2,23 +2,23 @@
 -- succeeded, and the rest follows from it. Assumes nothing.
 use Prim.Native.Nat.{ℕ, zero, suc, _+_, _-_, _*_}
 use mathlib.Core.Path.{_≡_, refl}
-use mathlib.Core.List.{List, [], _∷_, _++_}
-use mathlib.Core.Bool.{Bool, not, _&&_}
+use mathlib.Core.List.{List, [], _∷_, map}
+use mathlib.Core.Bool.{Bool, true, false, not, _&&_}
 use lib.Dec.{eqb, ltb}
 use lib.IntN.{ℤ, pos}
 use lib.ListN.{length, getD, take, drop}
 use Rattle.spec.specs.Lists.{if_then_else_}
 use Rattle.session.specs.Ascii.{codes, ascii}
 use Rattle.session.specs.Keys.{newline}
-use Rattle.session.specs.Grammar.{InputLine, starts-with}
+use Rattle.session.specs.Grammar.{starts-with}
 use Rattle.session.specs.Print.{key-line, refusal-line, listing-lines, decimal, decimal-digits}
-use Rattle.stdio.specs.declared.input.Given.the-variants.{WriteFailed}
+use Rattle.partial_line.specs.PartialLines.{partial, empty-line}
+use Rattle.stdio.specs.declared.input.Given.the-variants.{TooLong, Settled, Ended, WriteFailed}
 use Rattle.stdio.specs.declared.input.Input.{Input}
 use Rattle.stdio.specs.declared.output.Outcome.{Outcome}
 use Rattle.stdio.specs.declared.output.Outcome.the-variants.{Yes, No, Refused, Failed}
 use Rattle.stdio.specs.declared.output.Passed.{Passed}
-use Rattle.stdio.specs.Inputs.{goes-on, failed, unread, begun-line, stopped-at}
-use Rattle.stdio.specs.Readers.{Answers}
+use Rattle.stdio.specs.Inputs.{given-number, goes-on, failed, cut-off, leaves-out, begun-line, stopped-at}
 
 -- ---- the exit status: the same four for all programs
 
@@ -33,12 +33,15 @@ pub record IsStatus (status : ℤ) : Type 0 where
   pub outcome : Outcome
   pub gives : status ≡ pos (status-number outcome)
 
--- a line was left out of the answer, which then counts as refused
 unfoldable pub refused-unless-failed : Outcome → Outcome
 refused-unless-failed Yes = Refused
 refused-unless-failed No = Refused
 refused-unless-failed Refused = Refused
 refused-unless-failed Failed = Failed
+
+-- an answer from which a line was left out counts as refused
+unfoldable pub outcome-with : Bool → Outcome → Outcome
+outcome-with left-out o = if left-out then refused-unless-failed o else o
 
 -- ---- what the last line of an answer says
 
@@ -87,7 +90,7 @@ refusal-number line = if ltb (getD line 8 0) 48 then digit line 7 else digit lin
 
 -- nothing is at hand, and the next call for a line will read
 unfoldable pub will-read : Input → Bool
-will-read p = goes-on (p .given) && not (ltb (p .at) (p .end))
+will-read p = goes-on (p .given) && (p .reads && not (ltb (p .at) (p .end)))
 
 abbrev pub write-failed : Input → Input
 write-failed p = stopped-at (begun-line p) (p .number) (p .reads) (p .at) (p .end) WriteFailed
@@ -107,15 +110,10 @@ pub record Ends (p : Input) (text : List ℕ) (o : Outcome) : Type 0 where
   pub written : Bool
   pub outcome : o ≡ outcome-of p written text
 
--- a whole program that reads from s₀: of what was read, what it printed before the last read, `shown`, and the text of the end are the answer
-pub record Ran {S : Type 0} (answer : S → List InputLine → List ℕ) (s₀ : S) (status : ℤ) : Type 0 where
-  pub room : List ℕ
-  pub shown : List ℕ
-  pub text : List ℕ
-  pub input : Input
-  pub answered : Answers answer unread room s₀ input (shown ++ text)
+-- the exit status of such a run
+pub record Exits (p : Input) (text : List ℕ) (status : ℤ) : Type 0 where
   pub outcome : Outcome
-  pub ends : Ends input text outcome
+  pub ends : Ends p text outcome
   pub gives : status ≡ pos (status-number outcome)
 
 -- ---- rows
@@ -127,6 +125,16 @@ refusals-say r = refl
 pub listings-say : (size : ℕ) (ts : List ℕ) → said (listing-lines size ts) ≡ Yes
 unfolding said listing-lines key-line starts-with
 listings-say size ts = refl
+
+-- after a line that is too long, one that fixed the answer, the end in the middle of a line and at the end of one
+pub left-out-rows :
+    map (λ g. leaves-out (stopped-at empty-line 1 true 0 0 g)) (TooLong ∷ Settled ∷ Ended ∷ []) ≡ true ∷ true ∷ false ∷ []
+unfolding leaves-out cut-off given-number empty-line
+left-out-rows = refl
+
+pub unclosed-left-out : (bytes : List ℕ) → outcome-with (leaves-out (stopped-at (partial bytes 1) 1 true 0 0 Ended)) Yes ≡ Refused
+unfolding leaves-out cut-off given-number outcome-with refused-unless-failed
+unclosed-left-out bytes = refl
 
 pub refusals-read-back :
     refusal-number (refusal-line 1) ∷ refusal-number (refusal-line 9) ∷ refusal-number (refusal-line 10) ∷ refusal-number (refusal-line 16) ∷ []

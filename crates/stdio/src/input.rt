@@ -1,21 +1,21 @@
-// Standard input by lines: `next_line` gives what is known of the next one after at most one read. No line is kept beyond its 41st byte, and no
-// byte is read after one that fixed the answer.
+// An input by lines, standard input or bytes in memory: `next_line` gives what is known of the next one after at most one read. No line is kept beyond its
+// 41st byte, and no byte is read after one that fixed the answer.
 ghost use mathlib.Core.Path.{_≡_};
-ghost use mathlib.Core.Bool.{true, false};
-ghost use Prim.Native.Nat.{_-_, _<_, _≤_};
+ghost use Prim.Native.Nat.{_≤_};
+ghost use Rattle.spec.specs.Lists.{if_then_else_};
 ghost use lib.ListN.{length};
-ghost use Rattle.stdio.specs.Inputs.{is-line, to-take, at-end, unclosed-end, begun-line, line-number, given-of, left-of, with-given};
-ghost use Rattle.stdio.specs.Inputs.{settled-if, unread, stopped-at, Fits, Taken, Gives};
+ghost use Rattle.stdio.specs.Inputs.{given-number, is-line, is-long, at-end, failed, unclosed-end, cut-off, leaves-out, begun-line};
+ghost use Rattle.stdio.specs.Inputs.{line-number, given-of, left-of, begin, with-given, settled-if, stopped-at, Fits, Taken, Gives};
 use partial_line::PartialLine;
 
-// What the last call gave: a part of a line, which may go on; a line that byte 10 closed; 41 bytes of one, which is too long however it goes on; the
-// end of the input, in the middle of a line if that has bytes. Then, where no more is asked for: a line that fixed the answer, a read or a write that failed.
+// What the last call gave: a part of a line, which may go on; a line that byte 10 closed; 41 bytes of one, which is too long however it goes on. Then, where
+// no more is asked for: a line that fixed the answer; the end of the input, in the middle of a line if that has bytes; a read or a write that failed.
 pub enum Given {
     Part,
     Line,
     TooLong,
-    Ended,
     Settled,
+    Ended,
     ReadFailed,
     WriteFailed,
 }
@@ -40,15 +40,25 @@ pub fn room() -> [u8; 1024]
     [0; 1024]
 }
 
-// Standard input, of which nothing is read yet.
-pub fn unread() -> Input
-    ensures { λ r. ⌜ r ≡ unread ⌝ }
+// How many bytes are at hand before any are read: none of standard input, all of an input in memory.
+fn at_hand(reads: bool, n: usize) -> usize
+    ensures { λ r. ⌜ r ≡ (if reads then 0 else n) ⌝ }
+{
+    if reads {
+        return 0;
+    }
+    n
+}
+
+// Standard input, of which nothing is read yet, or n bytes that are in memory.
+pub fn begin(reads: bool, n: usize) -> Input
+    ensures { λ r. ⌜ r ≡ begin reads n ⌝ }
 {
     let line = partial_line::empty_line();
     Input {
         at: 0,
-        end: 0,
-        reads: true,
+        end: at_hand(reads, n),
+        reads,
         number: 1,
         left: 18446744073709551615,
         line,
@@ -56,76 +66,90 @@ pub fn unread() -> Input
     }
 }
 
-// Whether the last call gave a whole line: then the next one begins.
-pub fn begins(given: Given) -> bool
-    ensures { λ r. ⌜ r ≡ is-line given ⌝ }
+// More may be asked for after 0 and 1; a line fixed the answer in 2 and 3; a read or a write failed in 5 and 6.
+pub fn given_number(given: Given) -> u8
+    ensures { λ r. ⌜ r ≡ given-number given ⌝ }
 {
     match given {
-        Given::Part => false,
-        Given::Line => true,
-        Given::TooLong => false,
-        Given::Ended => false,
-        Given::Settled => false,
-        Given::ReadFailed => false,
-        Given::WriteFailed => false,
+        Given::Part => 0,
+        Given::Line => 1,
+        Given::TooLong => 2,
+        Given::Settled => 3,
+        Given::Ended => 4,
+        Given::ReadFailed => 5,
+        Given::WriteFailed => 6,
     }
 }
 
-// Whether a line is at hand that is to be taken: closed, or too long.
-fn takes(given: Given) -> bool
-    ensures { λ r. ⌜ r ≡ to-take given ⌝ }
-{
-    match given {
-        Given::Part => false,
-        Given::Line => true,
-        Given::TooLong => true,
-        Given::Ended => false,
-        Given::Settled => false,
-        Given::ReadFailed => false,
-        Given::WriteFailed => false,
-    }
-}
-
+// Whether the last call gave a closed line.
 pub fn has_line(p: Input) -> bool
-    ensures { λ r. ⌜ r ≡ to-take (p .given) ⌝ }
+    ensures { λ r. ⌜ r ≡ is-line (p .given) ⌝ }
 {
     let given = p.given;
-    takes(given)
+    given_number(given) == 1
 }
 
-pub fn ends(given: Given) -> bool
-    ensures { λ r. ⌜ r ≡ at-end given ⌝ }
+// Whether the line at hand is too long.
+pub fn has_long(p: Input) -> bool
+    ensures { λ r. ⌜ r ≡ is-long (p .given) ⌝ }
 {
-    match given {
-        Given::Part => false,
-        Given::Line => false,
-        Given::TooLong => false,
-        Given::Ended => true,
-        Given::Settled => false,
-        Given::ReadFailed => false,
-        Given::WriteFailed => false,
-    }
+    let given = p.given;
+    given_number(given) == 2
+}
+
+pub fn has_ended(p: Input) -> bool
+    ensures { λ r. ⌜ r ≡ at-end (p .given) ⌝ }
+{
+    let given = p.given;
+    given_number(given) == 4
+}
+
+// Whether a read or a write failed.
+pub fn has_failed(p: Input) -> bool
+    ensures { λ r. ⌜ r ≡ failed (p .given) ⌝ }
+{
+    let given = p.given;
+    4 < given_number(given)
 }
 
 // Whether the input ended in the middle of a line.
 pub fn unclosed(p: Input) -> bool
     ensures { λ r. ⌜ r ≡ unclosed-end p ⌝ }
 {
-    let given = p.given;
     let h = p.line;
-    if ends(given) {
+    if has_ended(p) {
         return h.len != 0;
     }
     false
+}
+
+// Whether the last line is outside the grammar: too long, or not closed.
+pub fn cut_off(p: Input) -> bool
+    ensures { λ r. ⌜ r ≡ cut-off p ⌝ }
+{
+    if has_long(p) {
+        return true;
+    }
+    unclosed(p)
+}
+
+// Whether the last line is left out of an answer that goes by the lines before it: it fixed the answer, or is outside the grammar.
+pub fn leaves_out(p: Input) -> bool
+    ensures { λ r. ⌜ r ≡ leaves-out p ⌝ }
+{
+    let given = p.given;
+    if given_number(given) == 3 {
+        return true;
+    }
+    cut_off(p)
 }
 
 // The line that is begun: none after one that was given whole.
 pub fn begun(p: Input) -> PartialLine
     ensures { λ r. ⌜ r ≡ begun-line p ⌝ }
 {
-    let given = p.given;
     let h = p.line;
-    if begins(given) {
+    if has_line(p) {
         let bytes = h.bytes;
         return PartialLine { bytes, len: 0 };
     }
@@ -136,9 +160,8 @@ pub fn begun(p: Input) -> PartialLine
 fn line_number(p: Input) -> u64
     ensures { λ r. ⌜ r ≡ line-number p ⌝ }
 {
-    let given = p.given;
     let n = p.number;
-    if begins(given) {
+    if has_line(p) {
         if n < 18446744073709551615 {
             return n + 1;
         }
@@ -162,15 +185,10 @@ fn given_by(closed: bool, len: usize) -> Given
 fn left_after(given: Given, n: u64) -> u64
     ensures { λ r. ⌜ r ≡ left-of given n ⌝ }
 {
-    match given {
-        Given::Part => n,
-        Given::Line => n,
-        Given::TooLong => 0,
-        Given::Ended => 0,
-        Given::Settled => 0,
-        Given::ReadFailed => 0,
-        Given::WriteFailed => 0,
+    if given_number(given) < 2 {
+        return n;
     }
+    0
 }
 
 // No more is to be asked for.

@@ -3,9 +3,9 @@
 ghost use mathlib.Core.Path.{_≡_};
 ghost use Prim.Native.Nat.{_≤_};
 ghost use lib.IntN.{pos};
-ghost use lib.ListN.{length};
-ghost use Rattle.stdio.specs.Inputs.{goes-on, failed};
-ghost use Rattle.stdio.specs.Outcomes.{status-number, refused-unless-failed, said, last-line-start, last-line, Passes, Ends};
+ghost use lib.ListN.{length, take};
+ghost use Rattle.stdio.specs.Inputs.{leaves-out};
+ghost use Rattle.stdio.specs.Outcomes.{status-number, outcome-with, said, last-line-start, last-line, Passes, Ends, Exits};
 use crate::input::Given;
 use crate::input::Input;
 use crate::words;
@@ -24,36 +24,6 @@ pub struct Passed {
     pub due: usize,
 }
 
-// Whether more may be asked for.
-fn asks(given: Given) -> bool
-    ensures { λ r. ⌜ r ≡ goes-on given ⌝ }
-{
-    match given {
-        Given::Part => true,
-        Given::Line => true,
-        Given::TooLong => false,
-        Given::Ended => false,
-        Given::Settled => false,
-        Given::ReadFailed => false,
-        Given::WriteFailed => false,
-    }
-}
-
-// Whether a read or a write failed.
-fn fails(given: Given) -> bool
-    ensures { λ r. ⌜ r ≡ failed given ⌝ }
-{
-    match given {
-        Given::Part => false,
-        Given::Line => false,
-        Given::TooLong => false,
-        Given::Ended => false,
-        Given::Settled => false,
-        Given::ReadFailed => true,
-        Given::WriteFailed => true,
-    }
-}
-
 // Writes some bytes, or none where they are not to be shown. False if a write failed.
 fn show(shown: bool, text: &[u8]) -> bool {
     if shown {
@@ -62,14 +32,17 @@ fn show(shown: bool, text: &[u8]) -> bool {
     true
 }
 
-// What is printed so far, the first `due` bytes of the buffer, is written if the next call for a line will read; where it is not to be shown it is
-// dropped. If a write fails no more is to be asked for.
+// What is printed so far, the first `due` bytes of the buffer, is written if the next call for a line will read, and kept if not; where it is not to be
+// shown it is dropped. If a write fails no more is to be asked for.
 pub fn pass_on(p: Input, shown: bool, out: &[u8], due: usize) -> Passed
     requires { ⌜ due ≤ length (now out) ⌝ }
     ensures { λ r. ⌜ Passes p due r ⌝ }
 {
     let given = p.given;
-    if !asks(given) {
+    if 1 < crate::input::given_number(given) {
+        return Passed { input: p, due };
+    }
+    if !p.reads {
         return Passed { input: p, due };
     }
     if p.at < p.end {
@@ -132,7 +105,7 @@ pub fn answer(name: &[u8], p: Input, text: &[u8]) -> Outcome
     ensures { λ r. ⌜ Ends p (now (text .entry)) r ⌝ }
 {
     let given = p.given;
-    if fails(given) {
+    if crate::input::has_failed(p) {
         words::failure(name, given);
         return Outcome::Failed;
     }
@@ -145,10 +118,13 @@ pub fn answer(name: &[u8], p: Input, text: &[u8]) -> Outcome
     o
 }
 
-// The line at hand was left out of the answer, since it is outside the grammar: told as a refusal is, unless something failed.
+// The outcome of an answer that goes by the lines before the last one, if that is left out: told as a refusal is, unless something failed.
 pub fn left_out(name: &[u8], p: Input, o: Outcome) -> Outcome
-    ensures { λ r. ⌜ r ≡ refused-unless-failed o ⌝ }
+    ensures { λ r. ⌜ r ≡ outcome-with (leaves-out p) o ⌝ }
 {
+    if !crate::input::leaves_out(p) {
+        return o;
+    }
     match o {
         Outcome::Yes => {
             words::refusal(name, p, 10);
@@ -173,4 +149,20 @@ pub fn status(o: Outcome) -> i32
         Outcome::Refused => 2,
         Outcome::Failed => 3,
     }
+}
+
+// The input where no more is asked for, and how many bytes of the buffer are the text that is to be written then.
+pub struct Text {
+    pub input: Input,
+    pub len: usize,
+}
+
+// The text, written at the end of a run, and the exit status.
+pub fn exit(name: &[u8], t: Text, out: &[u8]) -> i32
+    requires { ⌜ t .len ≤ length (now out) ⌝ }
+    ensures { λ r. ⌜ Exits (t .input) (take (t .len) (now (out .entry))) r ⌝ }
+{
+    let p = t.input;
+    let o = answer(name, p, &out[..t.len]);
+    status(o)
 }

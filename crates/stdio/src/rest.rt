@@ -4,49 +4,11 @@ ghost use Prim.Native.Nat.{_<_};
 ghost use lib.ListN.{length};
 ghost use Rattle.partial_line.specs.PartialLines.{line-bytes};
 ghost use Rattle.stdio.specs.declared.input.Given.the-variants.{TooLong};
-ghost use Rattle.stdio.specs.Inputs.{is-line, at-end, Fits};
-ghost use Rattle.stdio.specs.LongLines.{is-long, resumed, passed, line-of, Closes};
+ghost use Rattle.stdio.specs.Inputs.{Fits};
+ghost use Rattle.stdio.specs.LongLines.{resumed, passed, line-of, Closes};
 use crate::input::Given;
 use crate::input::Input;
 use partial_line::PartialLine;
-
-// Whether a closed line is at hand.
-pub fn has_closed(p: Input) -> bool
-    ensures { λ r. ⌜ r ≡ is-line (p .given) ⌝ }
-{
-    let given = p.given;
-    crate::input::begins(given)
-}
-
-// Whether the input ended.
-pub fn has_ended(p: Input) -> bool
-    ensures { λ r. ⌜ r ≡ at-end (p .given) ⌝ }
-{
-    let given = p.given;
-    crate::input::ends(given)
-}
-
-fn long(given: Given) -> bool
-    ensures { λ r. ⌜ r ≡ is-long given ⌝ }
-{
-    match given {
-        Given::Part => false,
-        Given::Line => false,
-        Given::TooLong => true,
-        Given::Ended => false,
-        Given::Settled => false,
-        Given::ReadFailed => false,
-        Given::WriteFailed => false,
-    }
-}
-
-// Whether the line at hand is too long.
-pub fn has_long(p: Input) -> bool
-    ensures { λ r. ⌜ r ≡ is-long (p .given) ⌝ }
-{
-    let given = p.given;
-    long(given)
-}
 
 // The bytes of the line that are at hand are passed over, and n calls are left.
 fn resume(p: Input, n: u64) -> Input
@@ -75,8 +37,8 @@ fn pass(t: Input, n: u64) -> Input
         Given::Part => resume(t, n),
         Given::Line => crate::input::over(t, Given::Settled),
         Given::TooLong => resume(t, n),
-        Given::Ended => t,
         Given::Settled => t,
+        Given::Ended => t,
         Given::ReadFailed => t,
         Given::WriteFailed => t,
     }

@@ -1,133 +1,125 @@
--- A timeline as a reader of lines (stdio, Readers): where it stands, and what is printed if some lines follow. Assumes nothing.
-use Prim.Native.Nat.{ℕ, _<_}
+-- A timeline as a reader that prints as it goes (stdio, Streams): where it stands, and what is printed if some lines follow. For an input in memory that is
+-- printed exactly (`timeline-exact`). Assumes nothing.
+use Prim.Native.Nat.{ℕ}
 use mathlib.Core.Path.{_≡_, refl, sym, ap, _∙_}
-use mathlib.Core.List.{List, [], _∷_, _++_, append-assoc, append-nil}
+use mathlib.Core.List.{List, [], _∷_, _++_, append-nil}
 use mathlib.Core.Bool.{Bool, true, false, not}
-use native.Mathlib.Omega.{arith}
-use borrow.Author.Tests.{lt-leb}
-use lib.ListN.{length}
+use lib.ListN.{replicate}
 use Rattle.spec.specs.Lists.{if_then_else_}
-use Rattle.session.specs.Grammar.{InputLine, closed-line, open-line, admissible}
-use Rattle.session_state.specs.declared.Phase.{Phase}
-use Rattle.session_state.specs.declared.Phase.the-variants.{Due, Events, Stopped}
-use Rattle.session_state.specs.Handling.{LineEffect, reads-events, line-effect}
+use Rattle.session.specs.Grammar.{InputLine, closed-line, open-line, input-lines, admissible}
+use Rattle.session.specs.OutputLengths.{longest-end}
+use Rattle.session_state.specs.declared.Phase.the-variants.{Stopped}
+use Rattle.session_state.specs.Handling.{LineEffect, reads-events, has-stopped, is-stopped, line-effect}
 use Rattle.session_lines.specs.LinesOutside.{outside-same, outside-stops}
-use Rattle.session_run.specs.Running.{has-stopped}
 use Rattle.stdio.specs.declared.input.Input.{Input}
-use Rattle.stdio.specs.Inputs.{unclosed-end}
-use Rattle.stdio.specs.Readers.{LineReader, last-lines}
+use Rattle.stdio.specs.Inputs.{cut-off}
+use Rattle.stdio.specs.Readers.{OutsideFixes, Countable, last-lines}
+use Rattle.stdio.specs.Runs.{Prints, exact}
+use Rattle.stdio.specs.Streams.{PrintsLines, Took, Streamed}
 use Rattle.partial_line.specs.PartialLines.{line-bytes}
 use Rattle.timeline.specs.declared.Timeline.{Timeline}
+use Rattle.timeline.specs.Lengths.{longest-rows}
 use Rattle.timeline.specs.Lines.{new-timeline, front, TimelineEffect, after-line, timeline-line, timeline-end}
 use Rattle.timeline.specs.Stopped.{stopped-line, stopped-end}
 
--- a timeline in the middle of its input, what the lent pools hold, and what is printed so far
+-- a timeline in the middle of its input, and what the lent pools hold
 pub record Running : Type 0 where
   pub timeline : Timeline
   pub nodes : List ℕ
   pub buckets : List ℕ
-  pub prints : List ℕ
 
-abbrev pub running : Timeline → List ℕ → List ℕ → List ℕ → Running
-running t ns bs prints = record { timeline = t; nodes = ns; buckets = bs; prints = prints }
+abbrev pub running : Timeline → List ℕ → List ℕ → Running
+running t ns bs = record { timeline = t; nodes = ns; buckets = bs }
 
 abbrev pub begin : List ℕ → List ℕ → Running
-begin ns bs = running new-timeline ns bs []
+begin ns bs = running new-timeline ns bs
 
--- what the lines of an input print, one after the other, and its end
-unfoldable pub timeline-output : Timeline → List ℕ → List ℕ → List InputLine → List ℕ
-timeline-output t ns bs [] = timeline-end t true ns bs .prints
-timeline-output t ns bs (l ∷ ls) =
-    let d = timeline-line t ns bs l in
-    d .prints ++ timeline-output (d .timeline) (d .nodes) (d .buckets) ls
+-- what a line does
+abbrev pub effect : Running → InputLine → TimelineEffect
+effect x l = timeline-line (x .timeline) (x .nodes) (x .buckets) l
 
--- all that is printed if these lines follow
-unfoldable pub output : Running → List InputLine → List ℕ
-output p ls = p .prints ++ timeline-output (p .timeline) (p .nodes) (p .buckets) ls
+abbrev pub after : TimelineEffect → Running
+after d = running (d .timeline) (d .nodes) (d .buckets)
 
-unfoldable pub take-line : Running → List ℕ → Running
-take-line p l =
-    let d = timeline-line (p .timeline) (p .nodes) (p .buckets) (closed-line l) in
-    running (d .timeline) (d .nodes) (d .buckets) (p .prints ++ d .prints)
+-- what is printed if these lines follow, one after the other, and at the end
+unfoldable pub timeline-output : Running → List InputLine → List ℕ
+timeline-output x [] = timeline-end (x .timeline) true (x .nodes) (x .buckets) .prints
+timeline-output x (l ∷ ls) = effect x l .prints ++ timeline-output (after (effect x l)) ls
 
--- ---- the end of what is printed
+-- what is printed for an input, over pools that hold these words
+unfoldable pub timeline-over : List ℕ → List ℕ → List ℕ → List ℕ
+timeline-over ns bs input = timeline-output (begin ns bs) (input-lines input)
 
-is-stopped : (p : Phase) → has-stopped p ≡ true → p ≡ Stopped
-unfolding has-stopped
-is-stopped (Due due) h = let z : _≡_ {A = ℕ} 0 1 = cc in absurd (omega arith)
-is-stopped Events h = let z : _≡_ {A = ℕ} 0 1 = cc in absurd (omega arith)
-is-stopped Stopped h = refl
+-- over 64 nodes and 200 buckets of zeros: what the program prints
+unfoldable pub timeline-transcript : List ℕ → List ℕ
+timeline-transcript input = timeline-over (replicate 2176 0) (replicate 13200 0) input
 
-stopped-output : (ls : List InputLine) (t : Timeline) (ns bs : List ℕ) → t .session .phase ≡ Stopped → timeline-output t ns bs ls ≡ []
+unfoldable pub next : Running → List ℕ → Running
+next x l = after (effect x (closed-line l))
+
+unfoldable pub prints : Running → List ℕ → List ℕ
+prints x l = effect x (closed-line l) .prints
+
+abbrev pub Takes : Running → ℕ → Input → List ℕ → Running → ℕ → List ℕ → Type 0
+Takes = Took timeline-output next prints
+
+abbrev pub Reads : Bool → List ℕ → Running → Input → List ℕ → Running → ℕ → List ℕ → Type 0
+Reads = Streamed timeline-output next prints longest-rows longest-end longest-end
+
+-- ---- the laws of such a reader
+
+pub timeline-lines : PrintsLines timeline-output next prints
+unfolding timeline-output next prints
+timeline-lines x l ls short = refl
+
+stopped-output : (ls : List InputLine) (x : Running) → x .timeline .session .phase ≡ Stopped → timeline-output x ls ≡ []
 unfolding timeline-output
-stopped-output [] t ns bs e = stopped-end t ns bs e true
-stopped-output (l ∷ ls) t ns bs e =
-    ap (λ (d : TimelineEffect). d .prints ++ timeline-output (d .timeline) (d .nodes) (d .buckets) ls) (stopped-line t ns bs e l) ∙ stopped-output ls t ns bs e
+stopped-output [] x e = stopped-end (x .timeline) (x .nodes) (x .buckets) e true
+stopped-output (l ∷ ls) x e =
+    ap (λ (d : TimelineEffect). d .prints ++ timeline-output (after d) ls) (stopped-line (x .timeline) (x .nodes) (x .buckets) e l) ∙ stopped-output ls x e
 
 -- "After 10, or a refused opening, it prints nothing more."
-pub stopped-decides : (p : Running) → has-stopped (p .timeline .session .phase) ≡ true → (ls : List InputLine) → output p ls ≡ output p []
-unfolding output
-stopped-decides p h ls =
-    let e = is-stopped (p .timeline .session .phase) h in
-    let silent : (ls : List InputLine) → timeline-output (p .timeline) (p .nodes) (p .buckets) ls ≡ [] =
-    λ ls. stopped-output ls (p .timeline) (p .nodes) (p .buckets) e in
-    ap (λ (w : List ℕ). p .prints ++ w) (silent ls ∙ sym (silent []))
+pub stopped-decides : (x : Running) → has-stopped (x .timeline .session .phase) ≡ true → (ls : List InputLine) → timeline-output x ls ≡ timeline-output x []
+stopped-decides x h ls = let e = is-stopped (x .timeline .session .phase) h in stopped-output ls x e ∙ sym (stopped-output [] x e)
 
--- a line that is too long or not closed is the last that prints, and has no row
-module _ (l : InputLine) (out : admissible l ≡ false) (t : Timeline) (ns bs : List ℕ) where
-  abbrev done : LineEffect
-  done = line-effect (t .session) ns bs l
+module _ (x : Running) where
+  abbrev session-prints : InputLine → List ℕ
+  session-prints l = line-effect (x .timeline .session) (x .nodes) (x .buckets) l .prints
 
-  outside-line : timeline-line t ns bs l .prints ≡ done .prints
-  unfolding timeline-line after-line front reads-events
-  outside-line = rw (outside-stops l out (t .session) ns bs)
+  -- a line that is too long or not closed is the last that prints, and has no row
+  outside-last : (l : InputLine) → admissible l ≡ false → (ls : List InputLine) → timeline-output x (l ∷ ls) ≡ session-prints l
+  unfolding timeline-output timeline-line after-line front reads-events
+  outside-last l out ls =
+      let stops = outside-stops l out (x .timeline .session) (x .nodes) (x .buckets) in
+      ap (λ (w : List ℕ). effect x l .prints ++ w) (stopped-output ls (after (effect x l)) stops) ∙ append-nil (effect x l .prints) ∙ rw stops
 
-  outside-after : timeline-line t ns bs l .timeline .session .phase ≡ Stopped
-  unfolding timeline-line after-line
-  outside-after = outside-stops l out (t .session) ns bs
+  outside-prints : (l m : InputLine) → admissible l ≡ false → admissible m ≡ false → session-prints l ≡ session-prints m
+  outside-prints l m el em = ap (λ (d : LineEffect). d .prints) (outside-same l m el em (x .timeline .session) (x .nodes) (x .buckets))
 
-  pub outside-last : (ls : List InputLine) → timeline-output t ns bs (l ∷ ls) ≡ done .prints
-  unfolding timeline-output
-  outside-last ls =
-      let d = timeline-line t ns bs l in
-      ap (λ (w : List ℕ). d .prints ++ w) (stopped-output ls (d .timeline) (d .nodes) (d .buckets) outside-after) ∙ append-nil (d .prints) ∙ outside-line
+  -- the end of the input, whose last line is closed or outside the grammar
+  pub ends-with : (p : Input) (closed : Bool) → closed ≡ not (cut-off p)
+      → timeline-output x (last-lines p) ≡ timeline-end (x .timeline) closed (x .nodes) (x .buckets) .prints
+  unfolding last-lines timeline-output timeline-end admissible
+  ends-with p closed e = rw e (go (cut-off p))
+    where
+      last : InputLine
+      last = open-line (line-bytes (p .line))
 
--- ---- the laws of a reader
+      go : (b : Bool)
+          → timeline-output x (if b then (last ∷ []) else []) ≡ timeline-end (x .timeline) (not b) (x .nodes) (x .buckets) .prints
+      go true = outside-last last refl [] ∙ outside-prints last (open-line []) refl refl
+      go false = refl
 
-module _ (p : Running) (l : List ℕ) where
-  taken-output : (ls : List InputLine) → output p (closed-line l ∷ ls) ≡ output (take-line p l) ls
-  unfolding output take-line timeline-output
-  taken-output ls = let d = timeline-line (p .timeline) (p .nodes) (p .buckets) (closed-line l) in sym (append-assoc (p .prints) (d .prints) _)
+pub timeline-outside : OutsideFixes timeline-output
+timeline-outside x l m ls el em = outside-last x l el ls ∙ outside-prints x l m el em ∙ sym (outside-last x m em [])
 
-  -- 41 bytes of a line say as much as all of it
-  too-long : (x : InputLine) (ls : List InputLine) → length l ≡ 41 → admissible x ≡ false → output p (x ∷ ls) ≡ output (take-line p l) []
-  unfolding output admissible
-  too-long x ls e out =
-      let long : 40 < length l = omega arith in
-      let last = outside-last (closed-line l) (lt-leb _ _ long) (p .timeline) (p .nodes) (p .buckets) [] in
-      let same = outside-same x (closed-line l) out (lt-leb _ _ long) (p .timeline .session) (p .nodes) (p .buckets) in
-      ap (λ (w : List ℕ). p .prints ++ w)
-      (outside-last x out (p .timeline) (p .nodes) (p .buckets) ls ∙ ap (λ (d : LineEffect). d .prints) same ∙ sym last)
-      ∙ taken-output []
+-- ---- an input in memory, and pools of zeros
 
-pub timeline-reader : LineReader output take-line
-timeline-reader = record { takes = λ p l ls short. taken-output p l ls; too-long = λ p l x ls e out. too-long p l x ls e out }
+pub timeline-exact : (ns bs input : List ℕ) (p : Input) (text : List ℕ) → Countable input → Prints (timeline-over ns bs) false input p text
+    → timeline-over ns bs input ≡ text
+timeline-exact ns bs = exact (timeline-over ns bs)
 
--- the end of the input, whose last line is closed or not
-pub ends-with : (p : Running) (q : Input) (closed : Bool) → closed ≡ not (unclosed-end q)
-    → output p (last-lines q) ≡ p .prints ++ timeline-end (p .timeline) closed (p .nodes) (p .buckets) .prints
-unfolding output last-lines timeline-output timeline-end admissible
-ends-with p q closed e = rw e (go (unclosed-end q))
-  where
-    last : InputLine
-    last = open-line (line-bytes (q .line))
-
-    unclosed : timeline-output (p .timeline) (p .nodes) (p .buckets) (last ∷ []) ≡ timeline-end (p .timeline) false (p .nodes) (p .buckets) .prints
-    unclosed =
-        outside-last last refl (p .timeline) (p .nodes) (p .buckets) []
-        ∙ ap (λ (d : LineEffect). d .prints) (outside-same last (open-line []) refl refl (p .timeline .session) (p .nodes) (p .buckets))
-
-    go : (b : Bool) → p .prints ++ timeline-output (p .timeline) (p .nodes) (p .buckets) (if b then (last ∷ []) else [])
-        ≡ p .prints ++ timeline-end (p .timeline) (not b) (p .nodes) (p .buckets) .prints
-    go true = ap (λ (w : List ℕ). p .prints ++ w) unclosed
-    go false = refl
+pub over-zeros : (ns bs : List ℕ) → ns ≡ replicate 2176 0 → bs ≡ replicate 13200 0 → (xs : List ℕ) → timeline-transcript xs ≡ timeline-over ns bs xs
+unfolding timeline-transcript
+over-zeros ns bs n b xs =
+    ap (λ (w : List ℕ). timeline-over w (replicate 13200 0) xs) (sym n) ∙ ap (λ (w : List ℕ). timeline-over ns w xs) (sym b)

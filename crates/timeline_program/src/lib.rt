@@ -1,16 +1,17 @@
-// yardtimeline: a session as rows (timeline), its input on standard input and the rows on standard output. In memory: one read of the input, one line, what
-// that read prints, and the two pools.
+// yardtimeline: a session as rows (timeline), over standard input or bytes in memory: `text` gives what is printed, `yardtimeline` is the whole program as a
+// function that gives the exit status. In memory: one read of the input, one line, what that read prints, and the two pools.
 ghost use mathlib.Core.Path.{_≡_};
+ghost use mathlib.Core.List.{_++_};
 ghost use Prim.Native.Nat.{_+_, _*_, _≤_};
-ghost use lib.ListN.{length};
+ghost use lib.ListN.{length, take};
 ghost use Rattle.session.specs.OutputLengths.{longest-end};
-ghost use Rattle.stdio.specs.AtHand.{most-printed};
-ghost use Rattle.stdio.specs.Outcomes.{Ran};
+ghost use Rattle.stdio.specs.Readers.{last-lines};
+ghost use Rattle.stdio.specs.Runs.{Prints, Ran};
 ghost use Rattle.timeline.specs.Lengths.{longest-rows};
-ghost use Rattle.timeline_program.specs.Running.{begin, output};
-ghost use Rattle.timeline_program.specs.Outcomes.{TakenGiven, ReadTo, Finished, TimelineRan};
+ghost use Rattle.timeline_program.specs.Running.{running, begin, timeline-output, timeline-over, timeline-transcript, Takes, Reads};
 use stdio::input;
 use stdio::input::Input;
+use stdio::output::Text;
 use timeline::Taken;
 use timeline::Timeline;
 
@@ -31,7 +32,8 @@ fn take_given(
     out: &mut [u8],
 ) -> Taken
     requires { ⌜ due + longest-rows ≤ length (now out) ⌝ }
-    ensures { λ r. ⌜ TakenGiven t due q (now (ns .entry)) (now (bs .entry)) (now (out .entry)) r (now (ns .exit)) (now (bs .exit)) (now (out .exit)) ⌝ }
+    ensures { λ r. ⌜ Takes (running t (now (ns .entry)) (now (bs .entry))) due q (now (out .entry)) (running (r .timeline) (now (ns .exit)) (now (bs .exit)))
+        (r .printed) (now (out .exit)) ⌝ }
 {
     if input::has_line(q) {
         let h = q.line;
@@ -53,11 +55,13 @@ fn take_given(
 
 // Reads until the input ends, the session has stopped, or a read or a write fails. What is printed before a read is written before it; the rest is in the
 // buffer.
-fn read(ns: &mut [u32], bs: &mut [u32], out: &mut [u8], room: &mut [u8]) -> Progress
-    requires { ⌜ most-printed longest-rows longest-end (now room) ≤ length (now out) ⌝ }
-    ensures { λ r. ⌜ ReadTo (now (ns .entry)) (now (bs .entry)) (now (room .entry)) r (now (ns .exit)) (now (bs .exit)) (now (out .exit)) (now (room .exit)) ⌝ }
+fn read(reads: bool, room: &mut [u8], ns: &mut [u32], bs: &mut [u32], out: &mut [u8]) -> Progress
+    requires { ⌜ longest-rows * length (now room) + longest-end ≤ length (now out) ⌝ }
+    ensures { λ r. ⌜ Reads reads (now (room .entry)) (begin (now (ns .entry)) (now (bs .entry))) (r .input) (now (room .exit))
+        (running (r .timeline) (now (ns .exit)) (now (bs .exit))) (r .due) (now (out .exit)) ⌝ }
+    ensures { λ r. ⌜ r .input .left ≤ 0 ⌝ }
 {
-    let mut p = input::unread();
+    let mut p = input::begin(reads, room.len());
     let mut t = timeline::new_timeline();
     let mut due = 0;
     while 0 < p.left {
@@ -66,7 +70,7 @@ fn read(ns: &mut [u32], bs: &mut [u32], out: &mut [u8], room: &mut [u8]) -> Prog
         t = d.timeline;
         let session = t.session;
         let phase = session.phase;
-        let s = input::settle(q, session_run::has_stopped(phase));
+        let s = input::settle(q, session_state::has_stopped(phase));
         let w = stdio::output::pass_on(s, true, out, d.printed);
         due = w.due;
         p = w.input;
@@ -88,40 +92,43 @@ fn finish(
     out: &mut [u8],
 ) -> usize
     requires { ⌜ due + longest-end ≤ length (now out) ⌝ }
-    ensures { λ r. ⌜ Finished t p due (now (ns .entry)) (now (bs .entry)) (now (out .entry)) r (now (out .exit)) ⌝ }
+    ensures { λ n. ⌜ take n (now (out .exit))
+        ≡ take due (now (out .entry)) ++ timeline-output (running t (now (ns .entry)) (now (bs .entry))) (last-lines p) ⌝ }
+    ensures { λ n. ⌜ (n ≤ length (now (out .entry))) × (length (p .line .bytes) ≡ 41) ⌝ }
 {
-    let open = input::unclosed(p);
-    let n = timeline::finish(t, !open, ns, bs, &mut out[due..]);
+    let cut = input::cut_off(p);
+    let n = timeline::finish(t, !cut, ns, bs, &mut out[due..]);
     due + n
 }
 
-fn run(ns: &mut [u32], bs: &mut [u32], out: &mut [u8], room: &mut [u8]) -> i32
-    requires { ⌜ most-printed longest-rows longest-end (now room) ≤ length (now out) ⌝ }
-    ensures { λ r. ⌜ Ran output (begin (now (ns .entry)) (now (bs .entry))) r ⌝ }
+// What is printed for an input: standard input if `reads`, else the bytes of the room.
+pub fn text(reads: bool, room: &mut [u8], ns: &mut [u32], bs: &mut [u32], out: &mut [u8]) -> Text
+    requires { ⌜ longest-rows * length (now room) + longest-end ≤ length (now out) ⌝ }
+    ensures { λ r. ⌜ Prints (timeline-over (now (ns .entry)) (now (bs .entry))) reads (now (room .entry)) (r .input) (take (r .len) (now (out .exit))) ⌝ }
+    ensures { λ r. ⌜ r .len ≤ length (now (out .exit)) ⌝ }
 {
-    let k = read(ns, bs, out, room);
+    let k = read(reads, room, ns, bs, out);
     let t = k.timeline;
-    let p = k.input;
-    let n = finish(t, p, k.due, ns, bs, out);
-    let o = stdio::output::answer(b"timeline", p, &out[..n]);
-    stdio::output::status(o)
+    let input = k.input;
+    let len = finish(t, input, k.due, ns, bs, out);
+    Text { input, len }
 }
 
-// What is printed between two reads: at most `longest-rows` bytes for each of the 1,024 bytes read, as many for a line that is too long, and
-// `longest-end` for the end.
-fn output_room() -> [u8; 229202]
-    ensures { λ r. ⌜ 1025 * longest-rows + longest-end ≡ length r ⌝ }
+// What is printed for one read of 1,024 bytes, and at the end.
+fn output_room() -> [u8; 228980]
+    ensures { λ r. ⌜ longest-rows * 1024 + longest-end ≡ length r ⌝ }
 {
-    [0; 229202]
+    [0; 228980]
 }
 
 // The program, and its exit status.
 pub fn yardtimeline() -> i32
-    ensures { λ r. ⌜ TimelineRan r ⌝ }
+    ensures { λ r. ⌜ Ran timeline-transcript r ⌝ }
 {
-    let mut ns = session_run::node_words();
-    let mut bs = session_run::bucket_words();
-    let mut out = output_room();
     let mut room = input::room();
-    run(&mut ns, &mut bs, &mut out, &mut room)
+    let mut ns = session_pools::node_words();
+    let mut bs = session_pools::bucket_words();
+    let mut out = output_room();
+    let t = text(true, &mut room, &mut ns, &mut bs, &mut out);
+    stdio::output::exit(b"timeline", t, &out)
 }

@@ -9,14 +9,14 @@ use native.Mathlib.Omega.{arith}
 use borrow.Author.Needs.{needs}
 use Rattle.partial_line.specs.Filling.{lines-after}
 use Rattle.partial_line.proofs.Laws.{pushed-room}
-use Rattle.partial_line.proofs.FillLaws.{closed-at, longer-at, not-both}
+use Rattle.partial_line.proofs.FillLaws.{closed-at, longer-at, not-both, not-zero}
 use Rattle.partial_line.proofs.fill.Statement.{statement}
 use Rattle.partial_line.proofs.fill.Tie as tie
 
 abbrev Inv-loop : tie.InvT-loop
 Inv-loop input line₀ i₀ line i =
     (i ≤ length input) × (length (line .bytes) ≡ 41)
-    × ((more : List ℕ) → lines-after line₀ (input ++ more) ≡ lines-after line (drop i input ++ more))
+    × ((more : List ℕ) → lines-after line₀ (input ++ more) ≡ lines-after line (drop i input ++ more)) × (i ≡ 0 → line .len ≡ line₀ .len)
 
 abbrev μ-loop : tie.MeasureT-loop
 μ-loop input line₀ i₀ line i = length input - i
@@ -25,7 +25,7 @@ room : (c : tie.Start Inv-loop μ-loop) → length (c .args .h .bytes) ≡ 41
 room c = search needs
 
 loop-holds : tie.Need-loop-holds Inv-loop μ-loop
-loop-holds c = (omega arith, room (c .before), λ more. refl)
+loop-holds c = (omega arith, room (c .before), λ more. refl, λ z. refl)
 
 returns : tie.Need-returns Inv-loop μ-loop
 returns c =
@@ -37,17 +37,9 @@ returns c =
       whole = λ e h. let long = c .if1 .taken in absurd (omega arith);
       short = λ e. not-both e;
       uses = λ e. not-both e;
+      some-used = λ some h. not-zero _ (λ z. let e = l .inv .3 z in let long = c .if1 .taken in omega arith);
       room = l .inv .1;
     }
-
-shared-slice-read-x : tie.Need-shared-slice-read-x Inv-loop μ-loop
-shared-slice-read-x c = search needs
-
-add-i : tie.Need-add-i Inv-loop μ-loop
-add-i c = search needs
-
-closes-requires : tie.Need-closes-requires Inv-loop μ-loop
-closes-requires c κs = search needs
 
 returns-2 : tie.Need-returns-2 Inv-loop μ-loop
 returns-2 c =
@@ -64,14 +56,9 @@ returns-2 c =
       whole = λ e. not-both (sym e);
       short = λ e. let h = at-short .if1 .left in omega (arith, h);
       uses = λ e. omega arith;
+      some-used = λ some h. omega arith;
       room = l .inv .1;
     }
-
-push-requires : tie.Need-push-requires Inv-loop μ-loop
-push-requires c κs = search needs
-
-loop-less : tie.Need-loop-less Inv-loop μ-loop
-loop-less c = search needs
 
 loop-again : tie.Need-loop-again Inv-loop μ-loop
 loop-again c =
@@ -88,6 +75,7 @@ loop-again c =
       λ more. l .inv .2 more
           ∙ longer-at (now (a .input)) (l .i) test more (l .line) (c .push .result) (l .inv .1) (omega (arith, short))
           (sym (at-closes .closes .ensures) ∙ at-open .if2 .left) (c .push .ensures),
+      λ z. absurd (omega arith),
     )
 
 returns-3 : tie.Need-returns-3 Inv-loop μ-loop
@@ -101,10 +89,23 @@ returns-3 c =
       whole = λ e h. omega (arith, past, l .inv .0);
       short = λ e. not-both e;
       uses = λ e. not-both e;
+      some-used = λ some h. omega (arith, past, l .inv .0);
       room = l .inv .1;
     }
 
 pub fill-spec : {M : Type 1} → statement M
 fill-spec =
     tie.close
-    (tie.spec Inv-loop μ-loop loop-holds returns shared-slice-read-x add-i closes-requires returns-2 push-requires loop-less loop-again returns-3)
+    (tie.spec
+    Inv-loop
+    μ-loop
+    loop-holds
+    returns
+    (λ c. search needs)
+    (λ c. search needs)
+    (λ c κs. search needs)
+    returns-2
+    (λ c κs. search needs)
+    (λ c. search needs)
+    loop-again
+    returns-3)

@@ -1,32 +1,40 @@
 -- `session_run::read` meets its contract: each turn of the loop takes what a call gave. Assumes nothing.
 use denote.Ref.{now}
-use Prim.Native.Nat.{_≤_}
-use mathlib.Core.Path.{_≡_, refl, _∙_}
-use Rattle.session_run.proofs.Laws.{progress, nothing-read, given-within, passed-left, turn-read}
+use Prim.Native.Nat.{_+_, _*_, _≤_}
+use mathlib.Core.Path.{_≡_, refl, sym, ap, _∙_}
+use mathlib.Core.Bool.{true}
 use native.Mathlib.Omega.{arith}
 use lib.ListN.{length}
-use Rattle.stdio.specs.Loops.{turn-left}
-use Rattle.stdio.specs.AtHand.{most-printed}
-use Rattle.session_run.specs.Outcomes.{ReadTo}
 use Rattle.session.specs.OutputLengths.{longest-line, longest-end}
+use Rattle.session_state.specs.declared.Session.{Session}
+use Rattle.session_lines.specs.KnownMemory.{KnownIn}
+use Rattle.stdio.specs.Loops.{turn-left}
+use Rattle.stdio.specs.Passing.{passed-left}
+use Rattle.stdio.specs.Streams.{stream-begins, stream-turn}
+use Rattle.session_run.specs.Running.{running, begin, prints-on, next, prints, Reads, session-lines, stopped-decides}
+use Rattle.session_run.proofs.Laws.{new-known, call-prints, line-prints}
 use borrow.Author.Needs.{needs}
 use Rattle.session_run.proofs.read.Statement.{statement}
 use Rattle.session_run.proofs.read.Tie as tie
 
 abbrev Inv-loop : tie.InvT-loop
-Inv-loop shown ns₀ bs₀ out₀ room₀ p₀ s₀ due₀ ns bs out room p s due =
-    ReadTo ns₀ bs₀ room₀ (progress s p due) ns bs out room
-    × (length ns ≡ length ns₀) × (length bs ≡ length bs₀) × (length out ≡ length out₀) × (length room ≡ length room₀)
+Inv-loop reads shown room₀ ns₀ bs₀ out₀ p₀ s₀ due₀ room ns bs out p s due =
+    Reads reads room₀ (begin ns₀ bs₀) p room (running s ns bs) due out × KnownIn true s ns bs
+    × (length room ≡ length room₀) × (length ns ≡ length ns₀) × (length bs ≡ length bs₀) × (length out ≡ length out₀)
 
 abbrev μ-loop : tie.MeasureT-loop
-μ-loop shown ns₀ bs₀ out₀ room₀ p₀ s₀ due₀ ns bs out room p s due = p .left
+μ-loop reads shown room₀ ns₀ bs₀ out₀ p₀ s₀ due₀ room ns bs out p s due = p .left
 
 loop-holds : tie.Need-loop-holds Inv-loop μ-loop
 loop-holds c =
-    let at-unread = c .before in
-    let entry = at-unread .before .before .before .before .before in
-    let a = entry .args in (
-      nothing-read _ _ (now (a .ns)) (now (a .bs)) (now (a .out)) (now (a .room)) (at-unread .unread .ensures) (c .new-session .ensures) (entry .pre),
+    let at-begin = c .before in
+    let entry = at-begin .before .before .before .before .before in
+    let a = entry .args in
+    let x₀ = begin (now (a .ns)) (now (a .bs)) in
+    let fresh = ap (λ (x : Session). running x (now (a .ns)) (now (a .bs))) (c .new-session .ensures) in (
+      stream-begins prints-on next prints session-lines longest-line longest-end (a .reads) (now (a .room)) x₀ longest-end (omega arith) _ _ (now (a .out))
+          (at-begin .begin .ensures) fresh (entry .pre),
+      new-known _ (now (a .ns)) (now (a .bs)) (c .new-session .ensures),
       refl,
       refl,
       refl,
@@ -34,34 +42,30 @@ loop-holds c =
     )
 
 next-line-requires : tie.Need-next-line-requires Inv-loop μ-loop
-next-line-requires c κs =
-    let at-loop = c .before .before .before in
-    at-loop .loop .inv .0 .follows .fits
+next-line-requires c κs = c .before .before .before .loop .inv .0 .follows .fits
 
 take-given-requires : tie.Need-take-given-requires Inv-loop μ-loop
 take-given-requires c κs =
-    let at-if1 = c .before .before .before .before .before .before .before in
-    let at-loop = at-if1 .before .before in
-    let r = at-loop .loop .inv .0 in
-    let fits = r .fits .for-lines (at-if1 .if1 .taken) in
-    (omega arith, r .known)
+    let at-loop = c .before .before .before .before .before .before .before .before .before in
+    let fits = at-loop .loop .inv .0 .fits .holds in
+    (omega arith, at-loop .loop .inv .1)
 
 pass-on-requires : tie.Need-pass-on-requires Inv-loop μ-loop
 pass-on-requires c κs =
     let at-take-given = c .before .before .before .before .before .before .before .before .before .before in
     let at-next-line = at-take-given .before .before .before .before .before .before in
-    let at-if1 = at-next-line .before .before in
-    let at-loop = at-if1 .before .before in
-    let l = at-loop .loop in
-    let fits = l .inv .0 .fits .for-lines (at-if1 .if1 .taken) in
+    let l = at-next-line .before .before .before .before .loop in
+    let few = call-prints prints-on next prints (running (l .s) (l .ns) (l .bs)) longest-line (line-prints _) (at-next-line .next-line .result) .0 in
     let t = at-take-given .take-given in
-    omega (arith, given-within (at-next-line .next-line .result) _ _ (t .ensures .within), t .kept .1 .1 .1 .1 .1 .0)
+    let fits = l .inv .0 .fits .holds in
+    omega (arith, t .ensures .0 .counted, t .kept .1 .1 .1 .1 .1 .0)
 
 loop-less : tie.Need-loop-less Inv-loop μ-loop
 loop-less c =
     let at-pass-on = c .before in
     let at-settle = at-pass-on .before .before in
-    let at-next-line = at-settle .before .before .before .before .before .before .before .before .before .before .before .before .before .before .before in
+    let at-take-given = at-settle .before .before .before .before .before .before .before .before .before in
+    let at-next-line = at-take-given .before .before .before .before .before .before in
     let at-if1 = at-next-line .before .before in
     let less = turn-left _ _ _ _ _ _ (at-if1 .if1 .taken) (at-next-line .next-line .ensures) (at-settle .settle .ensures) in
     omega (arith, less, passed-left _ _ _ (at-pass-on .pass-on .ensures))
@@ -76,44 +80,30 @@ loop-again c =
     let at-if1 = at-next-line .before .before in
     let at-loop = at-if1 .before .before in
     let entry = at-loop .before .before .before .before .before .before .before in
+    let a = entry .args in
     let l = at-loop .loop in
     let t = at-take-given .take-given in
     let n = at-next-line .next-line in
-    let kept : length (n .last .1 .0) ≡ length (now (entry .args .room)) = n .kept .1 .0 ∙ l .inv .4 in
-    let most : most-printed longest-line longest-end (n .last .1 .0) ≤ length (l .out) = omega (arith, entry .pre, l .inv .3) in (
-      turn-read _ _ _ (l .s) (l .p) (l .due) (l .ns) (l .bs) (l .out) (l .room) (l .inv .0) (at-if1 .if1 .taken) (n .result) _ (n .ensures)
-          (t .result) _ _ _ (t .ensures) (t .kept .1 .1 .1 .1 .1 .0) most (at-has-stopped .has-stopped .result) (at-has-stopped .has-stopped .ensures)
+    let x = running (l .s) (l .ns) (l .bs) in
+    let kept : length (n .last .1 .0) ≡ length (now (a .room)) = n .kept .1 .0 ∙ l .inv .2 in
+    let lent : longest-line * length (n .last .1 .0) + longest-end ≤ length (l .out) = omega (arith, entry .pre, l .inv .5) in
+    let few = call-prints prints-on next prints x longest-line (line-prints x) (n .result) .1 in (
+      stream-turn prints-on next prints session-lines longest-line longest-end (a .reads) (now (a .room)) (begin (now (a .ns)) (now (a .bs))) longest-end
+          longest-end (l .p) (l .room) x (l .due) (l .out) (l .inv .0) (at-if1 .if1 .taken) (n .result) _ (n .ensures)
+          (running (t .result .session) (t .last .1 .1 .1 .0) (t .last .1 .1 .1 .1 .0)) (t .result .printed) _ (t .ensures .0) (t .kept .1 .1 .1 .1 .1 .0) lent
+          (omega arith) (omega arith) (at-has-stopped .has-stopped .result) (λ e ls. stopped-decides _ (sym (at-has-stopped .has-stopped .ensures) ∙ e) ls)
           (at-settle .settle .result) (at-settle .settle .ensures) (at-pass-on .pass-on .result) (at-pass-on .pass-on .ensures),
-      t .kept .1 .1 .1 .0 ∙ l .inv .1,
-      t .kept .1 .1 .1 .1 .0 ∙ l .inv .2,
-      t .kept .1 .1 .1 .1 .1 .0 ∙ l .inv .3,
+      t .ensures .1,
       kept,
+      t .kept .1 .1 .1 .0 ∙ l .inv .3,
+      t .kept .1 .1 .1 .1 .0 ∙ l .inv .4,
+      t .kept .1 .1 .1 .1 .1 .0 ∙ l .inv .5,
     )
-
-same-length : tie.Need-same-length Inv-loop μ-loop
-same-length c =
-    let at-loop = c .before .before in
-    at-loop .loop .inv .1
-
-same-length-2 : tie.Need-same-length-2 Inv-loop μ-loop
-same-length-2 c =
-    let at-loop = c .before .before in
-    at-loop .loop .inv .2
-
-same-length-3 : tie.Need-same-length-3 Inv-loop μ-loop
-same-length-3 c =
-    let at-loop = c .before .before in
-    at-loop .loop .inv .3
-
-same-length-4 : tie.Need-same-length-4 Inv-loop μ-loop
-same-length-4 c =
-    let at-loop = c .before .before in
-    at-loop .loop .inv .4
 
 returns : tie.Need-returns Inv-loop μ-loop
 returns c =
-    let at-loop = c .before .before in
-    at-loop .loop .inv .0
+    let l = c .before .before .loop in
+    (l .inv .0, (l .inv .1, c .if1 .left))
 
 pub read-spec : {M : Type 1} → statement M
 read-spec =
@@ -131,8 +121,8 @@ read-spec =
     pass-on-requires
     loop-less
     loop-again
-    same-length
-    same-length-2
-    same-length-3
-    same-length-4
+    (λ c. c .before .before .loop .inv .2)
+    (λ c. c .before .before .loop .inv .3)
+    (λ c. c .before .before .loop .inv .4)
+    (λ c. c .before .before .loop .inv .5)
     returns)

@@ -1,12 +1,13 @@
 -- `session_run::take_given` meets its contract: a line, or none. Assumes nothing.
-use Rattle.session_lines.specs.BufferParts.{rest-length}
 use lib.ListN.{length}
-use denote.Ref.{now}
-use native.Mathlib.Omega.{arith}
-use Rattle.session.specs.BufferLaws.{append-within}
 use lib.Seq.{length-take-le}
-use Rattle.session_run.proofs.Laws.{line-taken, none-taken}
+use native.Mathlib.Omega.{arith}
+use denote.Ref.{now}
 use mathlib.Core.Path.{_≡_, sym, _∙_}
+use Rattle.session.specs.BufferLaws.{append-within}
+use Rattle.session_lines.specs.BufferParts.{rest-length}
+use Rattle.session_run.specs.Running.{running, prints-on, next, prints}
+use Rattle.session_run.proofs.Laws.{line-taken, took-none}
 use borrow.Author.Needs.{needs}
 use Rattle.session_run.proofs.take_given.Statement.{statement}
 use Rattle.session_run.proofs.take_given.Tie as tie
@@ -44,16 +45,16 @@ returns c =
     let at-has-line = at-if1 .before in
     let entry = at-has-line .before .before .before .before in
     let a = entry .args in
-    line-taken (a .s) (a .due) (now (a .ns)) (now (a .bs)) (now (a .out)) (a .q) (entry .pre .1)
-    (sym (at-has-line .has-line .ensures) ∙ at-if1 .if1 .taken) (entry .pre .0) (at-line-length .line-length .result)
-    (at-line-length .line-length .ensures .1) (at-known-line .known-line .result) _ _ _ (at-known-line .known-line .ensures)
+    line-taken (a .s) (now (a .ns)) (now (a .bs)) (a .due) (now (a .out)) (at-known-line .known-line .result) _ _ _ (entry .pre .0) (entry .pre .1) (a .q)
+    (sym (at-has-line .has-line .ensures) ∙ at-if1 .if1 .taken) _ (at-line-length .line-length .ensures .1) (at-known-line .known-line .ensures)
 
 returns-2 : tie.Need-returns-2
 returns-2 c =
     let at-has-line = c .before in
     let entry = at-has-line .before .before .before .before in
     let a = entry .args in
-    none-taken (a .s) (a .due) (now (a .ns)) (now (a .bs)) (now (a .out)) (a .q) (entry .pre .1) (sym (at-has-line .has-line .ensures) ∙ c .if1 .left)
+    let none = sym (at-has-line .has-line .ensures) ∙ c .if1 .left in
+    (took-none prints-on next prints (running (a .s) (now (a .ns)) (now (a .bs))) (a .due) (now (a .out)) (a .q) none, entry .pre .1)
 
 pub take-given-spec : {M : Type 1} → statement M
 take-given-spec =

@@ -25,11 +25,13 @@ add-result c =
 returns : tie.Need-returns
 returns c =
     let at-finish = c .before .before .before .before .before .before in
-    let at-unclosed = at-finish .before .before .before .before in
-    let entry = at-unclosed .before .before .before .before in
+    let at-cut-off = at-finish .before .before .before .before in
+    let entry = at-cut-off .before .before .before .before in
     let a = entry .args in
-    ends (a .t) (a .due) (now (a .ns)) (now (a .bs)) (now (a .out)) (a .p) (len entry) (entry .pre) _ (ap not (at-unclosed .unclosed .ensures))
-    (at-finish .finish .result) _ _ _ (at-finish .finish .ensures)
+    let done =
+    ends (a .t) (now (a .ns)) (now (a .bs)) (a .due) (now (a .out)) (entry .pre) (a .p) _ (ap not (at-cut-off .cut-off .ensures)) (at-finish .finish .result)
+    _ _ _ (at-finish .finish .ensures) in
+    (done .0, (done .1, len entry))
 
 pub finish-spec : {M : Type 1} → statement M
 finish-spec =

@@ -5,7 +5,9 @@ use denote.Ref.{now}
 use mathlib.Core.Path.{_≡_, sym, _∙_}
 use Rattle.session.specs.BufferLaws.{append-within}
 use Rattle.session_lines.specs.BufferParts.{rest-length}
-use Rattle.timeline_program.proofs.Laws.{line-taken, none-taken}
+use Rattle.session_run.proofs.Laws.{took-none}
+use Rattle.timeline_program.specs.Running.{running, timeline-output, next, prints}
+use Rattle.timeline_program.proofs.Laws.{line-taken}
 use lib.Seq.{length-take-le}
 use borrow.Author.Needs.{needs}
 use Rattle.timeline_program.proofs.take_given.Statement.{statement}
@@ -44,15 +46,16 @@ returns c =
     let at-has-line = at-if1 .before in
     let entry = at-has-line .before .before .before .before in
     let a = entry .args in
-    line-taken (a .t) (a .due) (now (a .ns)) (now (a .bs)) (now (a .out)) (a .q) (sym (at-has-line .has-line .ensures) ∙ at-if1 .if1 .taken) (entry .pre)
-    (at-line-length .line-length .result) (at-line-length .line-length .ensures .1) (at-take-line .take-line .result) _ _ _ (at-take-line .take-line .ensures)
+    line-taken (a .t) (now (a .ns)) (now (a .bs)) (a .due) (now (a .out)) (entry .pre) (a .q) (sym (at-has-line .has-line .ensures) ∙ at-if1 .if1 .taken) _
+    (at-line-length .line-length .ensures .1) (at-take-line .take-line .result) _ _ _ (at-take-line .take-line .ensures)
 
 returns-2 : tie.Need-returns-2
 returns-2 c =
     let at-has-line = c .before in
     let entry = at-has-line .before .before .before .before in
     let a = entry .args in
-    none-taken (a .t) (a .due) (now (a .ns)) (now (a .bs)) (now (a .out)) (a .q) (sym (at-has-line .has-line .ensures) ∙ c .if1 .left)
+    took-none timeline-output next prints (running (a .t) (now (a .ns)) (now (a .bs))) (a .due) (now (a .out)) (a .q)
+    (sym (at-has-line .has-line .ensures) ∙ c .if1 .left)
 
 pub take-given-spec : {M : Type 1} → statement M
 take-given-spec =

@@ -21,14 +21,14 @@ unfolding answer last-lines add-line parse-note-line admissible
 returns-2 c =
     let at-refusal = c .before .before in
     let at-if2 = at-refusal .before .before in
-    rw (sym (at-if2 .before .unclosed .ensures) ∙ at-if2 .if2 .taken) (at-refusal .refusal2 .ensures)
+    rw (sym (at-if2 .before .cut-off .ensures) ∙ at-if2 .if2 .taken) (at-refusal .refusal2 .ensures)
 
 returns-3 : tie.Need-returns-3
 unfolding answer last-lines
 returns-3 c =
     let at-merged = c .before .before in
     let at-if2 = at-merged .before .before .before .before in
-    rw (sym (at-if2 .before .unclosed .ensures) ∙ at-if2 .if2 .left, at-if2 .before .before .if1 .left) (at-merged .merged .ensures)
+    rw (sym (at-if2 .before .cut-off .ensures) ∙ at-if2 .if2 .left, at-if2 .before .before .if1 .left) (at-merged .merged .ensures)
 
 pub finish-spec : {M : Type 1} → statement M
 finish-spec =

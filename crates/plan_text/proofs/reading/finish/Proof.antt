@@ -1,4 +1,4 @@
--- `plan_text::reading::finish` meets its contract. A last line that is not closed, then the tests of the definition. Assumes nothing.
+-- `plan_text::reading::finish` meets its contract. A last line that is too long or not closed, then the tests of the definition. Assumes nothing.
 use mathlib.Core.Path.{refl, sym, _∙_}
 use mathlib.Core.List.{[]}
 use borrow.Author.Tests.{not-true, not-false}
@@ -17,7 +17,7 @@ returns c =
     let at-refusal = c .before .before in
     let at-if1 = at-refusal .before .before in
     let a = at-if1 .before .before .before .args in
-    rw (sym (at-if1 .before .unclosed .ensures) ∙ at-if1 .if1 .taken, outside-refused (a .r) (open-line (line-bytes (a .p .line))) [] refl)
+    rw (sym (at-if1 .before .cut-off .ensures) ∙ at-if1 .if1 .taken, outside-refused (a .r) (open-line (line-bytes (a .p .line))) [] refl)
     (at-refusal .refusal .ensures)
 
 returns-2 : tie.Need-returns-2
@@ -26,7 +26,7 @@ returns-2 c =
     let at-refusal = c .before .before in
     let at-if2 = at-refusal .before .before in
     let at-if1 = at-if2 .before .before in
-    rw (sym (at-if1 .before .unclosed .ensures) ∙ at-if1 .if1 .left, sym (at-if2 .before .in-grammar .ensures) ∙ not-true _ (at-if2 .if2 .taken))
+    rw (sym (at-if1 .before .cut-off .ensures) ∙ at-if1 .if1 .left, sym (at-if2 .before .in-grammar .ensures) ∙ not-true _ (at-if2 .if2 .taken))
     (at-refusal .refusal2 .ensures)
 
 returns-3 : tie.Need-returns-3
@@ -35,7 +35,7 @@ returns-3 c =
     let at-planned = c .before .before in
     let at-if2 = at-planned .before .before .before in
     let at-if1 = at-if2 .before .before in
-    rw (sym (at-if1 .before .unclosed .ensures) ∙ at-if1 .if1 .left, sym (at-if2 .before .in-grammar .ensures) ∙ not-false _ (at-if2 .if2 .left))
+    rw (sym (at-if1 .before .cut-off .ensures) ∙ at-if1 .if1 .left, sym (at-if2 .before .in-grammar .ensures) ∙ not-false _ (at-if2 .if2 .left))
     (at-planned .planned .ensures)
 
 pub finish-spec : {M : Type 1} → statement M

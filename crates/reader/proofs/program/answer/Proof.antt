@@ -1,10 +1,19 @@
 -- `reader::program::answer` meets its contract. A line that is too long, or the end. Assumes nothing.
-use denote.Ref.{now}
 use mathlib.Core.Path.{sym, _∙_}
-use Rattle.reader.proofs.Programs.{long-given, answers-long, answers-end}
+use native.Mathlib.Omega.{arith}
+use Rattle.reader.proofs.Programs.{long-given, answers-end}
 use borrow.Author.Needs.{needs}
 use Rattle.reader.proofs.program.answer.Statement.{statement}
 use Rattle.reader.proofs.program.answer.Tie as tie
+
+read-requires : tie.Need-read-requires
+read-requires c κs = let start = c .before .before .before .before .before .before in start .pre
+
+long-gives-requires : tie.Need-long-gives-requires
+long-gives-requires c κs =
+    let at-if1 = c .before .before in
+    let at-read = at-if1 .before .before .before .before .before .before .before .before .before .before in
+    at-read .read .ensures .0 .known
 
 long-line-requires : tie.Need-long-line-requires
 long-line-requires c κs =
@@ -12,8 +21,8 @@ long-line-requires c κs =
     let at-read = at-if1 .before .before .before .before .before .before .before .before .before .before in
     let t = at-read .read in
     let e = long-given (t .result .input) (sym (at-if1 .before .has-long .ensures) ∙ at-if1 .if1 .taken) in
-    let r = t .ensures .reaches in
-    (r .fits, e, r .long e)
+    let f = t .ensures .0 .follows in
+    (f .fits, e, omega (arith, f .long e))
 
 returns : tie.Need-returns
 returns c =
@@ -21,28 +30,27 @@ returns c =
     let at-gives = at-line .before .before .before .before .before .before in
     let at-if1 = at-gives .before .before .before in
     let at-read = at-if1 .before .before .before .before .before .before .before .before .before .before in
-    let a = at-read .before .before .before .before .before .before .before .args in
     let t = at-read .read in
-    let l = at-line .long-line in
-    answers-long (now (a .ns)) (now (a .bs)) (now (a .room)) (t .result) _ _ _ (t .ensures)
-    (sym (at-if1 .before .has-long .ensures) ∙ at-if1 .if1 .taken) (l .result) (l .ensures _ (at-gives .long-gives .ensures))
+    let i = t .ensures .0 in
+    let e = long-given (t .result .input) (sym (at-if1 .before .has-long .ensures) ∙ at-if1 .if1 .taken) in
+    at-line .long-line .ensures _ _ (i .place) (i .follows)
+    (at-gives .long-gives .ensures (i .place) (i .stands) (i .long-numbered e) (i .follows .long e))
 
 returns-2 : tie.Need-returns-2
 returns-2 c =
     let at-if1 = c .before .before .before in
     let at-read = at-if1 .before .before .before .before .before .before .before .before .before .before in
-    let a = at-read .before .before .before .before .before .before .before .args in
     let t = at-read .read in
-    answers-end (now (a .ns)) (now (a .bs)) (now (a .room)) (t .result) _ _ _ (t .ensures)
+    answers-end _ _ (t .result .input) _ (t .result .reader) _ _ (t .ensures .0) (t .ensures .1)
     (sym (at-if1 .before .has-long .ensures) ∙ at-if1 .if1 .left) (c .ended .result) (c .ended .ensures)
 
 pub answer-spec : {M : Type 1} → statement M
 answer-spec =
     tie.close
     (tie.spec
+    read-requires
     (λ c κs. search needs)
-    (λ c κs. search needs)
-    (λ c κs. search needs)
+    long-gives-requires
     long-line-requires
     (λ c. search needs)
     (λ c. search needs)

@@ -3,8 +3,7 @@ use denote.Ref.{now}
 use mathlib.Core.Path.{_≡_, refl, ap, _∙_}
 use mathlib.Core.Bool.{Bool, not}
 use lib.ListN.{length}
-use Rattle.reader_state.specs.Standing.{line-read}
-use Rattle.reader.specs.LentVerdict.{end-at}
+use Rattle.reader_state.specs.Standing.{read-end}
 use borrow.Author.Needs.{needs}
 use Rattle.reader.proofs.program.ended.Statement.{statement}
 use Rattle.reader.proofs.program.ended.Tie as tie
@@ -16,10 +15,9 @@ returns : tie.Need-returns
 returns c =
     let start = c .before .before .before .before in
     let a = start .args in
-    let d = line-read (a .r) (now (a .ns)) (now (a .bs)) in
     record {
       input = refl;
-      verdict = c .read-end .ensures ∙ ap (λ (b : Bool). end-at (not b) d) (c .before .unclosed .ensures);
+      verdict = c .read-end .ensures ∙ ap (λ (b : Bool). read-end (not b) (a .r) (now (a .ns)) (now (a .bs))) (c .before .cut-off .ensures);
       room = line-room start;
     }
 

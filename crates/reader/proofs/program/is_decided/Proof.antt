@@ -1,5 +1,5 @@
 -- `reader::program::is_decided` meets its contract. Each phase, as in the definition. Assumes nothing.
-use Rattle.reader.specs.LentVerdict.{is-decided}
+use Rattle.reader.specs.AsDefined.{is-decided}
 use borrow.Author.Needs.{needs}
 use Rattle.reader.proofs.program.is_decided.Statement.{statement}
 use Rattle.reader.proofs.program.is_decided.Tie as tie

@@ -3,7 +3,8 @@ use denote.Ref.{now}
 use mathlib.Core.Path.{_≡_, sym}
 use lib.ListN.{length}
 use lib.Seq.{length-take-le}
-use Rattle.reader.proofs.Programs.{ends-after}
+use Rattle.reader_state.specs.Standing.{line-read}
+use Rattle.reader.proofs.Programs.{long-gives-so}
 use native.Mathlib.Omega.{arith}
 use borrow.Author.Needs.{needs}
 use Rattle.reader.proofs.program.long_gives.Statement.{statement}
@@ -31,12 +32,8 @@ returns c =
     let at-unclosed = at-length .before .before in
     let at-short = at-unclosed .before .before .before in
     let a = at-short .before .before .before .args in
-    record {
-      unclosed-gives = at-unclosed .read-end .ensures;
-      closed-gives =
-          ends-after (a .r) (now (a .ns)) (now (a .bs)) _ _ _ _ _ _ (at-line .read-line .ensures) (at-length .line-length .ensures .1) (c .read-end2 .ensures);
-      short = at-short .short-printed .ensures;
-    }
+    long-gives-so (line-read (a .r) (now (a .ns)) (now (a .bs))) _ _ _ _ _ _ (at-unclosed .read-end .ensures) (at-length .line-length .ensures .1)
+    (at-line .read-line .ensures) (c .read-end2 .ensures) (at-short .short-printed .ensures)
 
 pub long-gives-spec : {M : Type 1} → statement M
 long-gives-spec =

@@ -1,5 +1,5 @@
 -- `reader::program::short_printed` meets its contract. Each phase, as in the definition. Assumes nothing.
-use Rattle.reader.specs.OutsideLines.{printed-length}
+use Rattle.reader.specs.ShortPrinted.{printed-length}
 use native.Mathlib.Omega.{arith}
 use borrow.Author.Needs.{needs}
 use Rattle.reader.proofs.program.short_printed.Statement.{statement}

@@ -30,13 +30,13 @@ returns c =
     let at-length = at-line .before .before .before .before .before in
     let at-if1 = at-length .before .before in
     let a = at-if1 .before .before .before .before .args in
-    takes-line (a .r) (now (a .ns)) (now (a .bs)) (a .q) _ _ _ _ (sym (at-if1 .before .has-closed .ensures) ∙ at-if1 .if1 .taken)
+    takes-line (a .r) (now (a .ns)) (now (a .bs)) (a .q) _ _ _ _ (sym (at-if1 .before .has-line .ensures) ∙ at-if1 .if1 .taken)
     (at-length .line-length .ensures .1) (at-line .read-line .ensures)
 
 returns-2 : tie.Need-returns-2
 returns-2 c =
     let a = c .before .before .before .before .args in
-    takes-none (a .r) (now (a .ns)) (now (a .bs)) (a .q) (sym (c .before .has-closed .ensures) ∙ c .if1 .left)
+    takes-none (a .r) (now (a .ns)) (now (a .bs)) (a .q) (sym (c .before .has-line .ensures) ∙ c .if1 .left)
 
 pub take-given-spec : {M : Type 1} → statement M
 take-given-spec =

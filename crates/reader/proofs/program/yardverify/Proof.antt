@@ -1,21 +1,20 @@
--- `reader::program::yardverify` meets its contract. The answer, written. Assumes nothing.
-use mathlib.Core.Path.{sym, subst}
-use lib.IntN.{ℤ}
-use mir.Facts.{toZ-ofZ}
-use mir.Syntax.{w32}
-use Rattle.reader.specs.Verifies.{VerifyRan}
-use Rattle.reader.proofs.Programs.{runs-whole}
+-- `reader::program::yardverify` meets its contract. Assumes nothing.
+use native.Mathlib.Omega.{arith}
+use Rattle.stdio.specs.Runs.{exits-kept}
 use borrow.Author.Needs.{needs}
 use Rattle.reader.proofs.program.yardverify.Statement.{statement}
 use Rattle.reader.proofs.program.yardverify.Tie as tie
 
+text-requires : tie.Need-text-requires
+text-requires c κs =
+    let at-buckets = c .before .before .before .before .before in
+    (omega (arith, at-buckets .before .node-words .ensures .0), omega (arith, at-buckets .bucket-words .ensures .0), omega arith)
+
 returns : tie.Need-returns
 returns c =
-    let at-answer = c .before .before .before .before in
-    let at-buckets = at-answer .before .before .before .before .before in
-    let a = at-answer .answer in
-    subst (λ (z : ℤ). VerifyRan z) (sym (toZ-ofZ {w = w32} (record { sfits = c .write .ok })))
-    (runs-whole _ _ _ (a .result) _ (at-buckets .before .node-words .ensures) (at-buckets .bucket-words .ensures) (a .ensures) (c .write .ensures))
+    let at-text = c .before .before .before .before .before .before .before in
+    let t = at-text .text in
+    record { room = _; input = t .result .input; text = _; prints = t .ensures .0; exits = exits-kept _ _ _ (c .exit .ensures) }
 
 pub yardverify-spec : {M : Type 1} → statement M
 yardverify-spec =
@@ -27,6 +26,9 @@ yardverify-spec =
     (λ c. search needs)
     (λ c. search needs)
     (λ c. search needs)
-    (λ c κs. search needs)
-    (λ c κs. search needs)
+    (λ c. search needs)
+    text-requires
+    (λ c. search needs)
+    (λ c. search needs)
+    (λ c κs. let at-text = c .before .before .before .before .before .before in at-text .text .ensures .1)
     returns)

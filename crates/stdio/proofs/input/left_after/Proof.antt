@@ -1,52 +1,18 @@
--- `stdio::input::left_after` meets its contract: each variant, as in the definition. Assumes nothing.
-use Rattle.stdio.specs.Inputs.{left-of, goes-on}
+-- `stdio::input::left_after` meets its contract. Assumes nothing.
+use native.Mathlib.Omega.{arith}
+use borrow.Author.Tests.{lt-ltb, le-ltb}
+use Rattle.stdio.specs.Inputs.{given-number, left-of}
 use borrow.Author.Needs.{needs}
 use Rattle.stdio.proofs.input.left_after.Statement.{statement}
 use Rattle.stdio.proofs.input.left_after.Tie as tie
 
 returns : tie.Need-returns
-unfolding left-of goes-on
-returns c = rw (c .enum-told .given .1)
+unfolding left-of
+returns c = let n = c .before .given-number in rw (lt-ltb (given-number (c .before .before .args .given)) 2 (omega (arith, n .ensures, c .if1 .taken)))
 
 returns-2 : tie.Need-returns-2
-unfolding left-of goes-on
-returns-2 c = rw (c .enum-told2 .given .1)
-
-returns-3 : tie.Need-returns-3
-unfolding left-of goes-on
-returns-3 c = rw (c .enum-told3 .given .1)
-
-returns-4 : tie.Need-returns-4
-unfolding left-of goes-on
-returns-4 c = rw (c .enum-told4 .given .1)
-
-returns-5 : tie.Need-returns-5
-unfolding left-of goes-on
-returns-5 c = rw (c .enum-told5 .given .1)
-
-returns-6 : tie.Need-returns-6
-unfolding left-of goes-on
-returns-6 c = rw (c .enum-told6 .given .1)
-
-returns-7 : tie.Need-returns-7
-unfolding left-of goes-on
-returns-7 c = rw (c .enum-told7 .given .1)
+unfolding left-of
+returns-2 c = let n = c .before .given-number in rw (le-ltb (given-number (c .before .before .args .given)) 2 (omega (arith, n .ensures, c .if1 .left)))
 
 pub left-after-spec : {M : Type 1} → statement M
-left-after-spec =
-    tie.close
-    (tie.spec
-    (λ c. search needs)
-    (λ c. search needs)
-    (λ c. search needs)
-    (λ c. search needs)
-    (λ c. search needs)
-    (λ c. search needs)
-    (λ c. search needs)
-    returns
-    returns-2
-    returns-3
-    returns-4
-    returns-5
-    returns-6
-    returns-7)
+left-after-spec = tie.close (tie.spec (λ c κs. search needs) returns returns-2)

@@ -1,6 +1,8 @@
 -- `stdio::input::next_line` meets its contract: bytes at hand, or a read. Assumes nothing.
 use denote.Ref.{now}
-use mathlib.Core.Path.{refl}
+use mathlib.Core.Path.{refl, sym, ap, _∙_}
+use mathlib.Core.Bool.{not}
+use Rattle.stdio.specs.Loops.{never}
 use Rattle.stdio.proofs.Laws.{gives-at-hand, gives-read, gives-ended, gives-failed, gives-no-more}
 use native.Mathlib.Omega.{arith}
 use borrow.Author.Needs.{needs}
@@ -9,37 +11,44 @@ use Rattle.stdio.proofs.input.next_line.Tie as tie
 
 returns : tie.Need-returns
 returns c =
-    let start = c .before .before .before .before .before .before in
+    let at-begun = c .before .before .before .before in
+    let start = at-begun .before .before in
     let a = start .args in
-    gives-no-more (a .p) (now (a .room)) _ (c .before .before .before .before .begun .ensures) _ (c .stopped .result) (start .pre) (c .stopped .ensures)
+    gives-no-more (a .p) (now (a .room)) _ (at-begun .begun .ensures) _ (c .stopped .result) (start .pre) (c .before .if1 .taken) (c .stopped .ensures)
 
 returns-2 : tie.Need-returns-2
 returns-2 c =
     let at-if1 = c .before .before .before .before in
     let at-begun = at-if1 .before .before .before in
     let a = at-begun .before .before .args in
-    gives-at-hand (a .p) (now (a .room)) _ (at-begun .begun .ensures) _ (c .taken .result) refl (omega (arith, at-if1 .if1 .left)) (c .taken .ensures)
+    gives-at-hand (a .p) (now (a .room)) _ (at-begun .begun .ensures) _ (c .taken .result) (c .before .before .if2 .taken) refl
+    (omega (arith, at-if1 .if1 .left)) (c .taken .ensures)
 
 returns-3 : tie.Need-returns-3
 returns-3 c =
     let at-if2 = c .before .before in
     let at-begun = at-if2 .before .before .before .before .before in
     let a = at-begun .before .before .args in
-    gives-ended (a .p) (now (a .room)) _ (at-begun .begun .ensures) _ _ (c .stopped2 .result) (at-if2 .if2 .left) (c .stopped2 .ensures)
+    gives-ended (a .p) (now (a .room)) _ (at-begun .begun .ensures) _ _ (c .stopped2 .result)
+    (omega (arith, at-if2 .before .before .if1 .left)) (at-if2 .if2 .left) (λ z. refl) (c .stopped2 .ensures)
 
 returns-4 : tie.Need-returns-4
 returns-4 c =
-    let at-if2 = c .before .before .before .before .before .before .before in
+    let at-if3 = c .before .before .before .before .before .before in
+    let at-if2 = at-if3 .before in
     let at-begun = at-if2 .before .before .before .before .before in
     let a = at-begun .before .before .args in
-    gives-failed (a .p) (now (a .room)) _ (at-begun .begun .ensures) _ _ (c .stopped3 .result) (at-if2 .if2 .left) (c .stopped3 .ensures)
+    gives-failed (a .p) (now (a .room)) _ (at-begun .begun .ensures) _ _ (c .stopped3 .result) (at-if2 .if2 .left) (at-if3 .if3 .left) (c .stopped3 .ensures)
 
 returns-5 : tie.Need-returns-5
 returns-5 c =
-    let at-if2 = c .before .before .before .before .before .before .before .before .before .before in
+    let at-if3 = c .before .before .before .before .before .before .before .before .before in
+    let at-if2 = at-if3 .before in
     let at-begun = at-if2 .before .before .before .before .before in
     let a = at-begun .before .before .args in
-    gives-ended (a .p) (now (a .room)) _ (at-begun .begun .ensures) _ _ (c .stopped4 .result) (at-if2 .if2 .left) (c .stopped4 .ensures)
+    gives-ended (a .p) (now (a .room)) _ (at-begun .begun .ensures) _ _ (c .stopped4 .result)
+    (omega (arith, at-if2 .before .before .if1 .left)) (at-if2 .if2 .left)
+    (λ z. never (sym (at-if3 .if3 .left) ∙ ap not z)) (c .stopped4 .ensures)
 
 returns-6 : tie.Need-returns-6
 returns-6 c =

@@ -21,7 +21,7 @@ loop-holds c =
     let a = c .before .before .args in
     let pre = c .before .before .pre in (
       subst (λ (q : Input). Passing (a .p) (now (a .room)) q (now (a .room))) (sym (c .resume .ensures))
-          (passing-none (a .p) (now (a .room)) _ (pre .0) (pre .1)),
+          (passing-none (a .p) (now (a .room)) _ (pre .0) (pre .1) (omega arith) (omega arith)),
       refl,
     )
 
@@ -48,7 +48,7 @@ loop-again c =
     let pre = at-loop .before .before .before .pre in
     let l = at-loop .loop in
     let g = at-call .next-line in (
-      passing-call (a .p) (now (a .room)) (pre .2) (l .q) (l .room) (l .inv .0) (at-test .if1 .taken) (g .result) _ (g .ensures) _ _ (c .pass .ensures),
+      passing-call (a .p) (now (a .room)) (pre .2) (l .q) (l .room) (l .inv .0) (at-test .if1 .taken) (g .result) _ (g .ensures) _ refl _ (c .pass .ensures),
       g .kept .1 .0 ∙ l .inv .1,
     )
 
@@ -57,10 +57,12 @@ same-length c = c .before .before .before .loop .inv .1
 
 returns : tie.Need-returns Inv-loop μ-loop
 returns c =
-    let at-loop = c .before .before .before in
+    let at-test = c .before in
+    let at-loop = at-test .before .before in
     let a = at-loop .before .before .before .args in
     let l = at-loop .loop in
-    subst (λ (q : Input). Closes (a .p) (now (a .room)) q (l .room)) (sym (c .back .ensures)) (closes-at (a .p) (now (a .room)) (l .q) (l .room) (l .inv .0))
+    subst (λ (q : Input). Closes (a .p) (now (a .room)) q (l .room)) (sym (c .back .ensures))
+    (closes-at (a .p) (now (a .room)) (l .q) (l .room) (at-test .if1 .left) (l .inv .0))
 
 pub close-line-spec : {M : Type 1} → statement M
 close-line-spec =
