@@ -6,12 +6,6 @@ use borrow.Author.Needs.{needs}
 use Rattle.bucket.proofs.answered.Statement.{statement}
 use Rattle.bucket.proofs.answered.Tie as tie
 
-count-requires : tie.Need-count-requires
-count-requires c κs = search needs
-
-cast-t4 : tie.Need-cast-t4
-cast-t4 c = search needs
-
 returns : tie.Need-returns
 returns c =
     let a = c .before .args in
@@ -19,4 +13,4 @@ returns c =
     ap given (c .count .ensures .0)
 
 pub answered-spec : {M : Type 1} → statement M
-answered-spec = tie.close (tie.spec count-requires cast-t4 returns)
+answered-spec = tie.close (tie.spec (λ c κs. search needs) (λ c. search needs) returns)

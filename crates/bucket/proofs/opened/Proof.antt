@@ -14,18 +14,6 @@ use Rattle.bucket.proofs.opened.Tie as tie
 len : (c : tie.Start) → length (c .args .t1 .words) ≡ 66
 len c = search needs
 
-count-requires : tie.Need-count-requires
-count-requires c κs = search needs
-
-array-write-out : tie.Need-array-write-out
-array-write-out c = search needs
-
-cast-out : tie.Need-cast-out
-cast-out c = search needs
-
-array-write-out-2 : tie.Need-array-write-out-2
-array-write-out-2 c = search needs
-
 copied-requires : tie.Need-copied-requires
 copied-requires c κs = let e = len (c .before .before .before) in omega arith
 
@@ -41,9 +29,9 @@ pub opened-spec : {M : Type 1} → statement M
 opened-spec =
     tie.close
     (tie.spec
-    count-requires
-    array-write-out
-    cast-out
-    array-write-out-2
+    (λ c κs. search needs)
+    (λ c. search needs)
+    (λ c. search needs)
+    (λ c. search needs)
     copied-requires
     returns)

@@ -37,45 +37,9 @@ Inv-loop g size i n w out₀ len₀ j₀ out len j =
 abbrev μ-loop : tie.MeasureT-loop
 μ-loop g size i n w out₀ len₀ j₀ out len j = n - j
 
-count-requires : tie.Need-count-requires Inv-loop μ-loop
-count-requires c κs = search needs
-
-array-write-out : tie.Need-array-write-out Inv-loop μ-loop
-array-write-out c = search needs
-
 loop-holds : tie.Need-loop-holds Inv-loop μ-loop
 unfolding padded
 loop-holds c = ([], omega arith, omega arith, refl, refl, refl)
-
-add-t : tie.Need-add-t Inv-loop μ-loop
-add-t c = search needs
-
-mul-t : tie.Need-mul-t Inv-loop μ-loop
-mul-t c = search needs
-
-array-read-t : tie.Need-array-read-t Inv-loop μ-loop
-array-read-t c = search needs
-
-slot-requires : tie.Need-slot-requires Inv-loop μ-loop
-slot-requires c κs = search needs
-
-add-out : tie.Need-add-out Inv-loop μ-loop
-add-out c = search needs
-
-mul-out : tie.Need-mul-out Inv-loop μ-loop
-mul-out c = search needs
-
-array-write-out-2 : tie.Need-array-write-out-2 Inv-loop μ-loop
-array-write-out-2 c = search needs
-
-add-len : tie.Need-add-len Inv-loop μ-loop
-add-len c = search needs
-
-add-j : tie.Need-add-j Inv-loop μ-loop
-add-j c = search needs
-
-loop-less : tie.Need-loop-less Inv-loop μ-loop
-loop-less c = search needs
 
 loop-again : tie.Need-loop-again Inv-loop μ-loop
 loop-again c =
@@ -108,12 +72,6 @@ loop-again c =
     ))
     (c .if1 .came)
 
-cast-out : tie.Need-cast-out Inv-loop μ-loop
-cast-out c = search needs
-
-array-write-out-3 : tie.Need-array-write-out-3 Inv-loop μ-loop
-array-write-out-3 c = search needs
-
 returns : tie.Need-returns Inv-loop μ-loop
 unfolding split-of
 returns c =
@@ -129,20 +87,20 @@ split-spec =
     (tie.spec
     Inv-loop
     μ-loop
-    count-requires
-    array-write-out
+    (λ c κs. search needs)
+    (λ c. search needs)
     loop-holds
-    add-t
-    mul-t
-    array-read-t
-    slot-requires
-    add-out
-    mul-out
-    array-write-out-2
-    add-len
-    add-j
-    loop-less
+    (λ c. search needs)
+    (λ c. search needs)
+    (λ c. search needs)
+    (λ c κs. search needs)
+    (λ c. search needs)
+    (λ c. search needs)
+    (λ c. search needs)
+    (λ c. search needs)
+    (λ c. search needs)
+    (λ c. search needs)
     loop-again
-    cast-out
-    array-write-out-3
+    (λ c. search needs)
+    (λ c. search needs)
     returns)

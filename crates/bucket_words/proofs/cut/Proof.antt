@@ -7,32 +7,8 @@ use borrow.Author.Needs.{needs}
 use Rattle.bucket_words.proofs.cut.Statement.{statement}
 use Rattle.bucket_words.proofs.cut.Tie as tie
 
-array-write-out : tie.Need-array-write-out
-array-write-out c = search needs
-
-cast-out : tie.Need-cast-out
-cast-out c = search needs
-
-sub-out : tie.Need-sub-out
-sub-out c = search needs
-
-array-write-out-2 : tie.Need-array-write-out-2
-array-write-out-2 c = search needs
-
 copied-requires : tie.Need-copied-requires
 copied-requires c κs = omega arith
-
-add-copied : tie.Need-add-copied
-add-copied c = search needs
-
-add-copied-2 : tie.Need-add-copied-2
-add-copied-2 c = search needs
-
-sub-copied : tie.Need-sub-copied
-sub-copied c = search needs
-
-sub-copied-2 : tie.Need-sub-copied-2
-sub-copied-2 c = search needs
 
 copied-requires-2 : tie.Need-copied-requires-2
 copied-requires-2 c κs = omega arith
@@ -48,14 +24,14 @@ pub cut-spec : {M : Type 1} → statement M
 cut-spec =
     tie.close
     (tie.spec
-    array-write-out
-    cast-out
-    sub-out
-    array-write-out-2
+    (λ c. search needs)
+    (λ c. search needs)
+    (λ c. search needs)
+    (λ c. search needs)
     copied-requires
-    add-copied
-    add-copied-2
-    sub-copied
-    sub-copied-2
+    (λ c. search needs)
+    (λ c. search needs)
+    (λ c. search needs)
+    (λ c. search needs)
     copied-requires-2
     returns)

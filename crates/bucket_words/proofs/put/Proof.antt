@@ -7,38 +7,8 @@ use borrow.Author.Needs.{needs}
 use Rattle.bucket_words.proofs.put.Statement.{statement}
 use Rattle.bucket_words.proofs.put.Tie as tie
 
-array-write-out : tie.Need-array-write-out
-array-write-out c = search needs
-
-cast-out : tie.Need-cast-out
-cast-out c = search needs
-
-add-out : tie.Need-add-out
-add-out c = search needs
-
-array-write-out-2 : tie.Need-array-write-out-2
-array-write-out-2 c = search needs
-
 copied-requires : tie.Need-copied-requires
 copied-requires c κs = omega arith
-
-add-out-2 : tie.Need-add-out-2
-add-out-2 c = search needs
-
-mul-out : tie.Need-mul-out
-mul-out c = search needs
-
-array-write-out-3 : tie.Need-array-write-out-3
-array-write-out-3 c = search needs
-
-add-copied : tie.Need-add-copied
-add-copied c = search needs
-
-add-copied-2 : tie.Need-add-copied-2
-add-copied-2 c = search needs
-
-sub-copied : tie.Need-sub-copied
-sub-copied c = search needs
 
 copied-requires-2 : tie.Need-copied-requires-2
 copied-requires-2 c κs = omega arith
@@ -54,16 +24,16 @@ pub put-spec : {M : Type 1} → statement M
 put-spec =
     tie.close
     (tie.spec
-    array-write-out
-    cast-out
-    add-out
-    array-write-out-2
+    (λ c. search needs)
+    (λ c. search needs)
+    (λ c. search needs)
+    (λ c. search needs)
     copied-requires
-    add-out-2
-    mul-out
-    array-write-out-3
-    add-copied
-    add-copied-2
-    sub-copied
+    (λ c. search needs)
+    (λ c. search needs)
+    (λ c. search needs)
+    (λ c. search needs)
+    (λ c. search needs)
+    (λ c. search needs)
     copied-requires-2
     returns)

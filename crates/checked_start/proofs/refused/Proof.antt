@@ -4,12 +4,9 @@ use Rattle.lines.specs.Reply.{refusal}
 use Rattle.checked_start.proofs.refused.Statement.{statement}
 use Rattle.checked_start.proofs.refused.Tie as tie
 
-idle-requires : tie.Need-idle-requires
-idle-requires c κs = search needs
-
 returns : tie.Need-returns
 unfolding refusal
 returns c = λ s at-head at-node at-bucket. rw (at-head, at-node, at-bucket, c .idle .ensures)
 
 pub refused-spec : {M : Type 1} → statement M
-refused-spec = tie.close (tie.spec idle-requires returns)
+refused-spec = tie.close (tie.spec (λ c κs. search needs) returns)

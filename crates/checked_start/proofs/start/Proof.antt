@@ -4,13 +4,10 @@ use borrow.Author.Needs.{needs}
 use Rattle.checked_start.proofs.start.Statement.{statement}
 use Rattle.checked_start.proofs.start.Tie as tie
 
-start-of-requires : tie.Need-start-of-requires
-start-of-requires c κs = search needs
-
 returns : tie.Need-returns
 returns c =
     let a = c .before .before .args in
     λ ns bs e. c .start-of .ensures (a .s) ns bs refl refl refl refl e
 
 pub start-spec : {M : Type 1} → statement M
-start-spec = tie.close (tie.spec start-of-requires returns)
+start-spec = tie.close (tie.spec (λ c κs. search needs) returns)

@@ -11,12 +11,6 @@ use Rattle.checked_start.proofs.Laws.{start-busy, start-withdrawn, star
 use Rattle.checked_start.proofs.start_of.Statement.{statement}
 use Rattle.checked_start.proofs.start_of.Tie as tie
 
-barred-requires : tie.Need-barred-requires
-barred-requires c κs = search needs
-
-refused-requires : tie.Need-refused-requires
-refused-requires c κs = search needs
-
 returns : tie.Need-returns
 returns c =
     let p = c .before .before in
@@ -25,9 +19,6 @@ returns c =
     let y = machine-of s ns bs in
     let bars = p .barred .ensures y (tells y (a .k) (a .d) e) (sym opened) in
     refusing _ (c .refused .ensures s at-head at-node at-bucket) (bars .starts (c .before .if1 .taken) (a .call) (a .tag))
-
-refused-requires-2 : tie.Need-refused-requires-2
-refused-requires-2 c κs = search needs
 
 returns-2 : tie.Need-returns-2
 returns-2 c =
@@ -39,12 +30,6 @@ returns-2 c =
     let passed = p .barred .ensures y (tells y (a .k) (a .d) e) (sym opened) .passed (at-if1 .if1 .left) in
     let runs = runs-as y (a .k) (a .d) e (passed .0) (c .before .if2 .taken) in
     refusing 5 (c .refused2 .ensures s at-head at-node at-bucket) (start-busy y (a .k) (a .call) (a .tag) (passed .0) (passed .1) runs)
-
-withdrawn-requires : tie.Need-withdrawn-requires
-withdrawn-requires c κs = search needs
-
-refused-requires-3 : tie.Need-refused-requires-3
-refused-requires-3 c κs = search needs
 
 returns-3 : tie.Need-returns-3
 returns-3 c =
@@ -58,9 +43,6 @@ returns-3 c =
     let rests = runs-as y (a .k) (a .d) e (passed .0) (at-if2 .if2 .left) in
     let w = ap (λ (z : Config). withdrawn z (a .call) (a .tag)) opened ∙ sym (c .before .before .withdrawn .ensures) ∙ c .before .if3 .taken in
     refusing 14 (c .refused3 .ensures s at-head at-node at-bucket) (start-withdrawn y (a .k) (a .call) (a .tag) (passed .0) (passed .1) rests w)
-
-begun-requires : tie.Need-begun-requires
-begun-requires c κs = search needs
 
 returns-4 : tie.Need-returns-4
 unfolding set-task with-task with-state state-head state-last-node state-last-bucket state-task settled changes
@@ -82,13 +64,13 @@ pub start-of-spec : {M : Type 1} → statement M
 start-of-spec =
     tie.close
     (tie.spec
-    barred-requires
-    refused-requires
+    (λ c κs. search needs)
+    (λ c κs. search needs)
     returns
-    refused-requires-2
+    (λ c κs. search needs)
     returns-2
-    withdrawn-requires
-    refused-requires-3
+    (λ c κs. search needs)
+    (λ c κs. search needs)
     returns-3
-    begun-requires
+    (λ c κs. search needs)
     returns-4)

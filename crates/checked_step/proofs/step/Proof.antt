@@ -62,21 +62,12 @@ module _ (p : tie.Else2) where
 
 -- ---- the refusals
 
-barred-requires : tie.Need-barred-requires
-barred-requires c κs = search needs
-
-refused-requires : tie.Need-refused-requires
-refused-requires c κs = search needs
-
 returns : tie.Need-returns
 returns c =
     let p = c .before .before in
     let a = start p .args in
     let bars = p .barred .ensures (machine p) (tells (machine p) (a .k) (a .d) (start p .pre)) refl in
     refusing _ (c .refused .ensures) (bars .steps (c .before .if1 .taken))
-
-refused-requires-2 : tie.Need-refused-requires-2
-refused-requires-2 c κs = search needs
 
 returns-2 : tie.Need-returns-2
 returns-2 c =
@@ -96,12 +87,6 @@ step-requires c κs =
     let p = at-if3 .before in
     runs p contains-lines (at-contains _ _ (facts p .line) (at-if3 .if3 .taken))
 
-same-length : tie.Need-same-length
-same-length c = search needs
-
-same-length-2 : tie.Need-same-length-2
-same-length-2 c = search needs
-
 returns-3 : tie.Need-returns-3
 returns-3 c = gives-as (sym (goes (c .before .before .before .before))) (c .step .ensures)
 
@@ -110,9 +95,6 @@ step-requires-2 c κs =
     let at-if4 = c .before in
     let p = at-if4 .before .before in
     (_, runs p resize-lines (at-resize _ _ (facts p .line) (at-if4 .before .if3 .left) (at-if4 .if4 .taken)))
-
-same-length-3 : tie.Need-same-length-3
-same-length-3 c = search needs
 
 returns-4 : tie.Need-returns-4
 returns-4 c =
@@ -124,12 +106,6 @@ step-requires-3 c κs =
     let at-if5 = c .before .before in
     let p = at-if5 .before .before .before in
     runs p apply-lines (at-apply _ _ (facts p .line) (at-if5 .before .if4 .left) (at-if5 .if5 .taken))
-
-same-length-4 : tie.Need-same-length-4
-same-length-4 c = search needs
-
-same-length-5 : tie.Need-same-length-5
-same-length-5 c = search needs
 
 returns-5 : tie.Need-returns-5
 returns-5 c =
@@ -143,12 +119,6 @@ step-requires-4 c κs =
     let p = at-if5 .before .before .before in
     runs p init-bucket-lines (at-init-bucket _ _ (facts p .line) (at-if5 .if5 .left))
 
-same-length-6 : tie.Need-same-length-6
-same-length-6 c = search needs
-
-same-length-7 : tie.Need-same-length-7
-same-length-7 c = search needs
-
 returns-6 : tie.Need-returns-6
 returns-6 c =
     let called = c .before .before .before .before in
@@ -159,23 +129,23 @@ pub step-spec : {M : Type 1} → statement M
 step-spec =
     tie.close
     (tie.spec
-    barred-requires
-    refused-requires
+    (λ c κs. search needs)
+    (λ c κs. search needs)
     returns
-    refused-requires-2
+    (λ c κs. search needs)
     returns-2
     step-requires
-    same-length
-    same-length-2
+    (λ c. search needs)
+    (λ c. search needs)
     returns-3
     step-requires-2
-    same-length-3
+    (λ c. search needs)
     returns-4
     step-requires-3
-    same-length-4
-    same-length-5
+    (λ c. search needs)
+    (λ c. search needs)
     returns-5
     step-requires-4
-    same-length-6
-    same-length-7
+    (λ c. search needs)
+    (λ c. search needs)
     returns-6)

@@ -8,20 +8,11 @@ use borrow.Author.Needs.{needs}
 use Rattle.coop.proofs.start.Statement.{statement}
 use Rattle.coop.proofs.start.Tie as tie
 
-sound-requires : tie.Need-sound-requires
-sound-requires c κs = search needs
-
-refused-requires : tie.Need-refused-requires
-refused-requires c κs = search needs
-
 returns : tie.Need-returns
 unfolding entries.start
 returns c =
     let at-if1 = c .before in
     rw (sym (at-if1 .before .sound .ensures) ∙ not-true _ (at-if1 .if1 .taken)) (c .refused .ensures _)
-
-refused-requires-2 : tie.Need-refused-requires-2
-refused-requires-2 c κs = search needs
 
 returns-2 : tie.Need-returns-2
 unfolding entries.start
@@ -30,9 +21,6 @@ returns-2 c =
     let at-if1 = at-if2 .before .before in
     let passes = sym (at-if1 .before .sound .ensures) ∙ not-false _ (at-if1 .if1 .left) in
     rw (passes, le-ltb _ _ (at-if2 .if2 .taken)) (c .refused2 .ensures _)
-
-start-of-task-requires : tie.Need-start-of-task-requires
-start-of-task-requires c κs = search needs
 
 returns-3 : tie.Need-returns-3
 unfolding entries.start start-of-task
@@ -47,10 +35,10 @@ pub start-spec : {M : Type 1} → statement M
 start-spec =
     tie.close
     (tie.spec
-    sound-requires
-    refused-requires
+    (λ c κs. search needs)
+    (λ c κs. search needs)
     returns
-    refused-requires-2
+    (λ c κs. search needs)
     returns-2
-    start-of-task-requires
+    (λ c κs. search needs)
     returns-3)

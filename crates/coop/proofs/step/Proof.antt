@@ -68,26 +68,11 @@ line-here p =
     let a = start-of p .args in
     rw (same p) (line-known (a .s) (now (a .vs)) (passes p) (a .k) (len (start-of p)) (p .before .before .if2 .left) (runs p))
 
-sound-requires : tie.Need-sound-requires
-sound-requires c κs = search needs
-
-refused-requires : tie.Need-refused-requires
-refused-requires c κs = search needs
-
-same-length : tie.Need-same-length
-same-length c = search needs
-
 returns : tie.Need-returns
 unfolding entries.step
 returns c =
     let at-if1 = c .before in
     rw (sym (at-if1 .before .sound .ensures) ∙ not-true _ (at-if1 .if1 .taken)) (c .refused .ensures _)
-
-refused-requires-2 : tie.Need-refused-requires-2
-refused-requires-2 c κs = search needs
-
-same-length-2 : tie.Need-same-length-2
-same-length-2 c = search needs
 
 returns-2 : tie.Need-returns-2
 unfolding entries.step
@@ -96,15 +81,6 @@ returns-2 c =
     let at-if1 = at-if2 .before .before in
     let passes = sym (at-if1 .before .sound .ensures) ∙ not-false _ (at-if1 .if1 .left) in
     rw (passes, le-ltb _ _ (at-if2 .if2 .taken)) (c .refused2 .ensures _)
-
-task-requires : tie.Need-task-requires
-task-requires c κs = search needs
-
-refused-requires-3 : tie.Need-refused-requires-3
-refused-requires-3 c κs = search needs
-
-same-length-3 : tie.Need-same-length-3
-same-length-3 c = search needs
 
 returns-3 : tie.Need-returns-3
 unfolding entries.step
@@ -126,9 +102,6 @@ step-requires c κs =
     let line = task-here at-if3 .line in
     (ready-here at-if3, narrow 0 109 line invoke-lines (omega arith) (omega arith) every-line refl (line-here at-if3))
 
-same-length-4 : tie.Need-same-length-4
-same-length-4 c = search needs
-
 returns-4 : tie.Need-returns-4
 returns-4 c =
     let at-step = c .before .before in
@@ -140,9 +113,6 @@ line109-requires c κs =
     let at-if3 = c .before .before in
     let line = task-here at-if3 .line in
     last-line line 109 (narrow 109 112 line (109 ∷ []) (omega arith) (omega arith) every-line refl (line-here at-if3))
-
-same-length-5 : tie.Need-same-length-5
-same-length-5 c = search needs
 
 returns-5 : tie.Need-returns-5
 returns-5 c =
@@ -156,9 +126,6 @@ step-requires-2 c κs =
     let line = task-here at-if3 .line in
     (ready-here at-if3, narrow 112 117 line member-lines (omega arith) (omega arith) every-line refl (line-here at-if3))
 
-same-length-6 : tie.Need-same-length-6
-same-length-6 c = search needs
-
 returns-6 : tie.Need-returns-6
 returns-6 c =
     let at-if3 = c .before .before .before .before .before in
@@ -171,9 +138,6 @@ line117-requires c κs =
     let line = task-here at-if3 .line in
     last-line line 117 (narrow 117 120 line (117 ∷ []) (omega arith) (omega arith) every-line refl (line-here at-if3))
 
-same-length-7 : tie.Need-same-length-7
-same-length-7 c = search needs
-
 returns-7 : tie.Need-returns-7
 returns-7 c =
     let at-if3 = c .before .before .before .before .before in
@@ -185,9 +149,6 @@ step-requires-3 c κs =
     let at-if3 = c .before .before .before .before .before .before in
     let line = task-here at-if3 .line in
     (ready-here at-if3, narrow 120 129 line freeze-lines (omega arith) (omega arith) every-line refl (line-here at-if3))
-
-same-length-8 : tie.Need-same-length-8
-same-length-8 c = search needs
 
 returns-8 : tie.Need-returns-8
 returns-8 c =
@@ -202,9 +163,6 @@ step-requires-4 c κs =
     let line = task-here at-if3 .line in
     (ready-here at-if3, narrow 129 (suc line) line help-lines (omega arith) (omega arith) every-line refl (line-here at-if3))
 
-same-length-9 : tie.Need-same-length-9
-same-length-9 c = search needs
-
 returns-9 : tie.Need-returns-9
 returns-9 c =
     let at-step = c .before .before in
@@ -215,32 +173,32 @@ pub step-spec : {M : Type 1} → statement M
 step-spec =
     tie.close
     (tie.spec
-    sound-requires
-    refused-requires
-    same-length
+    (λ c κs. search needs)
+    (λ c κs. search needs)
+    (λ c. search needs)
     returns
-    refused-requires-2
-    same-length-2
+    (λ c κs. search needs)
+    (λ c. search needs)
     returns-2
-    task-requires
-    refused-requires-3
-    same-length-3
+    (λ c κs. search needs)
+    (λ c κs. search needs)
+    (λ c. search needs)
     returns-3
     step-requires
-    same-length-4
+    (λ c. search needs)
     returns-4
     line109-requires
-    same-length-5
+    (λ c. search needs)
     returns-5
     step-requires-2
-    same-length-6
+    (λ c. search needs)
     returns-6
     line117-requires
-    same-length-7
+    (λ c. search needs)
     returns-7
     step-requires-3
-    same-length-8
+    (λ c. search needs)
     returns-8
     step-requires-4
-    same-length-9
+    (λ c. search needs)
     returns-9)

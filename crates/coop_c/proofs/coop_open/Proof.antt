@@ -13,12 +13,6 @@ returns c =
     let a = c .before .before .before .args in
     not-opened (a .tasks) (now (a .w)) (now (a .vs)) (c .if1 .taken)
 
-open-requires : tie.Need-open-requires
-open-requires c κs = search needs
-
-put-state-requires : tie.Need-put-state-requires
-put-state-requires c κs = search needs
-
 open-number-requires : tie.Need-open-number-requires
 open-number-requires c κs =
     let at-open = c .before .before .before .before .before .before .before in
@@ -26,12 +20,6 @@ open-number-requires c κs =
     let small = opening-small (entry .args .tasks) (now (entry .args .vs)) in
     let why = ap (λ (x : Opened). x .refusal) (at-open .«open» .ensures) in
     omega arith
-
-same-length : tie.Need-same-length
-same-length c = search needs
-
-same-length-2 : tie.Need-same-length-2
-same-length-2 c = search needs
 
 returns-2 : tie.Need-returns-2
 returns-2 c =
@@ -48,9 +36,9 @@ coop-open-spec =
     tie.close
     (tie.spec
     returns
-    open-requires
-    put-state-requires
+    (λ c κs. search needs)
+    (λ c κs. search needs)
     open-number-requires
-    same-length
-    same-length-2
+    (λ c. search needs)
+    (λ c. search needs)
     returns-2)

@@ -15,9 +15,6 @@ use borrow.Author.Needs.{needs}
 use Rattle.coop_c.proofs.coop_show.Statement.{statement}
 use Rattle.coop_c.proofs.coop_show.Tie as tie
 
-state-fits-requires : tie.Need-state-fits-requires
-state-fits-requires c κs = search needs
-
 returns : tie.Need-returns
 returns c =
     let at-fits = c .before in
@@ -34,9 +31,6 @@ state-of-words-requires c κs =
     let w = now (entry .args .w) in
     let ready-now = ready state-fits w (now (entry .args .out)) 1 _ (at-fits .state-fits .ensures) (not-false _ (c .if1 .left)) in
     fits-long w (ready-now .is-state)
-
-tags-shown-requires : tie.Need-tags-shown-requires
-tags-shown-requires c κs = search needs
 
 returns-2 : tie.Need-returns-2
 returns-2 c =
@@ -80,9 +74,6 @@ slice-write-out c =
     let room = ready-now .room in
     search (needs, room)
 
-same-length : tie.Need-same-length
-same-length c = search needs
-
 returns-3 : tie.Need-returns-3
 returns-3 c =
     let at-tags = c .before in
@@ -103,13 +94,13 @@ pub coop-show-spec : {M : Type 1} → statement M
 coop-show-spec =
     tie.close
     (tie.spec
-    state-fits-requires
+    (λ c κs. search needs)
     returns
     state-of-words-requires
-    tags-shown-requires
+    (λ c κs. search needs)
     returns-2
     mul-out
     add-out
     slice-write-out
-    same-length
+    (λ c. search needs)
     returns-3)

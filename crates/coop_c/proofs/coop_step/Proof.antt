@@ -15,12 +15,6 @@ use borrow.Author.Needs.{needs}
 use Rattle.coop_c.proofs.coop_step.Statement.{statement}
 use Rattle.coop_c.proofs.coop_step.Tie as tie
 
-state-fits-requires : tie.Need-state-fits-requires
-state-fits-requires c κs = search needs
-
-same-length : tie.Need-same-length
-same-length c = search needs
-
 returns : tie.Need-returns
 returns c =
     let at-fits = c .before in
@@ -37,9 +31,6 @@ state-of-words-requires c κs =
     let entry = at-fits .before .before .before .before .before in
     let ready-now = ready state-fits (now (entry .args .w)) (now (entry .args .out)) 4 _ (at-fits .state-fits .ensures) (not-false _ (at-if .if1 .left)) in
     fits-long _ (ready-now .is-state)
-
-step-requires : tie.Need-step-requires
-step-requires c κs = search needs
 
 put-state-requires : tie.Need-put-state-requires
 put-state-requires c κs =
@@ -61,15 +52,6 @@ put-output-requires c κs =
     let small = step-small (machine-of (at-state .state-of-words .result) (now (a .vs))) (a .k) in
     let same = ap (λ (x : Reply). out-number (x .out)) (at-step .step .ensures) in
     (ready-now .room, subst (λ (n : ℕ). n ≤ 511) (sym same) small)
-
-same-length-2 : tie.Need-same-length-2
-same-length-2 c = search needs
-
-same-length-3 : tie.Need-same-length-3
-same-length-3 c = search needs
-
-same-length-4 : tie.Need-same-length-4
-same-length-4 c = search needs
 
 returns-2 : tie.Need-returns-2
 returns-2 c =
@@ -96,14 +78,14 @@ pub coop-step-spec : {M : Type 1} → statement M
 coop-step-spec =
     tie.close
     (tie.spec
-    state-fits-requires
-    same-length
+    (λ c κs. search needs)
+    (λ c. search needs)
     returns
     state-of-words-requires
-    step-requires
+    (λ c κs. search needs)
     put-state-requires
     put-output-requires
-    same-length-2
-    same-length-3
-    same-length-4
+    (λ c. search needs)
+    (λ c. search needs)
+    (λ c. search needs)
     returns-2)

@@ -9,18 +9,6 @@ use borrow.Author.Needs.{needs}
 use Rattle.coop_c.proofs.put_output.Statement.{statement}
 use Rattle.coop_c.proofs.put_output.Tie as tie
 
-out-number-requires : tie.Need-out-number-requires
-out-number-requires c κs = search needs
-
-output-words-requires : tie.Need-output-words-requires
-output-words-requires c κs = search needs
-
-write-words-requires : tie.Need-write-words-requires
-write-words-requires c κs = search needs
-
-same-length : tie.Need-same-length
-same-length c = search needs
-
 returns : tie.Need-returns
 returns c =
     let at-write = c .before .before in
@@ -44,9 +32,9 @@ pub put-output-spec : {M : Type 1} → statement M
 put-output-spec =
     tie.close
     (tie.spec
-    out-number-requires
-    output-words-requires
-    write-words-requires
-    same-length
+    (λ c κs. search needs)
+    (λ c κs. search needs)
+    (λ c κs. search needs)
+    (λ c. search needs)
     returns
     returns-2)

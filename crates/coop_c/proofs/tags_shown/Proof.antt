@@ -7,9 +7,6 @@ use borrow.Author.Needs.{needs}
 use Rattle.coop_c.proofs.tags_shown.Statement.{statement}
 use Rattle.coop_c.proofs.tags_shown.Tie as tie
 
-sound-requires : tie.Need-sound-requires
-sound-requires c κs = search needs
-
 returns : tie.Need-returns
 returns c =
     let at-sound = c .before in
@@ -23,15 +20,6 @@ returns-2 c =
     let a = at-sound .before .before .args in
     none-past (a .s) (now (a .vs)) (a .k) (sym (at-sound .sound .ensures) ∙ not-false _ (at-if .if1 .left)) (c .if2 .taken)
 
-mul-word : tie.Need-mul-word
-mul-word c = search needs
-
-add-word : tie.Need-add-word
-add-word c = search needs
-
-word-requires : tie.Need-word-requires
-word-requires c κs = search needs
-
 returns-3 : tie.Need-returns-3
 returns-3 c =
     let at-if = c .before .before .before in
@@ -41,4 +29,4 @@ returns-3 c =
 
 pub tags-shown-spec : {M : Type 1} → statement M
 tags-shown-spec =
-    tie.close (tie.spec sound-requires returns returns-2 mul-word add-word word-requires returns-3)
+    tie.close (tie.spec (λ c κs. search needs) returns returns-2 (λ c. search needs) (λ c. search needs) (λ c κs. search needs) returns-3)

@@ -17,27 +17,12 @@ abbrev μ-loop : tie.MeasureT-loop
 loop-holds : tie.Need-loop-holds Inv-loop μ-loop
 loop-holds c = (search needs, passed-none _ 64)
 
-mul-operation-fits : tie.Need-mul-operation-fits Inv-loop μ-loop
-mul-operation-fits c = search needs
-
-add-operation-fits : tie.Need-add-operation-fits Inv-loop μ-loop
-add-operation-fits c = search needs
-
-operation-fits-requires : tie.Need-operation-fits-requires Inv-loop μ-loop
-operation-fits-requires c κs = search needs
-
 returns : tie.Need-returns Inv-loop μ-loop
 unfolding operations-fit
 returns c =
     let at-fits = c .before in
     let at-test = at-fits .before in
     fails _ 64 _ (at-test .before .loop .inv .1) (at-test .loop-test .taken) (sym (at-fits .operation-fits .ensures) ∙ not-true _ (c .if1 .taken))
-
-add-k : tie.Need-add-k Inv-loop μ-loop
-add-k c = search needs
-
-loop-less : tie.Need-loop-less Inv-loop μ-loop
-loop-less c = search needs
 
 loop-again : tie.Need-loop-again Inv-loop μ-loop
 loop-again c =
@@ -57,11 +42,11 @@ operations-fit-spec =
     Inv-loop
     μ-loop
     loop-holds
-    mul-operation-fits
-    add-operation-fits
-    operation-fits-requires
+    (λ c. search needs)
+    (λ c. search needs)
+    (λ c κs. search needs)
     returns
-    add-k
-    loop-less
+    (λ c. search needs)
+    (λ c. search needs)
     loop-again
     returns-2)

@@ -13,32 +13,8 @@ Inv-loop w all₀ k₀ all k = Filled (λ j. operation-at w (operation-place j))
 abbrev μ-loop : tie.MeasureT-loop
 μ-loop w all₀ k₀ all k = 64 - k
 
-operation-at-requires : tie.Need-operation-at-requires Inv-loop μ-loop
-operation-at-requires c κs = search needs
-
 loop-holds : tie.Need-loop-holds Inv-loop μ-loop
 loop-holds c = filled-none _ 64 _ refl
-
-mul-operation-at : tie.Need-mul-operation-at Inv-loop μ-loop
-mul-operation-at c = search needs
-
-add-operation-at : tie.Need-add-operation-at Inv-loop μ-loop
-add-operation-at c = search needs
-
-operation-at-requires-2 : tie.Need-operation-at-requires-2 Inv-loop μ-loop
-operation-at-requires-2 c κs = search needs
-
-mul-all : tie.Need-mul-all Inv-loop μ-loop
-mul-all c = search needs
-
-array-set-from-all : tie.Need-array-set-from-all Inv-loop μ-loop
-array-set-from-all c = search needs
-
-add-k : tie.Need-add-k Inv-loop μ-loop
-add-k c = search needs
-
-loop-less : tie.Need-loop-less Inv-loop μ-loop
-loop-less c = search needs
 
 loop-again : tie.Need-loop-again Inv-loop μ-loop
 loop-again c =
@@ -56,14 +32,14 @@ operations-of-words-spec =
     (tie.spec
     Inv-loop
     μ-loop
-    operation-at-requires
+    (λ c κs. search needs)
     loop-holds
-    mul-operation-at
-    add-operation-at
-    operation-at-requires-2
-    mul-all
-    array-set-from-all
-    add-k
-    loop-less
+    (λ c. search needs)
+    (λ c. search needs)
+    (λ c κs. search needs)
+    (λ c. search needs)
+    (λ c. search needs)
+    (λ c. search needs)
+    (λ c. search needs)
     loop-again
     returns)

@@ -17,27 +17,6 @@ abbrev μ-loop : tie.MeasureT-loop
 loop-holds : tie.Need-loop-holds Inv-loop μ-loop
 loop-holds c = rest-all _ _ 64 _
 
-mul-put-operation : tie.Need-mul-put-operation Inv-loop μ-loop
-mul-put-operation c = search needs
-
-add-put-operation : tie.Need-add-put-operation Inv-loop μ-loop
-add-put-operation c = search needs
-
-mul-put-operation-2 : tie.Need-mul-put-operation-2 Inv-loop μ-loop
-mul-put-operation-2 c = search needs
-
-array-copy-out-put-operation : tie.Need-array-copy-out-put-operation Inv-loop μ-loop
-array-copy-out-put-operation c = search needs
-
-put-operation-requires : tie.Need-put-operation-requires Inv-loop μ-loop
-put-operation-requires c κs = search needs
-
-add-k : tie.Need-add-k Inv-loop μ-loop
-add-k c = search needs
-
-loop-less : tie.Need-loop-less Inv-loop μ-loop
-loop-less c = search needs
-
 loop-again : tie.Need-loop-again Inv-loop μ-loop
 unfolding never-invoked
 loop-again c =
@@ -62,13 +41,13 @@ put-operations-spec =
     Inv-loop
     μ-loop
     loop-holds
-    mul-put-operation
-    add-put-operation
-    mul-put-operation-2
-    array-copy-out-put-operation
-    put-operation-requires
-    add-k
-    loop-less
+    (λ c. search needs)
+    (λ c. search needs)
+    (λ c. search needs)
+    (λ c. search needs)
+    (λ c κs. search needs)
+    (λ c. search needs)
+    (λ c. search needs)
     loop-again
     same-length
     returns)

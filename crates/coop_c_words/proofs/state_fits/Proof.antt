@@ -11,15 +11,6 @@ returns : tie.Need-returns
 unfolding state-fits
 returns c = rw (ne-eqb _ _ (c .if1 .taken))
 
-shared-slice-read-flag : tie.Need-shared-slice-read-flag
-shared-slice-read-flag c = search needs
-
-operations-fit-requires : tie.Need-operations-fit-requires
-operations-fit-requires c κs = search needs
-
-tasks-fit-requires : tie.Need-tasks-fit-requires
-tasks-fit-requires c κs = search needs
-
 returns-2 : tie.Need-returns-2
 unfolding state-fits bit-fits
 returns-2 c =
@@ -30,4 +21,4 @@ returns-2 c =
 pub state-fits-spec : {M : Type 1} → statement M
 state-fits-spec =
     tie.close
-    (tie.spec returns shared-slice-read-flag operations-fit-requires tasks-fit-requires returns-2)
+    (tie.spec returns (λ c. search needs) (λ c κs. search needs) (λ c κs. search needs) returns-2)

@@ -17,27 +17,12 @@ abbrev μ-loop : tie.MeasureT-loop
 loop-holds : tie.Need-loop-holds Inv-loop μ-loop
 loop-holds c = (search needs, passed-none _ 8)
 
-mul-task-fits : tie.Need-mul-task-fits Inv-loop μ-loop
-mul-task-fits c = search needs
-
-add-task-fits : tie.Need-add-task-fits Inv-loop μ-loop
-add-task-fits c = search needs
-
-task-fits-requires : tie.Need-task-fits-requires Inv-loop μ-loop
-task-fits-requires c κs = search needs
-
 returns : tie.Need-returns Inv-loop μ-loop
 unfolding tasks-fit
 returns c =
     let at-fits = c .before in
     let at-test = at-fits .before in
     fails _ 8 _ (at-test .before .loop .inv .1) (at-test .loop-test .taken) (sym (at-fits .task-fits .ensures) ∙ not-true _ (c .if1 .taken))
-
-add-k : tie.Need-add-k Inv-loop μ-loop
-add-k c = search needs
-
-loop-less : tie.Need-loop-less Inv-loop μ-loop
-loop-less c = search needs
 
 loop-again : tie.Need-loop-again Inv-loop μ-loop
 loop-again c =
@@ -57,11 +42,11 @@ tasks-fit-spec =
     Inv-loop
     μ-loop
     loop-holds
-    mul-task-fits
-    add-task-fits
-    task-fits-requires
+    (λ c. search needs)
+    (λ c. search needs)
+    (λ c κs. search needs)
     returns
-    add-k
-    loop-less
+    (λ c. search needs)
+    (λ c. search needs)
     loop-again
     returns-2)

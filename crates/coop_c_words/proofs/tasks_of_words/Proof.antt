@@ -13,32 +13,8 @@ Inv-loop w all₀ k₀ all k = Filled (λ j. task-at w (task-place j)) 8 all k
 abbrev μ-loop : tie.MeasureT-loop
 μ-loop w all₀ k₀ all k = 8 - k
 
-task-at-requires : tie.Need-task-at-requires Inv-loop μ-loop
-task-at-requires c κs = search needs
-
 loop-holds : tie.Need-loop-holds Inv-loop μ-loop
 loop-holds c = filled-none _ 8 _ refl
-
-mul-task-at : tie.Need-mul-task-at Inv-loop μ-loop
-mul-task-at c = search needs
-
-add-task-at : tie.Need-add-task-at Inv-loop μ-loop
-add-task-at c = search needs
-
-task-at-requires-2 : tie.Need-task-at-requires-2 Inv-loop μ-loop
-task-at-requires-2 c κs = search needs
-
-mul-all : tie.Need-mul-all Inv-loop μ-loop
-mul-all c = search needs
-
-array-set-from-all : tie.Need-array-set-from-all Inv-loop μ-loop
-array-set-from-all c = search needs
-
-add-k : tie.Need-add-k Inv-loop μ-loop
-add-k c = search needs
-
-loop-less : tie.Need-loop-less Inv-loop μ-loop
-loop-less c = search needs
 
 loop-again : tie.Need-loop-again Inv-loop μ-loop
 loop-again c =
@@ -56,14 +32,14 @@ tasks-of-words-spec =
     (tie.spec
     Inv-loop
     μ-loop
-    task-at-requires
+    (λ c κs. search needs)
     loop-holds
-    mul-task-at
-    add-task-at
-    task-at-requires-2
-    mul-all
-    array-set-from-all
-    add-k
-    loop-less
+    (λ c. search needs)
+    (λ c. search needs)
+    (λ c κs. search needs)
+    (λ c. search needs)
+    (λ c. search needs)
+    (λ c. search needs)
+    (λ c. search needs)
     loop-again
     returns)

@@ -10,12 +10,6 @@ use borrow.Author.Needs.{needs}
 use Rattle.coop_calls.proofs.line109.Statement.{statement}
 use Rattle.coop_calls.proofs.line109.Tie as tie
 
-with-flag-requires : tie.Need-with-flag-requires
-with-flag-requires c κs = search needs
-
-go-line-requires : tie.Need-go-line-requires
-go-line-requires c κs = search needs
-
 returns : tie.Need-returns
 unfolding member find-line all-lines line-109 accept apply-all apply
 returns c =
@@ -27,4 +21,4 @@ returns c =
     c .go-line .ensures vs ∙ raised ∙ sym (plain (machine-of (a .s) vs) (a .k) (a .c) 109 (start .pre) refl)
 
 pub line109-spec : {M : Type 1} → statement M
-line109-spec = tie.close (tie.spec with-flag-requires go-line-requires returns)
+line109-spec = tie.close (tie.spec (λ c κs. search needs) (λ c κs. search needs) returns)

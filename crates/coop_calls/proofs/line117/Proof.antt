@@ -12,15 +12,6 @@ use borrow.Author.Needs.{needs}
 use Rattle.coop_calls.proofs.line117.Statement.{statement}
 use Rattle.coop_calls.proofs.line117.Tie as tie
 
-operation-requires : tie.Need-operation-requires
-operation-requires c κs = search needs
-
-yes-no-requires : tie.Need-yes-no-requires
-yes-no-requires c κs = search needs
-
-end-requires : tie.Need-end-requires
-end-requires c κs = search needs
-
 returns : tie.Need-returns
 unfolding member find-line all-lines line-117
 returns c =
@@ -34,4 +25,4 @@ returns c =
     c .end .ensures vs ∙ ap (λ (x : Answer). accept y (a .k) (a .c .own) (answers x)) r ∙ sym (plain (machine-of (a .s) vs) (a .k) (a .c) 117 (start .pre) refl)
 
 pub line117-spec : {M : Type 1} → statement M
-line117-spec = tie.close (tie.spec operation-requires yes-no-requires end-requires returns)
+line117-spec = tie.close (tie.spec (λ c κs. search needs) (λ c κs. search needs) (λ c κs. search needs) returns)

@@ -8,23 +8,8 @@ use borrow.Author.Needs.{needs}
 use Rattle.coop_lines.proofs.cas_op.Statement.{statement}
 use Rattle.coop_lines.proofs.cas_op.Tie as tie
 
-no-op-requires : tie.Need-no-op-requires
-no-op-requires c κs = search needs
-
-same-length : tie.Need-same-length
-same-length c = search needs
-
 returns : tie.Need-returns
 returns c = (λ s. sym (not-true _ (c .if1 .taken)) ∙ c .before .no-op .ensures s, refl)
-
-number-of-requires : tie.Need-number-of-requires
-number-of-requires c κs = search needs
-
-set-op-word-requires : tie.Need-set-op-word-requires
-set-op-word-requires c κs = search needs
-
-same-length-2 : tie.Need-same-length-2
-same-length-2 c = search needs
 
 returns-2 : tie.Need-returns-2
 returns-2 c =
@@ -37,4 +22,13 @@ returns-2 c =
     (λ s. sym (not-false _ (at-if1 .if1 .left)) ∙ at-if1 .before .no-op .ensures s, written)
 
 pub cas-op-spec : {M : Type 1} → statement M
-cas-op-spec = tie.close (tie.spec no-op-requires same-length returns number-of-requires set-op-word-requires same-length-2 returns-2)
+cas-op-spec =
+    tie.close
+    (tie.spec
+    (λ c κs. search needs)
+    (λ c. search needs)
+    returns
+    (λ c κs. search needs)
+    (λ c κs. search needs)
+    (λ c. search needs)
+    returns-2)

@@ -8,15 +8,6 @@ use borrow.Author.Needs.{needs}
 use Rattle.coop_lines.proofs.end.Statement.{statement}
 use Rattle.coop_lines.proofs.end.Tie as tie
 
-one-more-own-step-requires : tie.Need-one-more-own-step-requires
-one-more-own-step-requires c κs = search needs
-
-idle-requires : tie.Need-idle-requires
-idle-requires c κs = search needs
-
-with-task-requires : tie.Need-with-task-requires
-with-task-requires c κs = search needs
-
 returns : tie.Need-returns
 unfolding accept finish apply-all
 returns c =
@@ -27,4 +18,4 @@ returns c =
     λ vs. rw (← at-one-more .one-more-own-step .ensures, ← at-idle .idle .ensures) (ap reply (c .with-task .ensures vs))
 
 pub end-spec : {M : Type 1} → statement M
-end-spec = tie.close (tie.spec one-more-own-step-requires idle-requires with-task-requires returns)
+end-spec = tie.close (tie.spec (λ c κs. search needs) (λ c κs. search needs) (λ c κs. search needs) returns)

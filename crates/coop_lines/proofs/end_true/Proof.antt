@@ -9,12 +9,6 @@ use borrow.Author.Needs.{needs}
 use Rattle.coop_lines.proofs.end_true.Statement.{statement}
 use Rattle.coop_lines.proofs.end_true.Tie as tie
 
-set-returned-requires : tie.Need-set-returned-requires
-set-returned-requires c κs = search needs
-
-end-requires : tie.Need-end-requires
-end-requires c κs = search needs
-
 returns : tie.Need-returns
 unfolding accept apply-all
 returns c =
@@ -23,4 +17,4 @@ returns c =
     λ vs. c .end .ensures vs ∙ ap (λ (z : Machine). accept z (a .k) (a .c .own) (answers Yes)) (at-set-returned .set-returned .ensures vs)
 
 pub end-true-spec : {M : Type 1} → statement M
-end-true-spec = tie.close (tie.spec set-returned-requires end-requires returns)
+end-true-spec = tie.close (tie.spec (λ c κs. search needs) (λ c κs. search needs) returns)

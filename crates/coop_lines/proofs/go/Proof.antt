@@ -8,12 +8,6 @@ use borrow.Author.Needs.{needs}
 use Rattle.coop_lines.proofs.go.Statement.{statement}
 use Rattle.coop_lines.proofs.go.Tie as tie
 
-one-more-own-step-requires : tie.Need-one-more-own-step-requires
-one-more-own-step-requires c κs = search needs
-
-with-task-requires : tie.Need-with-task-requires
-with-task-requires c κs = search needs
-
 returns : tie.Need-returns
 unfolding accept finish apply-all with-own
 returns c =
@@ -23,4 +17,4 @@ returns c =
     λ vs. rw (← at-one-more .one-more-own-step .ensures) (ap reply (c .with-task .ensures vs))
 
 pub go-spec : {M : Type 1} → statement M
-go-spec = tie.close (tie.spec one-more-own-step-requires with-task-requires returns)
+go-spec = tie.close (tie.spec (λ c κs. search needs) (λ c κs. search needs) returns)

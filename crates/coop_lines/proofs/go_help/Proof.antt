@@ -4,12 +4,9 @@ use borrow.Author.Needs.{needs}
 use Rattle.coop_lines.proofs.go_help.Statement.{statement}
 use Rattle.coop_lines.proofs.go_help.Tie as tie
 
-go-requires : tie.Need-go-requires
-go-requires c κs = search needs
-
 returns : tie.Need-returns
 unfolding to-help
 returns c = λ vs. c .go .ensures vs
 
 pub go-help-spec : {M : Type 1} → statement M
-go-help-spec = tie.close (tie.spec go-requires returns)
+go-help-spec = tie.close (tie.spec (λ c κs. search needs) returns)

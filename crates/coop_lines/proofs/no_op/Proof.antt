@@ -9,12 +9,6 @@ use borrow.Author.Needs.{needs}
 use Rattle.coop_lines.proofs.no_op.Statement.{statement}
 use Rattle.coop_lines.proofs.no_op.Tie as tie
 
-number-of-requires : tie.Need-number-of-requires
-number-of-requires c κs = search needs
-
-op-word-requires : tie.Need-op-word-requires
-op-word-requires c κs = search needs
-
 returns : tie.Need-returns
 returns c =
     let at-number-of = c .before in
@@ -22,4 +16,4 @@ returns c =
     λ s. ap (λ (m : ℕ). eqb m 0) (c .op-word .ensures s ∙ ap (op-word (machine-of s (now (start .args .vs)))) (at-number-of .number-of .ensures))
 
 pub no-op-spec : {M : Type 1} → statement M
-no-op-spec = tie.close (tie.spec number-of-requires op-word-requires returns)
+no-op-spec = tie.close (tie.spec (λ c κs. search needs) (λ c κs. search needs) returns)

@@ -3,14 +3,8 @@ use borrow.Author.Needs.{needs}
 use Rattle.coop_lines.proofs.read_node.Statement.{statement}
 use Rattle.coop_lines.proofs.read_node.Tie as tie
 
-add-go-with : tie.Need-add-go-with
-add-go-with c = search needs
-
-go-with-requires : tie.Need-go-with-requires
-go-with-requires c κs = search needs
-
 returns : tie.Need-returns
 returns c = λ vs. c .go-with .ensures vs
 
 pub read-node-spec : {M : Type 1} → statement M
-read-node-spec = tie.close (tie.spec add-go-with go-with-requires returns)
+read-node-spec = tie.close (tie.spec (λ c. search needs) (λ c κs. search needs) returns)

@@ -6,18 +6,9 @@ use borrow.Author.Needs.{needs}
 use Rattle.coop_lines.proofs.test_op.Statement.{statement}
 use Rattle.coop_lines.proofs.test_op.Tie as tie
 
-refused-requires : tie.Need-refused-requires
-refused-requires c κs = search needs
-
 returns : tie.Need-returns
 unfolding through-o
 returns c = rw (eq-eqb _ _ (c .before .if1 .taken)) (c .refused .ensures _)
-
-no-op-requires : tie.Need-no-op-requires
-no-op-requires c κs = search needs
-
-go-with-requires : tie.Need-go-with-requires
-go-with-requires c κs = search needs
 
 returns-2 : tie.Need-returns-2
 unfolding through-o
@@ -26,9 +17,6 @@ returns-2 c =
     let at-if1 = at-no-op .before in
     let a = at-if1 .before .before .before .args in
     rw (ne-eqb _ _ (at-if1 .if1 .left), sym (at-no-op .no-op .ensures (a .s)) ∙ c .before .if2 .taken) (c .go-with .ensures _)
-
-go-help-requires : tie.Need-go-help-requires
-go-help-requires c κs = search needs
 
 returns-3 : tie.Need-returns-3
 unfolding through-o
@@ -39,4 +27,4 @@ returns-3 c =
     rw (ne-eqb _ _ (at-if1 .if1 .left), sym (at-no-op .no-op .ensures (a .s)) ∙ c .before .if2 .left) (c .go-help .ensures _)
 
 pub test-op-spec : {M : Type 1} → statement M
-test-op-spec = tie.close (tie.spec refused-requires returns no-op-requires go-with-requires returns-2 go-help-requires returns-3)
+test-op-spec = tie.close (tie.spec (λ c κs. search needs) returns (λ c κs. search needs) (λ c κs. search needs) returns-2 (λ c κs. search needs) returns-3)

@@ -13,23 +13,11 @@ use borrow.Author.Needs.{needs}
 use Rattle.coop_opening.proofs.open.Statement.{statement}
 use Rattle.coop_opening.proofs.open.Tie as tie
 
-within-requires : tie.Need-within-requires
-within-requires c κs = search needs
-
-fresh-state-requires : tie.Need-fresh-state-requires
-fresh-state-requires c κs = search needs
-
 returns : tie.Need-returns
 unfolding opening not-opened
 returns c =
     let at-if1 = c .before in
     rw (sym (at-if1 .before .within .ensures) ∙ not-true _ (at-if1 .if1 .taken), c .fresh-state .ensures)
-
-fits-requires : tie.Need-fits-requires
-fits-requires c κs = search needs
-
-fresh-state-requires-2 : tie.Need-fresh-state-requires-2
-fresh-state-requires-2 c κs = search needs
 
 returns-2 : tie.Need-returns-2
 unfolding opening not-opened
@@ -39,21 +27,12 @@ returns-2 c =
     let T-fits = sym (at-if1 .before .within .ensures) ∙ not-false _ (at-if1 .if1 .left) in
     rw (T-fits, sym (at-if2 .before .fits2 .ensures) ∙ not-true _ (at-if2 .if2 .taken), c .fresh-state2 .ensures)
 
-zero-requires : tie.Need-zero-requires
-zero-requires c κs = search needs
-
 cast-v : tie.Need-cast-v
 cast-v c =
     let at-if2 = c .before .before .before .before in
     let start = at-if2 .before .before .before .before .before in
     let p = pool-of (length (now (start .args .vs))) (sym (at-if2 .before .fits2 .ensures) ∙ not-false _ (at-if2 .if2 .left)) in
     omega arith
-
-fresh-state-requires-3 : tie.Need-fresh-state-requires-3
-fresh-state-requires-3 c κs = search needs
-
-same-length : tie.Need-same-length
-same-length c = search needs
 
 returns-3 : tie.Need-returns-3
 unfolding opening fresh-machine
@@ -72,14 +51,14 @@ pub open-spec : {M : Type 1} → statement M
 open-spec =
     tie.close
     (tie.spec
-    within-requires
-    fresh-state-requires
+    (λ c κs. search needs)
+    (λ c κs. search needs)
     returns
-    fits-requires
-    fresh-state-requires-2
+    (λ c κs. search needs)
+    (λ c κs. search needs)
     returns-2
-    zero-requires
+    (λ c κs. search needs)
     cast-v
-    fresh-state-requires-3
-    same-length
+    (λ c κs. search needs)
+    (λ c. search needs)
     returns-3)

@@ -11,15 +11,6 @@ use borrow.Author.Needs.{needs}
 use Rattle.coop_pool.proofs.install.Statement.{statement}
 use Rattle.coop_pool.proofs.install.Tie as tie
 
-store-at-requires : tie.Need-store-at-requires
-store-at-requires c κs = search needs
-
-with-node-requires : tie.Need-with-node-requires
-with-node-requires c κs = search needs
-
-same-length : tie.Need-same-length
-same-length c = search needs
-
 returns : tie.Need-returns
 unfolding apply with-versions
 returns c =
@@ -32,4 +23,4 @@ returns c =
     c .with-node .ensures _ ∙ ap (λ (l : List ℕ). with-node (a .k) (machine-of (a .s) l)) words
 
 pub install-spec : {M : Type 1} → statement M
-install-spec = tie.close (tie.spec store-at-requires with-node-requires same-length returns)
+install-spec = tie.close (tie.spec (λ c κs. search needs) (λ c κs. search needs) (λ c. search needs) returns)

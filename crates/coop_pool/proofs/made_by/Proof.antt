@@ -6,18 +6,6 @@ use borrow.Author.Needs.{needs}
 use Rattle.coop_pool.proofs.made_by.Statement.{statement}
 use Rattle.coop_pool.proofs.made_by.Tie as tie
 
-opened-requires : tie.Need-opened-requires
-opened-requires c κs = search needs
-
-changed-by-requires : tie.Need-changed-by-requires
-changed-by-requires c κs = search needs
-
-full-requires : tie.Need-full-requires
-full-requires c κs = search needs
-
-freeze-requires : tie.Need-freeze-requires
-freeze-requires c κs = search needs
-
 returns : tie.Need-returns
 returns c =
     let at-full = c .before in
@@ -31,4 +19,4 @@ returns c =
 
 pub made-by-spec : {M : Type 1} → statement M
 made-by-spec =
-    tie.close (tie.spec opened-requires changed-by-requires full-requires freeze-requires returns)
+    tie.close (tie.spec (λ c κs. search needs) (λ c κs. search needs) (λ c κs. search needs) (λ c κs. search needs) returns)

@@ -18,9 +18,6 @@ few-in : (w : List ℕ) (k : ℕ) → Tagged w k → length (tags w k) ≤ 64
 unfolding tags
 few-in w k v = let f = few-tags w k (v .few) in rw (length-take (count w k) (drop (66 * k + 2) w)) (omega arith)
 
-load-requires : tie.Need-load-requires
-load-requires c κs = search needs
-
 made-by-requires : tie.Need-made-by-requires
 made-by-requires c κs =
     let start = c .before .before in
@@ -39,4 +36,4 @@ returns c =
     c .made-by .ensures ∙ ap (made (a .op)) same
 
 pub made-of-spec : {M : Type 1} → statement M
-made-of-spec = tie.close (tie.spec load-requires made-by-requires returns)
+made-of-spec = tie.close (tie.spec (λ c κs. search needs) made-by-requires returns)

@@ -11,32 +11,11 @@ use borrow.Author.Needs.{needs}
 use Rattle.coop_pool.proofs.set_op_word.Statement.{statement}
 use Rattle.coop_pool.proofs.set_op_word.Tie as tie
 
-mul-at : tie.Need-mul-at
-mul-at c = search needs
-
 returns : tie.Need-returns
 returns c =
     let start = c .before .before in
     let a = start .args in
     sym (set-out (now (a .vs)) (66 * a .k) (a .m) (c .if1 .taken))
-
-mul-put : tie.Need-mul-put
-mul-put c = search needs
-
-sub-put : tie.Need-sub-put
-sub-put c = search needs
-
-part-put-start : tie.Need-part-put-start
-part-put-start c = search needs
-
-part-put-end : tie.Need-part-put-end
-part-put-end c = search needs
-
-put-requires : tie.Need-put-requires
-put-requires c κs = search needs
-
-same-length : tie.Need-same-length
-same-length c = search needs
 
 returns-2 : tie.Need-returns-2
 returns-2 c =
@@ -51,12 +30,12 @@ pub set-op-word-spec : {M : Type 1} → statement M
 set-op-word-spec =
     tie.close
     (tie.spec
-    mul-at
+    (λ c. search needs)
     returns
-    mul-put
-    sub-put
-    part-put-start
-    part-put-end
-    put-requires
-    same-length
+    (λ c. search needs)
+    (λ c. search needs)
+    (λ c. search needs)
+    (λ c. search needs)
+    (λ c κs. search needs)
+    (λ c. search needs)
     returns-2)

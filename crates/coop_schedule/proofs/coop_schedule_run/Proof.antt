@@ -11,9 +11,6 @@ use borrow.Author.Needs.{needs}
 use Rattle.coop_schedule.proofs.coop_schedule_run.Statement.{statement}
 use Rattle.coop_schedule.proofs.coop_schedule_run.Tie as tie
 
-run-requires : tie.Need-run-requires
-run-requires c κs = search needs
-
 add-result : tie.Need-add-result
 add-result c =
     let at-run = c .before .before .before .before .before .before .before in
@@ -22,12 +19,6 @@ add-result c =
     let small = refusal-small (a .tasks) (now (a .vs)) (now (a .events)) (now (a .outs)) in
     omega (arith, refusal, small)
 
-same-length : tie.Need-same-length
-same-length c = search needs
-
-same-length-2 : tie.Need-same-length-2
-same-length-2 c = search needs
-
 returns : tie.Need-returns
 returns c =
     let at-if1 = c .before in
@@ -35,12 +26,6 @@ returns c =
     let w = at-run .run .last .1 in
     let number = if-false _ (at-run .run .result .state .node) (1024 + at-run .run .result .refusal) (ne-eqb _ 0 (at-if1 .if1 .taken)) in
     ap (λ (n : ℕ). c-result n (w .0) (w .1 .1 .0)) (sym number) ∙ ap c-result-of (at-run .run .ensures .0)
-
-same-length-3 : tie.Need-same-length-3
-same-length-3 c = search needs
-
-same-length-4 : tie.Need-same-length-4
-same-length-4 c = search needs
 
 returns-2 : tie.Need-returns-2
 returns-2 c =
@@ -54,11 +39,11 @@ pub coop-schedule-run-spec : {M : Type 1} → statement M
 coop-schedule-run-spec =
     tie.close
     (tie.spec
-    run-requires
+    (λ c κs. search needs)
     add-result
-    same-length
-    same-length-2
+    (λ c. search needs)
+    (λ c. search needs)
     returns
-    same-length-3
-    same-length-4
+    (λ c. search needs)
+    (λ c. search needs)
     returns-2)

@@ -10,12 +10,6 @@ use borrow.Author.Needs.{needs}
 use Rattle.coop_schedule.proofs.run.Statement.{statement}
 use Rattle.coop_schedule.proofs.run.Tie as tie
 
-open-requires : tie.Need-open-requires
-open-requires c κs = search needs
-
-same-length : tie.Need-same-length
-same-length c = search needs
-
 returns : tie.Need-returns
 returns c =
     let at-open = c .before .before .before .before in
@@ -25,18 +19,6 @@ returns c =
     let refused =
     not-run (a .t) (now (a .vs)) (now (a .events)) (now (a .outs)) _ (ap (λ (x : Opened). x .refusal) o) _ (ap (λ (x : Opened). x .machine) o) d in
     (refused, (λ z. absurd (d z), (λ z. absurd (d z), λ z. absurd (d z))))
-
-number-of-events-requires : tie.Need-number-of-events-requires
-number-of-events-requires c κs = search needs
-
-run-events-requires : tie.Need-run-events-requires
-run-events-requires c κs = search needs
-
-same-length-2 : tie.Need-same-length-2
-same-length-2 c = search needs
-
-same-length-3 : tie.Need-same-length-3
-same-length-3 c = search needs
 
 returns-2 : tie.Need-returns-2
 returns-2 c =
@@ -60,11 +42,11 @@ pub run-spec : {M : Type 1} → statement M
 run-spec =
     tie.close
     (tie.spec
-    open-requires
-    same-length
+    (λ c κs. search needs)
+    (λ c. search needs)
     returns
-    number-of-events-requires
-    run-events-requires
-    same-length-2
-    same-length-3
+    (λ c κs. search needs)
+    (λ c κs. search needs)
+    (λ c. search needs)
+    (λ c. search needs)
     returns-2)

@@ -27,57 +27,6 @@ loop-holds c =
     let a = c .before .before .before .args in
     (omega arith, refl, refl, rest-start (now (a .events)) (a .n) 0 _ _)
 
-add-next : tie.Need-add-next Inv-loop μ-loop
-add-next c = search needs
-
-mul-at : tie.Need-mul-at Inv-loop μ-loop
-mul-at c = search needs
-
-mul-run-event : tie.Need-mul-run-event Inv-loop μ-loop
-mul-run-event c = search needs
-
-shared-slice-read-run-event : tie.Need-shared-slice-read-run-event Inv-loop μ-loop
-shared-slice-read-run-event c = search needs
-
-add-run-event : tie.Need-add-run-event Inv-loop μ-loop
-add-run-event c = search needs
-
-mul-run-event-2 : tie.Need-mul-run-event-2 Inv-loop μ-loop
-mul-run-event-2 c = search needs
-
-shared-slice-read-run-event-2 : tie.Need-shared-slice-read-run-event-2 Inv-loop μ-loop
-shared-slice-read-run-event-2 c = search needs
-
-add-run-event-2 : tie.Need-add-run-event-2 Inv-loop μ-loop
-add-run-event-2 c = search needs
-
-mul-run-event-3 : tie.Need-mul-run-event-3 Inv-loop μ-loop
-mul-run-event-3 c = search needs
-
-shared-slice-read-run-event-3 : tie.Need-shared-slice-read-run-event-3 Inv-loop μ-loop
-shared-slice-read-run-event-3 c = search needs
-
-add-run-event-3 : tie.Need-add-run-event-3 Inv-loop μ-loop
-add-run-event-3 c = search needs
-
-mul-run-event-4 : tie.Need-mul-run-event-4 Inv-loop μ-loop
-mul-run-event-4 c = search needs
-
-shared-slice-read-run-event-4 : tie.Need-shared-slice-read-run-event-4 Inv-loop μ-loop
-shared-slice-read-run-event-4 c = search needs
-
-run-event-requires : tie.Need-run-event-requires Inv-loop μ-loop
-run-event-requires c κs = search needs
-
-output-words-requires : tie.Need-output-words-requires Inv-loop μ-loop
-output-words-requires c κs = search needs
-
-write-words-requires : tie.Need-write-words-requires Inv-loop μ-loop
-write-words-requires c κs = search needs
-
-loop-less : tie.Need-loop-less Inv-loop μ-loop
-loop-less c = search needs
-
 loop-again : tie.Need-loop-again Inv-loop μ-loop
 loop-again c =
     let at-write = c .before .before .before in
@@ -98,12 +47,6 @@ loop-again c =
       turn (now (a .events)) (a .n) (l .i) (at-test .loop-test .taken) (omega arith) (l .inv .3) _ (m .ensures) _ written,
     )
 
-same-length : tie.Need-same-length Inv-loop μ-loop
-same-length c = search needs
-
-same-length-2 : tie.Need-same-length-2 Inv-loop μ-loop
-same-length-2 c = search needs
-
 returns : tie.Need-returns Inv-loop μ-loop
 returns c =
     let l = c .before .loop in
@@ -117,24 +60,24 @@ run-events-spec =
     Inv-loop
     μ-loop
     loop-holds
-    add-next
-    mul-at
-    mul-run-event
-    shared-slice-read-run-event
-    add-run-event
-    mul-run-event-2
-    shared-slice-read-run-event-2
-    add-run-event-2
-    mul-run-event-3
-    shared-slice-read-run-event-3
-    add-run-event-3
-    mul-run-event-4
-    shared-slice-read-run-event-4
-    run-event-requires
-    output-words-requires
-    write-words-requires
-    loop-less
+    (λ c. search needs)
+    (λ c. search needs)
+    (λ c. search needs)
+    (λ c. search needs)
+    (λ c. search needs)
+    (λ c. search needs)
+    (λ c. search needs)
+    (λ c. search needs)
+    (λ c. search needs)
+    (λ c. search needs)
+    (λ c. search needs)
+    (λ c. search needs)
+    (λ c. search needs)
+    (λ c κs. search needs)
+    (λ c κs. search needs)
+    (λ c κs. search needs)
+    (λ c. search needs)
     loop-again
-    same-length
-    same-length-2
+    (λ c. search needs)
+    (λ c. search needs)
     returns)

@@ -5,15 +5,6 @@ use borrow.Author.Needs.{needs}
 use Rattle.coop_sound.proofs.back_ok.Statement.{statement}
 use Rattle.coop_sound.proofs.back_ok.Tie as tie
 
-slice-aggregate-among : tie.Need-slice-aggregate-among
-slice-aggregate-among c = search needs
-
-among-requires : tie.Need-among-requires
-among-requires c κs = search needs
-
-is-invoke-requires : tie.Need-is-invoke-requires
-is-invoke-requires c κs = search needs
-
 returns : tie.Need-returns
 unfolding back-of-line help-lines
 returns c =
@@ -29,4 +20,4 @@ returns-2 c =
 
 pub back-ok-spec : {M : Type 1} → statement M
 back-ok-spec =
-    tie.close (tie.spec slice-aggregate-among among-requires is-invoke-requires returns returns-2)
+    tie.close (tie.spec (λ c. search needs) (λ c κs. search needs) (λ c κs. search needs) returns returns-2)

@@ -7,16 +7,10 @@ use Rattle.coop_sound.proofs.helped_ok.Tie as tie
 returns : tie.Need-returns
 returns c = λ y ks. rw (eq-eqb _ _ (c .if1 .taken))
 
-sub-invoked : tie.Need-sub-invoked
-sub-invoked c = search needs
-
-invoked-requires : tie.Need-invoked-requires
-invoked-requires c κs = search needs
-
 returns-2 : tie.Need-returns-2
 returns-2 c =
     let at-if1 = c .before .before in
     λ y ks. rw (ne-eqb _ _ (at-if1 .if1 .left)) (c .invoked .ensures y ks)
 
 pub helped-ok-spec : {M : Type 1} → statement M
-helped-ok-spec = tie.close (tie.spec returns sub-invoked invoked-requires returns-2)
+helped-ok-spec = tie.close (tie.spec returns (λ c. search needs) (λ c κs. search needs) returns-2)

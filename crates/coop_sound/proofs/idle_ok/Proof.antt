@@ -6,18 +6,9 @@ use borrow.Author.Needs.{needs}
 use Rattle.coop_sound.proofs.idle_ok.Statement.{statement}
 use Rattle.coop_sound.proofs.idle_ok.Tie as tie
 
-cast-own : tie.Need-cast-own
-cast-own c = search needs
-
-slice-aggregate-zero-words : tie.Need-slice-aggregate-zero-words
-slice-aggregate-zero-words c = search needs
-
-zero-words-requires : tie.Need-zero-words-requires
-zero-words-requires c κs = search needs
-
 returns : tie.Need-returns
 unfolding zeros zero-task every
 returns c = c .zero-words .ensures
 
 pub idle-ok-spec : {M : Type 1} → statement M
-idle-ok-spec = tie.close (tie.spec cast-own slice-aggregate-zero-words zero-words-requires returns)
+idle-ok-spec = tie.close (tie.spec (λ c. search needs) (λ c. search needs) (λ c κs. search needs) returns)

@@ -7,13 +7,10 @@ use borrow.Author.Needs.{needs}
 use Rattle.coop_sound.proofs.invoked.Statement.{statement}
 use Rattle.coop_sound.proofs.invoked.Tie as tie
 
-word-requires : tie.Need-word-requires
-word-requires c κs = search needs
-
 returns : tie.Need-returns
 returns c =
     let a = c .before .before .args in
     λ y ks. ap (λ (k : ℕ). not (eqb k 0)) (c .word .ensures) ∙ sym (ks .each (a .n))
 
 pub invoked-spec : {M : Type 1} → statement M
-invoked-spec = tie.close (tie.spec word-requires returns)
+invoked-spec = tie.close (tie.spec (λ c κs. search needs) returns)

@@ -13,33 +13,15 @@ returns : tie.Need-returns
 unfolding member
 returns c = rw (lines-none (c .before .args .call) (omega arith))
 
-slice-aggregate-among : tie.Need-slice-aggregate-among
-slice-aggregate-among c = search needs
-
-among-requires : tie.Need-among-requires
-among-requires c κs = search needs
-
 returns-2 : tie.Need-returns-2
 returns-2 c =
     let at-if2 = c .before .before in
     rw (lines-invoke (at-if2 .before .before .args .call) (omega arith) (omega arith)) (c .among .ensures)
 
-slice-aggregate-among-2 : tie.Need-slice-aggregate-among-2
-slice-aggregate-among-2 c = search needs
-
-among-requires-2 : tie.Need-among-requires-2
-among-requires-2 c κs = search needs
-
 returns-3 : tie.Need-returns-3
 returns-3 c =
     let at-if2 = c .before .before .before in
     rw (lines-freeze (at-if2 .before .before .args .call) (omega arith) (omega arith)) (c .among2 .ensures)
-
-slice-aggregate-among-3 : tie.Need-slice-aggregate-among-3
-slice-aggregate-among-3 c = search needs
-
-among-requires-3 : tie.Need-among-requires-3
-among-requires-3 c κs = search needs
 
 returns-4 : tie.Need-returns-4
 returns-4 c =
@@ -65,14 +47,14 @@ line-ok-spec =
     tie.close
     (tie.spec
     returns
-    slice-aggregate-among
-    among-requires
+    (λ c. search needs)
+    (λ c κs. search needs)
     returns-2
-    slice-aggregate-among-2
-    among-requires-2
+    (λ c. search needs)
+    (λ c κs. search needs)
     returns-3
-    slice-aggregate-among-3
-    among-requires-3
+    (λ c. search needs)
+    (λ c κs. search needs)
     returns-4
     returns-5
     returns-6)

@@ -10,12 +10,6 @@ returns : tie.Need-returns
 unfolding operation-of-call
 returns c = λ vs. rw (le-ltb _ _ (c .if1 .taken))
 
-operation-requires : tie.Need-operation-requires
-operation-requires c κs = search needs
-
-is-invoke-requires : tie.Need-is-invoke-requires
-is-invoke-requires c κs = search needs
-
 returns-2 : tie.Need-returns-2
 unfolding operation-of-call
 returns-2 c =
@@ -45,4 +39,4 @@ returns-4 c =
 pub op-ok-spec : {M : Type 1} → statement M
 op-ok-spec =
     tie.close
-    (tie.spec returns operation-requires is-invoke-requires returns-2 returns-3 returns-4)
+    (tie.spec returns (λ c κs. search needs) (λ c κs. search needs) returns-2 returns-3 returns-4)

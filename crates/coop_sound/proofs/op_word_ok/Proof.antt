@@ -10,12 +10,6 @@ returns c =
     let a = c .before .before .args in
     λ y ks. sym (op-word-to-1 y (a .m) (c .if1 .taken))
 
-sub-invoked : tie.Need-sub-invoked
-sub-invoked c = search needs
-
-invoked-requires : tie.Need-invoked-requires
-invoked-requires c κs = search needs
-
 returns-2 : tie.Need-returns-2
 returns-2 c =
     let at-if1 = c .before in
@@ -23,4 +17,4 @@ returns-2 c =
     λ y ks. c .invoked .ensures y ks ∙ sym (op-word-over-1 y (a .m) (at-if1 .if1 .left))
 
 pub op-word-ok-spec : {M : Type 1} → statement M
-op-word-ok-spec = tie.close (tie.spec returns sub-invoked invoked-requires returns-2)
+op-word-ok-spec = tie.close (tie.spec returns (λ c. search needs) (λ c κs. search needs) returns-2)

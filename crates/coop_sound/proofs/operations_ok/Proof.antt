@@ -24,15 +24,6 @@ len c = search (needs, length-mapped)
 loop-holds : tie.Need-loop-holds Inv-loop μ-loop
 loop-holds c = (omega arith, refl)
 
-mul-op : tie.Need-mul-op Inv-loop μ-loop
-mul-op c = search needs
-
-array-copy-out-op : tie.Need-array-copy-out-op Inv-loop μ-loop
-array-copy-out-op c = search needs
-
-operation-ok-requires : tie.Need-operation-ok-requires Inv-loop μ-loop
-operation-ok-requires c κs = search needs
-
 returns : tie.Need-returns Inv-loop μ-loop
 returns c =
     let at-loop = c .before .before .before .before in
@@ -40,12 +31,6 @@ returns c =
     let fails = sym (c .before .operation-ok .ensures) ∙ not-true _ (c .if1 .taken) in
     let ops = start .args .s .operation in
     sym (at-loop .loop .inv .1 ∙ every-no sound-operation ops (at-loop .loop .k) _ (omega (arith, len start)) fails)
-
-add-k : tie.Need-add-k Inv-loop μ-loop
-add-k c = search needs
-
-loop-less : tie.Need-loop-less Inv-loop μ-loop
-loop-less c = search needs
 
 loop-again : tie.Need-loop-again Inv-loop μ-loop
 loop-again c =
@@ -68,11 +53,11 @@ operations-ok-spec =
     Inv-loop
     μ-loop
     loop-holds
-    mul-op
-    array-copy-out-op
-    operation-ok-requires
+    (λ c. search needs)
+    (λ c. search needs)
+    (λ c κs. search needs)
     returns
-    add-k
-    loop-less
+    (λ c. search needs)
+    (λ c. search needs)
     loop-again
     returns-2)

@@ -4,18 +4,6 @@ use borrow.Author.Needs.{needs}
 use Rattle.coop_sound.proofs.running_ok.Statement.{statement}
 use Rattle.coop_sound.proofs.running_ok.Tie as tie
 
-line-ok-requires : tie.Need-line-ok-requires
-line-ok-requires c κs = search needs
-
-back-ok-requires : tie.Need-back-ok-requires
-back-ok-requires c κs = search needs
-
-op-ok-requires : tie.Need-op-ok-requires
-op-ok-requires c κs = search needs
-
-helped-ok-requires : tie.Need-helped-ok-requires
-helped-ok-requires c κs = search needs
-
 returns : tie.Need-returns
 unfolding sound-running
 returns c =
@@ -27,4 +15,4 @@ returns c =
 pub running-ok-spec : {M : Type 1} → statement M
 running-ok-spec =
     tie.close
-    (tie.spec line-ok-requires back-ok-requires op-ok-requires helped-ok-requires returns)
+    (tie.spec (λ c κs. search needs) (λ c κs. search needs) (λ c κs. search needs) (λ c κs. search needs) returns)

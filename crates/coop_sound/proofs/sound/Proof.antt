@@ -10,15 +10,9 @@ use borrow.Author.Needs.{needs}
 use Rattle.coop_sound.proofs.sound.Statement.{statement}
 use Rattle.coop_sound.proofs.sound.Tie as tie
 
-numbers-ok-requires : tie.Need-numbers-ok-requires
-numbers-ok-requires c κs = search needs
-
 returns : tie.Need-returns
 unfolding sound
 returns c = rw (sym (c .before .numbers-ok .ensures) ∙ not-true _ (c .if1 .taken))
-
-operations-ok-requires : tie.Need-operations-ok-requires
-operations-ok-requires c κs = search needs
 
 returns-2 : tie.Need-returns-2
 unfolding sound
@@ -26,15 +20,6 @@ returns-2 c =
     let at-if1 = c .before .before in
     let numbers-sound = sym (at-if1 .before .numbers-ok .ensures) ∙ not-false _ (at-if1 .if1 .left) in
     rw (numbers-sound, sym (c .before .operations-ok .ensures) ∙ not-true _ (c .if2 .taken))
-
-kinds-of-requires : tie.Need-kinds-of-requires
-kinds-of-requires c κs = search needs
-
-slice-aggregate-versions-ok : tie.Need-slice-aggregate-versions-ok
-slice-aggregate-versions-ok c = search needs
-
-cast-versions-ok : tie.Need-cast-versions-ok
-cast-versions-ok c = search needs
 
 versions-ok-requires : tie.Need-versions-ok-requires
 versions-ok-requires c κs =
@@ -57,12 +42,6 @@ returns-3 c =
     let versions = c .before .versions-ok .ensures (machine-of (a .s) vs) (at-kinds-of .kinds-of .ensures vs) in
     rw (numbers-sound, operations-sound, sym versions ∙ not-true _ (c .if3 .taken))
 
-slice-aggregate-tasks-ok : tie.Need-slice-aggregate-tasks-ok
-slice-aggregate-tasks-ok c = search needs
-
-tasks-ok-requires : tie.Need-tasks-ok-requires
-tasks-ok-requires c κs = search needs
-
 returns-4 : tie.Need-returns-4
 unfolding sound
 returns-4 c =
@@ -82,15 +61,15 @@ pub sound-spec : {M : Type 1} → statement M
 sound-spec =
     tie.close
     (tie.spec
-    numbers-ok-requires
+    (λ c κs. search needs)
     returns
-    operations-ok-requires
+    (λ c κs. search needs)
     returns-2
-    kinds-of-requires
-    slice-aggregate-versions-ok
-    cast-versions-ok
+    (λ c κs. search needs)
+    (λ c. search needs)
+    (λ c. search needs)
     versions-ok-requires
     returns-3
-    slice-aggregate-tasks-ok
-    tasks-ok-requires
+    (λ c. search needs)
+    (λ c κs. search needs)
     returns-4)

@@ -6,17 +6,11 @@ use borrow.Author.Needs.{needs}
 use Rattle.coop_sound.proofs.task_ok.Statement.{statement}
 use Rattle.coop_sound.proofs.task_ok.Tie as tie
 
-running-ok-requires : tie.Need-running-ok-requires
-running-ok-requires c κs = search needs
-
 returns : tie.Need-returns
 unfolding sound-task
 returns c =
     let at-if1 = c .before in
     λ vs ks. c .running-ok .ensures vs ks ∙ sym (if-true _ _ _ (at-if1 .if1 .taken))
-
-idle-ok-requires : tie.Need-idle-ok-requires
-idle-ok-requires c κs = search needs
 
 returns-2 : tie.Need-returns-2
 unfolding sound-task
@@ -25,4 +19,4 @@ returns-2 c =
     λ vs ks. c .idle-ok .ensures ∙ sym (if-false _ _ _ (at-if1 .if1 .left))
 
 pub task-ok-spec : {M : Type 1} → statement M
-task-ok-spec = tie.close (tie.spec running-ok-requires returns idle-ok-requires returns-2)
+task-ok-spec = tie.close (tie.spec (λ c κs. search needs) returns (λ c κs. search needs) returns-2)

@@ -27,18 +27,6 @@ len c = search (needs, length-mapped)
 loop-holds : tie.Need-loop-holds Inv-loop μ-loop
 loop-holds c = (omega arith, λ vs ks. refl)
 
-mul-c : tie.Need-mul-c Inv-loop μ-loop
-mul-c c = search needs
-
-array-copy-out-c : tie.Need-array-copy-out-c Inv-loop μ-loop
-array-copy-out-c c = search needs
-
-cast-task-ok : tie.Need-cast-task-ok Inv-loop μ-loop
-cast-task-ok c = search needs
-
-task-ok-requires : tie.Need-task-ok-requires Inv-loop μ-loop
-task-ok-requires c κs = search needs
-
 returns : tie.Need-returns Inv-loop μ-loop
 returns c =
     let at-loop = c .before .before .before .before in
@@ -48,12 +36,6 @@ returns c =
     let fails = sym (c .before .task-ok .ensures vs ks) ∙ not-true _ (c .if1 .taken) in
     let y = machine-of s vs in
     sym (at-loop .loop .inv .1 vs ks ∙ tasks-no y (s .task) (at-loop .loop .k) _ (omega (arith, len start)) fails)
-
-add-k : tie.Need-add-k Inv-loop μ-loop
-add-k c = search needs
-
-loop-less : tie.Need-loop-less Inv-loop μ-loop
-loop-less c = search needs
 
 loop-again : tie.Need-loop-again Inv-loop μ-loop
 loop-again c =
@@ -80,12 +62,12 @@ tasks-ok-spec =
     Inv-loop
     μ-loop
     loop-holds
-    mul-c
-    array-copy-out-c
-    cast-task-ok
-    task-ok-requires
+    (λ c. search needs)
+    (λ c. search needs)
+    (λ c. search needs)
+    (λ c κs. search needs)
     returns
-    add-k
-    loop-less
+    (λ c. search needs)
+    (λ c. search needs)
     loop-again
     returns-2)

@@ -6,18 +6,9 @@ use borrow.Author.Needs.{needs}
 use Rattle.coop_sound.proofs.version_ok.Statement.{statement}
 use Rattle.coop_sound.proofs.version_ok.Tie as tie
 
-shared-slice-read-m : tie.Need-shared-slice-read-m
-shared-slice-read-m c = search needs
-
-op-word-ok-requires : tie.Need-op-word-ok-requires
-op-word-ok-requires c κs = search needs
-
 returns : tie.Need-returns
 unfolding sound-version
 returns c = λ y ks. rw (sym (c .before .op-word-ok .ensures y ks) ∙ not-true _ (c .if1 .taken))
-
-tags-ok-requires : tie.Need-tags-ok-requires
-tags-ok-requires c κs = search needs
 
 returns-2 : tie.Need-returns-2
 unfolding sound-version sound-tags
@@ -27,4 +18,4 @@ returns-2 c =
 
 pub version-ok-spec : {M : Type 1} → statement M
 version-ok-spec =
-    tie.close (tie.spec shared-slice-read-m op-word-ok-requires returns tags-ok-requires returns-2)
+    tie.close (tie.spec (λ c. search needs) (λ c κs. search needs) returns (λ c κs. search needs) returns-2)

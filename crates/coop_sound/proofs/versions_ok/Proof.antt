@@ -24,21 +24,6 @@ abbrev μ-loop : tie.MeasureT-loop
 loop-holds : tie.Need-loop-holds Inv-loop μ-loop
 loop-holds c = (omega arith, λ y ks. rw sub-zero)
 
-mul-at : tie.Need-mul-at Inv-loop μ-loop
-mul-at c = search needs
-
-mul-version-ok : tie.Need-mul-version-ok Inv-loop μ-loop
-mul-version-ok c = search needs
-
-sub-version-ok : tie.Need-sub-version-ok Inv-loop μ-loop
-sub-version-ok c = search needs
-
-part-version-ok-start : tie.Need-part-version-ok-start Inv-loop μ-loop
-part-version-ok-start c = search needs
-
-part-version-ok-end : tie.Need-part-version-ok-end Inv-loop μ-loop
-part-version-ok-end c = search needs
-
 version-ok-requires : tie.Need-version-ok-requires Inv-loop μ-loop
 version-ok-requires c κs =
     let at-loop = c .before .before in
@@ -55,12 +40,6 @@ returns c =
     λ y ks.
     let fails = ap (sound-version y) (sym (rest w (66 * k))) ∙ sym (c .before .version-ok .ensures y ks) ∙ not-true _ (c .if1 .taken) in
     sym (at-loop .loop .inv .1 y ks ∙ versions-no y w (a .n) k (omega arith) fails)
-
-add-k : tie.Need-add-k Inv-loop μ-loop
-add-k c = search needs
-
-loop-less : tie.Need-loop-less Inv-loop μ-loop
-loop-less c = search needs
 
 loop-again : tie.Need-loop-again Inv-loop μ-loop
 loop-again c =
@@ -88,14 +67,14 @@ versions-ok-spec =
     Inv-loop
     μ-loop
     loop-holds
-    mul-at
-    mul-version-ok
-    sub-version-ok
-    part-version-ok-start
-    part-version-ok-end
+    (λ c. search needs)
+    (λ c. search needs)
+    (λ c. search needs)
+    (λ c. search needs)
+    (λ c. search needs)
     version-ok-requires
     returns
-    add-k
-    loop-less
+    (λ c. search needs)
+    (λ c. search needs)
     loop-again
     returns-2)

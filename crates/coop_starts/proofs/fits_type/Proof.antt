@@ -4,9 +4,6 @@ use borrow.Author.Needs.{needs}
 use Rattle.coop_starts.proofs.fits_type.Statement.{statement}
 use Rattle.coop_starts.proofs.fits_type.Tie as tie
 
-operation-requires : tie.Need-operation-requires
-operation-requires c κs = search needs
-
 returns : tie.Need-returns
 unfolding fits-type
 returns c =
@@ -14,4 +11,4 @@ returns c =
     λ vs. rw (at-operation .operation .ensures vs)
 
 pub fits-type-spec : {M : Type 1} → statement M
-fits-type-spec = tie.close (tie.spec operation-requires returns)
+fits-type-spec = tie.close (tie.spec (λ c κs. search needs) returns)

@@ -4,27 +4,6 @@ use borrow.Author.Needs.{needs}
 use Rattle.coop_starts.proofs.fixed.Statement.{statement}
 use Rattle.coop_starts.proofs.fixed.Tie as tie
 
-enum-told : tie.Need-enum-told
-enum-told c = search needs
-
-set-type-requires : tie.Need-set-type-requires
-set-type-requires c κs = search needs
-
-enum-told-2 : tie.Need-enum-told-2
-enum-told-2 c = search needs
-
-set-type-requires-2 : tie.Need-set-type-requires-2
-set-type-requires-2 c κs = search needs
-
-enum-told-3 : tie.Need-enum-told-3
-enum-told-3 c = search needs
-
-enum-told-4 : tie.Need-enum-told-4
-enum-told-4 c = search needs
-
-enum-told-5 : tie.Need-enum-told-5
-enum-told-5 c = search needs
-
 returns : tie.Need-returns
 unfolding fixing
 returns c = λ vs. rw (c .before .enum-told .given .1) (c .set-type .ensures vs)
@@ -49,13 +28,13 @@ pub fixed-spec : {M : Type 1} → statement M
 fixed-spec =
     tie.close
     (tie.spec
-    enum-told
-    set-type-requires
-    enum-told-2
-    set-type-requires-2
-    enum-told-3
-    enum-told-4
-    enum-told-5
+    (λ c. search needs)
+    (λ c κs. search needs)
+    (λ c. search needs)
+    (λ c κs. search needs)
+    (λ c. search needs)
+    (λ c. search needs)
+    (λ c. search needs)
     returns
     returns-2
     returns-3

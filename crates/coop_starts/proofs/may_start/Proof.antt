@@ -4,30 +4,6 @@ use borrow.Author.Needs.{needs}
 use Rattle.coop_starts.proofs.may_start.Statement.{statement}
 use Rattle.coop_starts.proofs.may_start.Tie as tie
 
-enum-told : tie.Need-enum-told
-enum-told c = search needs
-
-fits-type-requires : tie.Need-fits-type-requires
-fits-type-requires c κs = search needs
-
-enum-told-2 : tie.Need-enum-told-2
-enum-told-2 c = search needs
-
-fits-type-requires-2 : tie.Need-fits-type-requires-2
-fits-type-requires-2 c κs = search needs
-
-enum-told-3 : tie.Need-enum-told-3
-enum-told-3 c = search needs
-
-enum-told-4 : tie.Need-enum-told-4
-enum-told-4 c = search needs
-
-enum-told-5 : tie.Need-enum-told-5
-enum-told-5 c = search needs
-
-operation-requires : tie.Need-operation-requires
-operation-requires c κs = search needs
-
 returns : tie.Need-returns
 unfolding may-start
 returns c = λ vs. rw (c .before .enum-told .given .1) (c .fits-type .ensures vs)
@@ -54,14 +30,14 @@ pub may-start-spec : {M : Type 1} → statement M
 may-start-spec =
     tie.close
     (tie.spec
-    enum-told
-    fits-type-requires
-    enum-told-2
-    fits-type-requires-2
-    enum-told-3
-    enum-told-4
-    enum-told-5
-    operation-requires
+    (λ c. search needs)
+    (λ c κs. search needs)
+    (λ c. search needs)
+    (λ c κs. search needs)
+    (λ c. search needs)
+    (λ c. search needs)
+    (λ c. search needs)
+    (λ c κs. search needs)
     returns
     returns-2
     returns-3

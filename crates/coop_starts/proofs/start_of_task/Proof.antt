@@ -10,15 +10,6 @@ use borrow.Author.Needs.{needs}
 use Rattle.coop_starts.proofs.start_of_task.Statement.{statement}
 use Rattle.coop_starts.proofs.start_of_task.Tie as tie
 
-task-requires : tie.Need-task-requires
-task-requires c κs = search needs
-
-may-start-requires : tie.Need-may-start-requires
-may-start-requires c κs = search needs
-
-refused-requires : tie.Need-refused-requires
-refused-requires c κs = search needs
-
 returns : tie.Need-returns
 unfolding start-of-task
 returns c =
@@ -31,15 +22,6 @@ returns c =
     let barred : (task-of y (a .k) .running || not (may-start y (a .call) (a .n) (a .tag))) ≡ true =
     rw (← at-task .task .ensures vs, ← at-may-start .may-start .ensures vs) (at-if1 .if1 .taken) in
     rw barred (c .refused .ensures vs)
-
-begun-requires : tie.Need-begun-requires
-begun-requires c κs = search needs
-
-fixed-requires : tie.Need-fixed-requires
-fixed-requires c κs = search needs
-
-with-task-requires : tie.Need-with-task-requires
-with-task-requires c κs = search needs
 
 returns-2 : tie.Need-returns-2
 unfolding start-of-task
@@ -65,11 +47,11 @@ pub start-of-task-spec : {M : Type 1} → statement M
 start-of-task-spec =
     tie.close
     (tie.spec
-    task-requires
-    may-start-requires
-    refused-requires
+    (λ c κs. search needs)
+    (λ c κs. search needs)
+    (λ c κs. search needs)
     returns
-    begun-requires
-    fixed-requires
-    with-task-requires
+    (λ c κs. search needs)
+    (λ c κs. search needs)
+    (λ c κs. search needs)
     returns-2)

@@ -4,12 +4,6 @@ use borrow.Author.Needs.{needs}
 use Rattle.coop_state.proofs.fresh_state.Statement.{statement}
 use Rattle.coop_state.proofs.fresh_state.Tie as tie
 
-never-requires : tie.Need-never-requires
-never-requires c κs = search needs
-
-idle-requires : tie.Need-idle-requires
-idle-requires c κs = search needs
-
 returns : tie.Need-returns
 unfolding state-of
 returns c =
@@ -20,6 +14,6 @@ pub fresh-state-spec : {M : Type 1} → statement M
 fresh-state-spec =
     tie.close
     (tie.spec
-    never-requires
-    idle-requires
+    (λ c κs. search needs)
+    (λ c κs. search needs)
     returns)

@@ -13,18 +13,12 @@ use Rattle.coop_state.proofs.operation.Tie as tie
 len : (c : tie.Start) → length (c .args .t1 .operation) ≡ 64
 len c = search (needs, length-mapped)
 
-never-requires : tie.Need-never-requires
-never-requires c κs = search needs
-
 returns : tie.Need-returns
 unfolding operation-of
 returns c =
     let start = c .before .before in
     let a = start .args in
     λ vs. c .never .ensures ∙ sym (List·getD-eq-default (a .t1 .operation) never-invoked (omega (arith, len start)))
-
-mul-op : tie.Need-mul-op
-mul-op c = search needs
 
 element-copy-out-op : tie.Need-element-copy-out-op
 element-copy-out-op c = search (needs, length-mapped)
@@ -38,4 +32,4 @@ returns-2 c =
 
 pub operation-spec : {M : Type 1} → statement M
 operation-spec =
-    tie.close (tie.spec never-requires returns mul-op element-copy-out-op returns-2)
+    tie.close (tie.spec (λ c κs. search needs) returns (λ c. search needs) element-copy-out-op returns-2)

@@ -7,12 +7,6 @@ use borrow.Author.Needs.{needs}
 use Rattle.coop_state.proofs.set_resp.Statement.{statement}
 use Rattle.coop_state.proofs.set_resp.Tie as tie
 
-operation-requires : tie.Need-operation-requires
-operation-requires c κs = search needs
-
-with-operation-requires : tie.Need-with-operation-requires
-with-operation-requires c κs = search needs
-
 returns : tie.Need-returns
 unfolding apply with-resp
 returns c =
@@ -22,4 +16,4 @@ returns c =
     ∙ ap (λ (q : Operation). set-operation (a .n) (with-resp (a .b) q) (machine-of (a .s) vs)) (at-operation .operation .ensures vs)
 
 pub set-resp-spec : {M : Type 1} → statement M
-set-resp-spec = tie.close (tie.spec operation-requires with-operation-requires returns)
+set-resp-spec = tie.close (tie.spec (λ c κs. search needs) (λ c κs. search needs) returns)

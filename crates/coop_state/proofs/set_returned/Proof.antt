@@ -7,12 +7,6 @@ use borrow.Author.Needs.{needs}
 use Rattle.coop_state.proofs.set_returned.Statement.{statement}
 use Rattle.coop_state.proofs.set_returned.Tie as tie
 
-operation-requires : tie.Need-operation-requires
-operation-requires c κs = search needs
-
-with-operation-requires : tie.Need-with-operation-requires
-with-operation-requires c κs = search needs
-
 returns : tie.Need-returns
 unfolding apply as-returned
 returns c =
@@ -22,4 +16,4 @@ returns c =
     ∙ ap (λ (q : Operation). set-operation (a .n) (as-returned q) (machine-of (a .s) vs)) (at-operation .operation .ensures vs)
 
 pub set-returned-spec : {M : Type 1} → statement M
-set-returned-spec = tie.close (tie.spec operation-requires with-operation-requires returns)
+set-returned-spec = tie.close (tie.spec (λ c κs. search needs) (λ c κs. search needs) returns)

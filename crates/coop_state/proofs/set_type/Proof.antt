@@ -6,12 +6,6 @@ use borrow.Author.Needs.{needs}
 use Rattle.coop_state.proofs.set_type.Statement.{statement}
 use Rattle.coop_state.proofs.set_type.Tie as tie
 
-operation-requires : tie.Need-operation-requires
-operation-requires c κs = search needs
-
-with-operation-requires : tie.Need-with-operation-requires
-with-operation-requires c κs = search needs
-
 returns : tie.Need-returns
 unfolding with-type
 returns c =
@@ -21,4 +15,4 @@ returns c =
     ∙ ap (λ (q : Operation). set-operation (a .n) (with-type (a .kind) (a .tag) q) (machine-of (a .s) vs)) (at-operation .operation .ensures vs)
 
 pub set-type-spec : {M : Type 1} → statement M
-set-type-spec = tie.close (tie.spec operation-requires with-operation-requires returns)
+set-type-spec = tie.close (tie.spec (λ c κs. search needs) (λ c κs. search needs) returns)

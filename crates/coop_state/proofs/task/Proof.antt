@@ -12,18 +12,12 @@ use Rattle.coop_state.proofs.task.Tie as tie
 len : (c : tie.Start) → length (c .args .t1 .task) ≡ 8
 len c = search (needs, length-mapped)
 
-idle-requires : tie.Need-idle-requires
-idle-requires c κs = search needs
-
 returns : tie.Need-returns
 unfolding task-of
 returns c =
     let start = c .before .before in
     let a = start .args in
     λ vs. c .idle .ensures ∙ sym (List·getD-eq-default (a .t1 .task) idle (omega (arith, len start)))
-
-mul-c : tie.Need-mul-c
-mul-c c = search needs
 
 element-copy-out-c : tie.Need-element-copy-out-c
 element-copy-out-c c = search (needs, length-mapped)
@@ -39,8 +33,8 @@ pub task-spec : {M : Type 1} → statement M
 task-spec =
     tie.close
     (tie.spec
-    idle-requires
+    (λ c κs. search needs)
     returns
-    mul-c
+    (λ c. search needs)
     element-copy-out-c
     returns-2)

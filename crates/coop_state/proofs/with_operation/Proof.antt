@@ -19,15 +19,9 @@ returns c =
     let a = start .args in
     λ vs. rw (set-out (a .s .operation) (a .n) (a .op) (omega (arith, len start)))
 
-mul-op : tie.Need-mul-op
-mul-op c = search needs
-
-element-set-from-op : tie.Need-element-set-from-op
-element-set-from-op c = search needs
-
 returns-2 : tie.Need-returns-2
 unfolding set-operation with-operations with-state
 returns-2 c = λ vs. refl
 
 pub with-operation-spec : {M : Type 1} → statement M
-with-operation-spec = tie.close (tie.spec returns mul-op element-set-from-op returns-2)
+with-operation-spec = tie.close (tie.spec returns (λ c. search needs) (λ c. search needs) returns-2)

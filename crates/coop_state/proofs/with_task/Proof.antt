@@ -19,15 +19,9 @@ returns c =
     let a = start .args in
     λ vs. rw (set-out (a .s .task) (a .k) (a .c) (omega (arith, len start)))
 
-mul-c : tie.Need-mul-c
-mul-c c = search needs
-
-element-set-from-c : tie.Need-element-set-from-c
-element-set-from-c c = search needs
-
 returns-2 : tie.Need-returns-2
 unfolding set-task with-task with-state
 returns-2 c = λ vs. refl
 
 pub with-task-spec : {M : Type 1} → statement M
-with-task-spec = tie.close (tie.spec returns mul-c element-set-from-c returns-2)
+with-task-spec = tie.close (tie.spec returns (λ c. search needs) (λ c. search needs) returns-2)

@@ -7,21 +7,9 @@ use borrow.Author.Needs.{needs}
 use Rattle.dispatch.proofs.after_step.Statement.{statement}
 use Rattle.dispatch.proofs.after_step.Tie as tie
 
-enum-known-out : tie.Need-enum-known-out
-enum-known-out c = search needs
-
-enum-known-out-2 : tie.Need-enum-known-out-2
-enum-known-out-2 c = search needs
-
-enum-known-out-3 : tie.Need-enum-known-out-3
-enum-known-out-3 c = search needs
-
 returns : tie.Need-returns
 unfolding by-output state-chosen
 returns c = rw (c .before .before .out3 .given .1, eq-eqb _ 7 (c .if1 .taken))
-
-sound-requires : tie.Need-sound-requires
-sound-requires c κs = search needs
 
 returns-2 : tie.Need-returns-2
 unfolding by-output
@@ -49,11 +37,11 @@ pub after-step-spec : {M : Type 1} → statement M
 after-step-spec =
     tie.close
     (tie.spec
-    enum-known-out
-    enum-known-out-2
-    enum-known-out-3
+    (λ c. search needs)
+    (λ c. search needs)
+    (λ c. search needs)
     returns
-    sound-requires
+    (λ c κs. search needs)
     returns-2
     returns-3
     returns-4

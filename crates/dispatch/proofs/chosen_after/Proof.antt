@@ -4,9 +4,6 @@ use borrow.Author.Needs.{needs}
 use Rattle.dispatch.proofs.chosen_after.Statement.{statement}
 use Rattle.dispatch.proofs.chosen_after.Tie as tie
 
-uses-turn-requires : tie.Need-uses-turn-requires
-uses-turn-requires c κs = search needs
-
 returns : tie.Need-returns
 returns c = rw (sym (c .before .uses-turn .ensures) ∙ c .if1 .taken)
 
@@ -14,4 +11,4 @@ returns-2 : tie.Need-returns-2
 returns-2 c = rw (sym (c .before .uses-turn .ensures) ∙ c .if1 .left)
 
 pub chosen-after-spec : {M : Type 1} → statement M
-chosen-after-spec = tie.close (tie.spec uses-turn-requires returns returns-2)
+chosen-after-spec = tie.close (tie.spec (λ c κs. search needs) returns returns-2)

@@ -32,12 +32,6 @@ returns-2 c = λ ns bs. sym (chosen-past _ (c .if2 .taken))
 loop-holds : tie.Need-loop-holds Inv-loop μ-loop
 loop-holds c = (omega arith, omega arith, λ ls x. ap (first-free ls) (free-start ls _ _))
 
-add-k : tie.Need-add-k Inv-loop μ-loop
-add-k c = search needs
-
-rem-k : tie.Need-rem-k Inv-loop μ-loop
-rem-k c = search needs
-
 -- the j-th task after the last one chosen is one of the first eight
 below : (last j t : ℕ) → last < t → t ≤ 8 → (last + j) % t < 8
 below last j t h most = let b : (last + j) % t < t = mod-lt (last + j) {m = t} (omega arith) in omega arith
@@ -79,12 +73,6 @@ returns-3 c =
     next-found (machine-of s ns bs) (omega arith) (omega arith) (link ((s .chosen + j) % t)) (λ ls x.
     at-loop .loop .inv .2 ls x ∙ free-here ls t (s .chosen) j (in-loop .loop-test .taken) (x ((s .chosen + j) % t) b ∙ ap not (c .if3 .taken)))
 
-add-j : tie.Need-add-j Inv-loop μ-loop
-add-j c = search needs
-
-loop-less : tie.Need-loop-less Inv-loop μ-loop
-loop-less c = search needs
-
 loop-again : tie.Need-loop-again Inv-loop μ-loop
 unfolding idle
 loop-again c =
@@ -117,14 +105,14 @@ next-task-spec =
     returns
     returns-2
     loop-holds
-    add-k
-    rem-k
+    (λ c. search needs)
+    (λ c. search needs)
     cast-c
     mul-c
     array-copy-out-c
     add-result
     returns-3
-    add-j
-    loop-less
+    (λ c. search needs)
+    (λ c. search needs)
     loop-again
     returns-4)

@@ -11,24 +11,6 @@ use borrow.Author.Needs.{needs}
 use Rattle.dispatch.proofs.turn.Statement.{statement}
 use Rattle.dispatch.proofs.turn.Tie as tie
 
-next-task-requires : tie.Need-next-task-requires
-next-task-requires c κs = search needs
-
-sub-k : tie.Need-sub-k
-sub-k c = search needs
-
-step-requires : tie.Need-step-requires
-step-requires c κs = search needs
-
-after-step-requires : tie.Need-after-step-requires
-after-step-requires c κs = search needs
-
-same-length : tie.Need-same-length
-same-length c = search needs
-
-same-length-2 : tie.Need-same-length-2
-same-length-2 c = search needs
-
 returns : tie.Need-returns
 returns c =
     let at-words = c .before .before .before in
@@ -41,15 +23,6 @@ returns c =
     rw (c .after-step .ensures)
     (turn-goes y (l - 1) (sym (at-next .next-task .ensures _ _) ∙ some) (at-step .step .result) _ _ (at-step .step .ensures))
 
-sound-requires : tie.Need-sound-requires
-sound-requires c κs = search needs
-
-same-length-3 : tie.Need-same-length-3
-same-length-3 c = search needs
-
-same-length-4 : tie.Need-same-length-4
-same-length-4 c = search needs
-
 returns-2 : tie.Need-returns-2
 returns-2 c =
     let at-sound = c .before in
@@ -59,12 +32,6 @@ returns-2 c =
     let y = machine-of (a .s) (now (a .ns)) (now (a .bs)) in
     let none : next-to-step y ≡ 0 = sym (at-next .next-task .ensures _ _) ∙ no-task .if1 .left in
     nothing-runs y (sym (at-sound .sound .ensures) ∙ c .if2 .taken) none
-
-same-length-5 : tie.Need-same-length-5
-same-length-5 c = search needs
-
-same-length-6 : tie.Need-same-length-6
-same-length-6 c = search needs
 
 returns-3 : tie.Need-returns-3
 returns-3 c =
@@ -76,17 +43,17 @@ pub turn-spec : {M : Type 1} → statement M
 turn-spec =
     tie.close
     (tie.spec
-    next-task-requires
-    sub-k
-    step-requires
-    after-step-requires
-    same-length
-    same-length-2
+    (λ c κs. search needs)
+    (λ c. search needs)
+    (λ c κs. search needs)
+    (λ c κs. search needs)
+    (λ c. search needs)
+    (λ c. search needs)
     returns
-    sound-requires
-    same-length-3
-    same-length-4
+    (λ c κs. search needs)
+    (λ c. search needs)
+    (λ c. search needs)
     returns-2
-    same-length-5
-    same-length-6
+    (λ c. search needs)
+    (λ c. search needs)
     returns-3)

@@ -28,9 +28,6 @@ len c = search (needs, length-mapped)
 returns : tie.Need-returns
 returns c = let a = c .before .before .before .before in none-room (a .args .i) (a .args .n) (entry a) (now (a .args .outs)) (c .if1 .taken)
 
-next-task-requires : tie.Need-next-task-requires
-next-task-requires c κs = search needs
-
 returns-2 : tie.Need-returns-2
 returns-2 c =
     let at-next = c .before in
@@ -39,21 +36,6 @@ returns-2 c =
     let none = sym (at-next .next-task .ensures (now (a .args .ns)) (now (a .args .bs))) ∙ c .if2 .taken in
     none-runs (a .args .i) (a .args .n) (entry a) (now (a .args .outs)) (room .if1 .left) (nothing-runs (entry a) (a .pre .1) none)
 
-sub-k : tie.Need-sub-k
-sub-k c = search needs
-
-cast-c : tie.Need-cast-c
-cast-c c = search needs
-
-mul-c : tie.Need-mul-c
-mul-c c = search needs
-
-element-copy-out-c : tie.Need-element-copy-out-c
-element-copy-out-c c = search needs
-
-known-sound-requires : tie.Need-known-sound-requires
-known-sound-requires c κs = search needs
-
 step-requires : tie.Need-step-requires
 unfolding task-of idle
 step-requires c κs =
@@ -61,32 +43,8 @@ step-requires c κs =
     let a = at-known .before .before .before .before .before .before .before .before in
     rw (a .pre .1) (at-known .known-sound .ensures (entry a) (len a) refl)
 
-put-named-requires : tie.Need-put-named-requires
-put-named-requires c κs = search needs
-
-chosen-after-requires : tie.Need-chosen-after-requires
-chosen-after-requires c κs = search needs
-
-changes-requires : tie.Need-changes-requires
-changes-requires c κs = search needs
-
-cast-j : tie.Need-cast-j
-cast-j c = search needs
-
-mul-x : tie.Need-mul-x
-mul-x c = search needs
-
 element-set-from-x : tie.Need-element-set-from-x
 element-set-from-x c = changes-below _ _ (sym (c .before .before .changes .ensures) ∙ c .before .if3 .taken)
-
-same-length : tie.Need-same-length
-same-length c = search needs
-
-same-length-2 : tie.Need-same-length-2
-same-length-2 c = search needs
-
-same-length-3 : tie.Need-same-length-3
-same-length-3 c = search needs
 
 -- the task that is next has been stepped, and the words of its turn are written
 module _ (p : tie.After-chosen-after) where
@@ -124,15 +82,6 @@ returns-3 c =
     names-one (a p .args .i) (a p .args .n) (entry (a p)) (now (a p .args .outs)) (room p .if1 .left) (a p .pre .1) (k p) (next p) _ _ reply _
     (p .chosen-after .ensures) _ (at-put p .put-named .ensures)
 
-same-length-4 : tie.Need-same-length-4
-same-length-4 c = search needs
-
-same-length-5 : tie.Need-same-length-5
-same-length-5 c = search needs
-
-same-length-6 : tie.Need-same-length-6
-same-length-6 c = search needs
-
 returns-4 : tie.Need-returns-4
 unfolding state-head state-last-node state-last-bucket state-task state-chosen with-chosen with-state
 returns-4 c =
@@ -149,25 +98,25 @@ turn-taken-spec =
     tie.close
     (tie.spec
     returns
-    next-task-requires
+    (λ c κs. search needs)
     returns-2
-    sub-k
-    cast-c
-    mul-c
-    element-copy-out-c
-    known-sound-requires
+    (λ c. search needs)
+    (λ c. search needs)
+    (λ c. search needs)
+    (λ c. search needs)
+    (λ c κs. search needs)
     step-requires
-    put-named-requires
-    chosen-after-requires
-    changes-requires
-    cast-j
-    mul-x
+    (λ c κs. search needs)
+    (λ c κs. search needs)
+    (λ c κs. search needs)
+    (λ c. search needs)
+    (λ c. search needs)
     element-set-from-x
-    same-length
-    same-length-2
-    same-length-3
+    (λ c. search needs)
+    (λ c. search needs)
+    (λ c. search needs)
     returns-3
-    same-length-4
-    same-length-5
-    same-length-6
+    (λ c. search needs)
+    (λ c. search needs)
+    (λ c. search needs)
     returns-4)

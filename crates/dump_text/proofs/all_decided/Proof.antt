@@ -12,37 +12,16 @@ Inv-loop out₀ at s ns ts n to₀ i₀ out to i = (to ≤ length out₀) × (le
 abbrev μ-loop : tie.MeasureT-loop
 μ-loop out₀ at s ns ts n to₀ i₀ out to i = 64 - i
 
-loop-holds : tie.Need-loop-holds Inv-loop μ-loop
-loop-holds c = search needs
-
-decided-requires : tie.Need-decided-requires Inv-loop μ-loop
-decided-requires c κs = search needs
-
-add-i : tie.Need-add-i Inv-loop μ-loop
-add-i c = search needs
-
-loop-less : tie.Need-loop-less Inv-loop μ-loop
-loop-less c = search needs
-
-loop-again : tie.Need-loop-again Inv-loop μ-loop
-loop-again c = search needs
-
-same-length : tie.Need-same-length Inv-loop μ-loop
-same-length c = search needs
-
-returns : tie.Need-returns Inv-loop μ-loop
-returns c = search needs
-
 pub all-decided-spec : {M : Type 1} → statement M
 all-decided-spec =
     tie.close
     (tie.spec
     Inv-loop
     μ-loop
-    loop-holds
-    decided-requires
-    add-i
-    loop-less
-    loop-again
-    same-length
-    returns)
+    (λ c. search needs)
+    (λ c κs. search needs)
+    (λ c. search needs)
+    (λ c. search needs)
+    (λ c. search needs)
+    (λ c. search needs)
+    (λ c. search needs))

@@ -3,14 +3,8 @@ use borrow.Author.Needs.{needs}
 use Rattle.hashset.proofs.moved_by_start.Statement.{statement}
 use Rattle.hashset.proofs.moved_by_start.Tie as tie
 
-check-requires : tie.Need-check-requires
-check-requires c κs = search needs
-
-start-requires : tie.Need-start-requires
-start-requires c κs = search needs
-
 returns : tie.Need-returns
 returns c = c .start .ensures _ _ (c .before .check .ensures)
 
 pub moved-by-start-spec : {M : Type 1} → statement M
-moved-by-start-spec = tie.close (tie.spec check-requires start-requires returns)
+moved-by-start-spec = tie.close (tie.spec (λ c κs. search needs) (λ c κs. search needs) returns)

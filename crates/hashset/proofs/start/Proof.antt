@@ -5,14 +5,8 @@ use borrow.Author.Needs.{needs}
 use Rattle.hashset.proofs.start.Statement.{statement}
 use Rattle.hashset.proofs.start.Tie as tie
 
-moved-by-start-requires : tie.Need-moved-by-start-requires
-moved-by-start-requires c κs = search needs
-
-settle-requires : tie.Need-settle-requires
-settle-requires c κs = search needs
-
 returns : tie.Need-returns
 returns c = c .settle .ensures _ _ ∙ c .before .moved-by-start .ensures .reply
 
 pub start-spec : {M : Type 1} → statement M
-start-spec = tie.close (tie.spec moved-by-start-requires settle-requires returns)
+start-spec = tie.close (tie.spec (λ c κs. search needs) (λ c κs. search needs) returns)

@@ -11,9 +11,6 @@ use Rattle.hashset_words.proofs.moved_by_start.Tie as tie
 abbrev start : tie.After-check → tie.Start
 start p = p .before .before .before .before
 
-check-requires : tie.Need-check-requires
-check-requires c κs = search needs
-
 config-of-requires : tie.Need-config-of-requires
 config-of-requires c κs = fits-long _ (start c .pre)
 
@@ -25,9 +22,6 @@ shared-slice-read-start-of-2 c = let p = start (c .before .before .before) in om
 
 shared-slice-read-start-of-3 : tie.Need-shared-slice-read-start-of-3
 shared-slice-read-start-of-3 c = let p = start (c .before .before .before .before) in omega (arith, fits-long (now (p .args .w)) (p .pre))
-
-start-of-requires : tie.Need-start-of-requires
-start-of-requires c κs = search needs
 
 returns : tie.Need-returns
 unfolding state-of-words
@@ -41,10 +35,10 @@ pub moved-by-start-spec : {M : Type 1} → statement M
 moved-by-start-spec =
     tie.close
     (tie.spec
-    check-requires
+    (λ c κs. search needs)
     config-of-requires
     shared-slice-read-start-of
     shared-slice-read-start-of-2
     shared-slice-read-start-of-3
-    start-of-requires
+    (λ c κs. search needs)
     returns)

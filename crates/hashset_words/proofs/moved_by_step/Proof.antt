@@ -25,9 +25,6 @@ module _ (p : tie.After-check) where
   tested : {b : Bool} → p .check .result .sound ≡ b → sound machine ≡ b
   tested e = sym (tells machine (start .args .k) (p .check .result) (p .check .ensures)) ∙ e
 
-check-requires : tie.Need-check-requires
-check-requires c κs = search needs
-
 shared-slice-read-refused : tie.Need-shared-slice-read-refused
 shared-slice-read-refused c = let p = start (c .before .before .before) in omega (arith, fits-long (now (p .args .w)) (p .pre))
 
@@ -36,15 +33,6 @@ shared-slice-read-refused-2 c = let p = start (c .before .before .before .before
 
 shared-slice-read-refused-3 : tie.Need-shared-slice-read-refused-3
 shared-slice-read-refused-3 c = let p = start (c .before .before .before .before .before) in omega (arith, fits-long (now (p .args .w)) (p .pre))
-
-refused-requires : tie.Need-refused-requires
-refused-requires c κs = search needs
-
-same-length : tie.Need-same-length
-same-length c = search needs
-
-same-length-2 : tie.Need-same-length-2
-same-length-2 c = search needs
 
 returns : tie.Need-returns
 unfolding state-of-words
@@ -66,12 +54,6 @@ step-requires c κs =
     let p = at-state .before .before .before in
     rw (at-state .state-of-words .ensures) (p .check .ensures)
 
-same-length-3 : tie.Need-same-length-3
-same-length-3 c = search needs
-
-same-length-4 : tie.Need-same-length-4
-same-length-4 c = search needs
-
 returns-2 : tie.Need-returns-2
 returns-2 c =
     let at-step = c .before .before .before .before in
@@ -82,16 +64,16 @@ pub moved-by-step-spec : {M : Type 1} → statement M
 moved-by-step-spec =
     tie.close
     (tie.spec
-    check-requires
+    (λ c κs. search needs)
     shared-slice-read-refused
     shared-slice-read-refused-2
     shared-slice-read-refused-3
-    refused-requires
-    same-length
-    same-length-2
+    (λ c κs. search needs)
+    (λ c. search needs)
+    (λ c. search needs)
     returns
     state-of-words-requires
     step-requires
-    same-length-3
-    same-length-4
+    (λ c. search needs)
+    (λ c. search needs)
     returns-2)

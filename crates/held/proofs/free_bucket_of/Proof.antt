@@ -36,27 +36,6 @@ returns-3 c =
     let y = machine-of (a .s) (now (a .ns)) bs in
     sym (bucket-last-past y (c .if3 .taken))
 
-slice-aggregate-mark-nodes : tie.Need-slice-aggregate-mark-nodes
-slice-aggregate-mark-nodes c = search needs
-
-mark-nodes-requires : tie.Need-mark-nodes-requires
-mark-nodes-requires c κs = search needs
-
-slice-aggregate-mark-placed : tie.Need-slice-aggregate-mark-placed
-slice-aggregate-mark-placed c = search needs
-
-mark-placed-requires : tie.Need-mark-placed-requires
-mark-placed-requires c κs = search needs
-
-slice-aggregate-mark-own : tie.Need-slice-aggregate-mark-own
-slice-aggregate-mark-own c = search needs
-
-mark-own-requires : tie.Need-mark-own-requires
-mark-own-requires c κs = search needs
-
-slice-aggregate-first-unmarked : tie.Need-slice-aggregate-first-unmarked
-slice-aggregate-first-unmarked c = search needs
-
 first-unmarked-requires : tie.Need-first-unmarked-requires
 first-unmarked-requires c κs =
     let l = c .before .before .before .before .before .mark-placed .ensures .long in
@@ -89,12 +68,12 @@ free-bucket-of-spec =
     returns
     returns-2
     returns-3
-    slice-aggregate-mark-nodes
-    mark-nodes-requires
-    slice-aggregate-mark-placed
-    mark-placed-requires
-    slice-aggregate-mark-own
-    mark-own-requires
-    slice-aggregate-first-unmarked
+    (λ c. search needs)
+    (λ c κs. search needs)
+    (λ c. search needs)
+    (λ c κs. search needs)
+    (λ c. search needs)
+    (λ c κs. search needs)
+    (λ c. search needs)
     first-unmarked-requires
     returns-4)

@@ -32,15 +32,6 @@ returns-3 c =
     let y = machine-of (a .s) (now (a .ns)) bs in
     sym (node-last-past y (c .if3 .taken))
 
-slice-aggregate-mark-nodes : tie.Need-slice-aggregate-mark-nodes
-slice-aggregate-mark-nodes c = search needs
-
-mark-nodes-requires : tie.Need-mark-nodes-requires
-mark-nodes-requires c κs = search needs
-
-slice-aggregate-first-unmarked : tie.Need-slice-aggregate-first-unmarked
-slice-aggregate-first-unmarked c = search needs
-
 first-unmarked-requires : tie.Need-first-unmarked-requires
 first-unmarked-requires c κs =
     let l = c .before .before .mark-nodes .ensures [] .long in
@@ -65,8 +56,8 @@ free-node-of-spec =
     returns
     returns-2
     returns-3
-    slice-aggregate-mark-nodes
-    mark-nodes-requires
-    slice-aggregate-first-unmarked
+    (λ c. search needs)
+    (λ c κs. search needs)
+    (λ c. search needs)
     first-unmarked-requires
     returns-4)

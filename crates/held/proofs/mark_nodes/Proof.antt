@@ -30,29 +30,8 @@ abbrev μ-loop : tie.MeasureT-loop
 len : (c : tie.Start Inv-loop μ-loop) → length (c .args .s .task) ≡ 8
 len c = search (needs, length-mapped)
 
-add-mark-chain : tie.Need-add-mark-chain Inv-loop μ-loop
-add-mark-chain c = search needs
-
-mark-chain-requires : tie.Need-mark-chain-requires Inv-loop μ-loop
-mark-chain-requires c κs = search needs
-
 loop-holds : tie.Need-loop-holds Inv-loop μ-loop
 loop-holds c = (omega arith, refl, λ q r. r)
-
-mul-c : tie.Need-mul-c Inv-loop μ-loop
-mul-c c = search needs
-
-array-copy-out-c : tie.Need-array-copy-out-c Inv-loop μ-loop
-array-copy-out-c c = search needs
-
-mark-task-nodes-requires : tie.Need-mark-task-nodes-requires Inv-loop μ-loop
-mark-task-nodes-requires c κs = search needs
-
-add-k : tie.Need-add-k Inv-loop μ-loop
-add-k c = search needs
-
-loop-less : tie.Need-loop-less Inv-loop μ-loop
-loop-less c = search needs
 
 loop-again : tie.Need-loop-again Inv-loop μ-loop
 loop-again c =
@@ -88,14 +67,14 @@ mark-nodes-spec =
     (tie.spec
     Inv-loop
     μ-loop
-    add-mark-chain
-    mark-chain-requires
+    (λ c. search needs)
+    (λ c κs. search needs)
     loop-holds
-    mul-c
-    array-copy-out-c
-    mark-task-nodes-requires
-    add-k
-    loop-less
+    (λ c. search needs)
+    (λ c. search needs)
+    (λ c κs. search needs)
+    (λ c. search needs)
+    (λ c. search needs)
     loop-again
     same-length
     returns)

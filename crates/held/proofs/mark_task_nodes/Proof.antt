@@ -8,15 +8,6 @@ use borrow.Author.Needs.{needs}
 use Rattle.held.proofs.mark_task_nodes.Statement.{statement}
 use Rattle.held.proofs.mark_task_nodes.Tie as tie
 
-mark-chain-requires : tie.Need-mark-chain-requires
-mark-chain-requires c κs = search needs
-
-mark-chain-requires-2 : tie.Need-mark-chain-requires-2
-mark-chain-requires-2 c κs = search needs
-
-mark-chain-requires-3 : tie.Need-mark-chain-requires-3
-mark-chain-requires-3 c κs = search needs
-
 same-length : tie.Need-same-length
 same-length c =
     let at-mark-chain2 = c .before .before .before .before .before .before in
@@ -40,9 +31,9 @@ pub mark-task-nodes-spec : {M : Type 1} → statement M
 mark-task-nodes-spec =
     tie.close
     (tie.spec
-    mark-chain-requires
-    mark-chain-requires-2
-    mark-chain-requires-3
+    (λ c κs. search needs)
+    (λ c κs. search needs)
+    (λ c κs. search needs)
     same-length
     returns
     returns-2)

@@ -32,12 +32,6 @@ abbrev μ-loop : tie.MeasureT-loop
 loop-holds : tie.Need-loop-holds Inv-loop μ-loop
 loop-holds c = (omega arith, omega arith, λ ls x. ap (first-free ls) (free-start ls _ _))
 
-add-k : tie.Need-add-k Inv-loop μ-loop
-add-k c = search needs
-
-rem-k : tie.Need-rem-k Inv-loop μ-loop
-rem-k c = search needs
-
 cast-if1 : tie.Need-cast-if1 Inv-loop μ-loop
 cast-if1 c =
     let n = c .before .before .args .n in
@@ -75,12 +69,6 @@ returns c =
     sym (x .each (turn ls n l j) (omega arith) (omega arith)) ∙ minus (now (a .m)) ((l + j) % n) ∙ not-true _ (c .if1 .taken) in
     sym (c .before .before .before .loop .inv .2 ls x ∙ free-here ls n l j (c .before .before .loop-test .taken) q)
 
-add-j : tie.Need-add-j Inv-loop μ-loop
-add-j c = search needs
-
-loop-less : tie.Need-loop-less Inv-loop μ-loop
-loop-less c = search needs
-
 loop-again : tie.Need-loop-again Inv-loop μ-loop
 loop-again c =
     let a = c .before .before .before .before .args in (
@@ -108,13 +96,13 @@ first-unmarked-spec =
     Inv-loop
     μ-loop
     loop-holds
-    add-k
-    rem-k
+    (λ c. search needs)
+    (λ c. search needs)
     cast-if1
     shared-slice-read-if1
     add-result
     returns
-    add-j
-    loop-less
+    (λ c. search needs)
+    (λ c. search needs)
     loop-again
     returns-2)

@@ -10,12 +10,6 @@ use Rattle.held_marks.proofs.mark.Tie as tie
 returns : tie.Need-returns
 returns c = mark-none (now (c .before .args .m)) (c .before .args .l) (c .if1 .taken)
 
-sub-k : tie.Need-sub-k
-sub-k c = search needs
-
-slice-write-m : tie.Need-slice-write-m
-slice-write-m c = search needs
-
 same-length : tie.Need-same-length
 same-length c = simp length-set
 
@@ -30,4 +24,4 @@ returns-3 c =
     mark-past (now (c .before .before .args .m)) (c .before .before .args .l) (omega (arith, z))
 
 pub mark-spec : {M : Type 1} → statement M
-mark-spec = tie.close (tie.spec returns sub-k slice-write-m same-length returns-2 returns-3)
+mark-spec = tie.close (tie.spec returns (λ c. search needs) (λ c. search needs) same-length returns-2 returns-3)

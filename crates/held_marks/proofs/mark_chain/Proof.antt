@@ -34,18 +34,6 @@ returns c =
     let loop = c .before .before .loop in
     finish (chain w (loop .left) (loop .at)) _ (chain-none w (loop .left) (loop .at) (c .if1 .taken)) (loop .inv .2)
 
-mark-requires : tie.Need-mark-requires Inv-loop μ-loop
-mark-requires c κs = search needs
-
-pred-of-requires : tie.Need-pred-of-requires Inv-loop μ-loop
-pred-of-requires c κs = search needs
-
-sub-left : tie.Need-sub-left Inv-loop μ-loop
-sub-left c = search needs
-
-loop-less : tie.Need-loop-less Inv-loop μ-loop
-loop-less c = search needs
-
 loop-again : tie.Need-loop-again Inv-loop μ-loop
 loop-again c =
     let at-if1 = c .before .before .before .before .before in
@@ -76,10 +64,10 @@ mark-chain-spec =
     loop-holds
     same-length
     returns
-    mark-requires
-    pred-of-requires
-    sub-left
-    loop-less
+    (λ c κs. search needs)
+    (λ c κs. search needs)
+    (λ c. search needs)
+    (λ c. search needs)
     loop-again
     same-length-2
     returns-2)

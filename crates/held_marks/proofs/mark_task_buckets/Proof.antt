@@ -5,18 +5,6 @@ use borrow.Author.Needs.{needs}
 use Rattle.held_marks.proofs.mark_task_buckets.Statement.{statement}
 use Rattle.held_marks.proofs.mark_task_buckets.Tie as tie
 
-mark-requires : tie.Need-mark-requires
-mark-requires c κs = search needs
-
-mark-requires-2 : tie.Need-mark-requires-2
-mark-requires-2 c κs = search needs
-
-mark-requires-3 : tie.Need-mark-requires-3
-mark-requires-3 c κs = search needs
-
-mark-requires-4 : tie.Need-mark-requires-4
-mark-requires-4 c κs = search needs
-
 same-length : tie.Need-same-length
 same-length c =
     let at-mark3 = c .before .before .before .before .before .before in
@@ -41,10 +29,10 @@ pub mark-task-buckets-spec : {M : Type 1} → statement M
 mark-task-buckets-spec =
     tie.close
     (tie.spec
-    mark-requires
-    mark-requires-2
-    mark-requires-3
-    mark-requires-4
+    (λ c κs. search needs)
+    (λ c κs. search needs)
+    (λ c κs. search needs)
+    (λ c κs. search needs)
     same-length
     returns
     returns-2)

@@ -13,9 +13,6 @@ use borrow.Author.Needs.{needs}
 use Rattle.known_memory.proofs.checked.Statement.{statement}
 use Rattle.known_memory.proofs.checked.Tie as tie
 
-idle-requires : tie.Need-idle-requires
-idle-requires c κs = search needs
-
 returns : tie.Need-returns
 unfolding told
 returns c =
@@ -37,4 +34,4 @@ returns-3 c =
     rw (c .before .before .idle .ensures) (sym (told-sound (sym s ∙ not-false _ (c .before .if1 .left)) ∙ rw (no-such-task y k l (c .if2 .left))))
 
 pub checked-spec : {M : Type 1} → statement M
-checked-spec = tie.close (tie.spec idle-requires returns returns-2 returns-3)
+checked-spec = tie.close (tie.spec (λ c κs. search needs) returns returns-2 returns-3)

@@ -10,24 +10,6 @@ use Rattle.known_memory.proofs.start.Tie as tie
 eight : (c : tie.Start) → length (c .args .t2 .task) ≡ 8
 eight c = search (needs, length-mapped)
 
-cast-c : tie.Need-cast-c
-cast-c c = search needs
-
-mul-c : tie.Need-mul-c
-mul-c c = search needs
-
-element-copy-out-c : tie.Need-element-copy-out-c
-element-copy-out-c c = search needs
-
-checked-requires : tie.Need-checked-requires
-checked-requires c κs = search needs
-
-start-requires : tie.Need-start-requires
-start-requires c κs = search needs
-
-settle-requires : tie.Need-settle-requires
-settle-requires c κs = search needs
-
 returns : tie.Need-returns
 unfolding task-of idle
 returns c =
@@ -41,10 +23,10 @@ pub start-spec : {M : Type 1} → statement M
 start-spec =
     tie.close
     (tie.spec
-    cast-c
-    mul-c
-    element-copy-out-c
-    checked-requires
-    start-requires
-    settle-requires
+    (λ c. search needs)
+    (λ c. search needs)
+    (λ c. search needs)
+    (λ c κs. search needs)
+    (λ c κs. search needs)
+    (λ c κs. search needs)
     returns)

@@ -10,33 +10,12 @@ use Rattle.known_memory.proofs.step.Tie as tie
 eight : (c : tie.Start) → length (c .args .t2 .task) ≡ 8
 eight c = search (needs, length-mapped)
 
-cast-c : tie.Need-cast-c
-cast-c c = search needs
-
-mul-c : tie.Need-mul-c
-mul-c c = search needs
-
-element-copy-out-c : tie.Need-element-copy-out-c
-element-copy-out-c c = search needs
-
-checked-requires : tie.Need-checked-requires
-checked-requires c κs = search needs
-
 step-requires : tie.Need-step-requires
 unfolding task-of idle
 step-requires c κs =
     let at-checked = c .before .before in
     let entry = at-checked .before .before .before .before in
     at-checked .checked .ensures _ (eight entry) refl (entry .pre)
-
-settle-requires : tie.Need-settle-requires
-settle-requires c κs = search needs
-
-same-length : tie.Need-same-length
-same-length c = search needs
-
-same-length-2 : tie.Need-same-length-2
-same-length-2 c = search needs
 
 returns : tie.Need-returns
 returns c = c .settle .ensures _ _ ∙ c .before .before .before .before .before .step .ensures .reply
@@ -45,12 +24,12 @@ pub step-spec : {M : Type 1} → statement M
 step-spec =
     tie.close
     (tie.spec
-    cast-c
-    mul-c
-    element-copy-out-c
-    checked-requires
+    (λ c. search needs)
+    (λ c. search needs)
+    (λ c. search needs)
+    (λ c κs. search needs)
     step-requires
-    settle-requires
-    same-length
-    same-length-2
+    (λ c κs. search needs)
+    (λ c. search needs)
+    (λ c. search needs)
     returns)

@@ -5,12 +5,9 @@ use borrow.Author.Needs.{needs}
 use Rattle.line_ends.proofs.end.Statement.{statement}
 use Rattle.line_ends.proofs.end.Tie as tie
 
-ended-requires : tie.Need-ended-requires
-ended-requires c κs = search needs
-
 returns : tie.Need-returns
 unfolding occupancy
 returns c = (λ ns bs. c .ended .ensures .0 ns bs 0 refl, c .ended .ensures .1)
 
 pub end-spec : {M : Type 1} → statement M
-end-spec = tie.close (tie.spec ended-requires returns)
+end-spec = tie.close (tie.spec (λ c κs. search needs) returns)

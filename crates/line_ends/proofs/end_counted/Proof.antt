@@ -7,9 +7,6 @@ use borrow.Author.Needs.{needs}
 use Rattle.line_ends.proofs.end_counted.Statement.{statement}
 use Rattle.line_ends.proofs.end_counted.Tie as tie
 
-ended-requires : tie.Need-ended-requires
-ended-requires c κs = search needs
-
 returns : tie.Need-returns
 unfolding occupancy
 returns c =
@@ -18,4 +15,4 @@ returns c =
     (λ ns bs e. c .ended .ensures .0 ns bs (p .args .c .b) (rw (ne-eqb _ _ filled, e)), c .ended .ensures .1)
 
 pub end-counted-spec : {M : Type 1} → statement M
-end-counted-spec = tie.close (tie.spec ended-requires returns)
+end-counted-spec = tie.close (tie.spec (λ c κs. search needs) returns)

@@ -6,12 +6,6 @@ use Rattle.line_ends.proofs.Ending.{ends-so}
 use Rattle.line_ends.proofs.ended.Statement.{statement}
 use Rattle.line_ends.proofs.ended.Tie as tie
 
-one-more-own-step-requires : tie.Need-one-more-own-step-requires
-one-more-own-step-requires c κs = search needs
-
-idle-requires : tie.Need-idle-requires
-idle-requires c κs = search needs
-
 returns : tie.Need-returns
 unfolding changes
 returns c =
@@ -23,4 +17,4 @@ returns c =
     )
 
 pub ended-spec : {M : Type 1} → statement M
-ended-spec = tie.close (tie.spec one-more-own-step-requires idle-requires returns)
+ended-spec = tie.close (tie.spec (λ c κs. search needs) (λ c κs. search needs) returns)

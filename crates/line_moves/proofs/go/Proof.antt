@@ -8,9 +8,6 @@ use Rattle.line_moves.proofs.Going.{goes-on}
 use Rattle.line_moves.proofs.go.Statement.{statement}
 use Rattle.line_moves.proofs.go.Tie as tie
 
-one-more-own-step-requires : tie.Need-one-more-own-step-requires
-one-more-own-step-requires c κs = search needs
-
 returns : tie.Need-returns
 unfolding with-line with-own changes
 returns c =
@@ -18,4 +15,4 @@ returns c =
     (λ ns bs. rw (c .one-more-own-step .ensures) (goes-on (p .args .s) (p .args .k) (p .args .c) (p .pre) ns bs (p .args .l)), lt-ltb _ _ (p .pre))
 
 pub go-spec : {M : Type 1} → statement M
-go-spec = tie.close (tie.spec one-more-own-step-requires returns)
+go-spec = tie.close (tie.spec (λ c κs. search needs) returns)

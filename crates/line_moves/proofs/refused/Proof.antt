@@ -4,12 +4,9 @@ use borrow.Author.Needs.{needs}
 use Rattle.line_moves.proofs.refused.Statement.{statement}
 use Rattle.line_moves.proofs.refused.Tie as tie
 
-idle-requires : tie.Need-idle-requires
-idle-requires c κs = search needs
-
 returns : tie.Need-returns
 unfolding refusal
 returns c = rw (c .idle .ensures)
 
 pub refused-spec : {M : Type 1} → statement M
-refused-spec = tie.close (tie.spec idle-requires returns)
+refused-spec = tie.close (tie.spec (λ c κs. search needs) returns)

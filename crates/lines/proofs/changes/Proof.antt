@@ -10,15 +10,6 @@ use Rattle.lines.proofs.changes.Tie as tie
 returns : tie.Need-returns
 returns c = sym (changes-past (c .before .args .out) (c .before .args .k) (c .if1 .taken))
 
-enum-told : tie.Need-enum-told
-enum-told c = search needs
-
-enum-told-2 : tie.Need-enum-told-2
-enum-told-2 c = search needs
-
-enum-told-3 : tie.Need-enum-told-3
-enum-told-3 c = search needs
-
 returns-2 : tie.Need-returns-2
 unfolding changes
 returns-2 c = rw (c .enum-told .given .1) (sym (lt-ltb _ _ (c .before .before .if1 .left)))
@@ -33,4 +24,4 @@ returns-4 c = rw (c .enum-told3 .given .1)
 
 pub changes-spec : {M : Type 1} → statement M
 changes-spec =
-    tie.close (tie.spec returns enum-told enum-told-2 enum-told-3 returns-2 returns-3 returns-4)
+    tie.close (tie.spec returns (λ c. search needs) (λ c. search needs) (λ c. search needs) returns-2 returns-3 returns-4)

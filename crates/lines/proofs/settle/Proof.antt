@@ -23,9 +23,6 @@ module _ (p : tie.Else1) where
   below : start .args .k < 8
   below = changes-below (start .args .m .out) (start .args .k) changing
 
-changes-requires : tie.Need-changes-requires
-changes-requires c κs = search needs
-
 returns : tie.Need-returns
 returns c =
     let a = c .before .before .args in
@@ -45,4 +42,4 @@ returns-2 c =
     λ ns bs. moved-on (a .s) (a .k) (a .m) ns bs refl (changing (c .before))
 
 pub settle-spec : {M : Type 1} → statement M
-settle-spec = tie.close (tie.spec changes-requires returns mul-x element-set-from-x returns-2)
+settle-spec = tie.close (tie.spec (λ c κs. search needs) returns mul-x element-set-from-x returns-2)

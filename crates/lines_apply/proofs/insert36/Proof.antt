@@ -123,30 +123,6 @@ module _ (p : tie.After-add-at) where
 
 -- ---- the needs
 
-cast-j : tie.Need-cast-j
-cast-j c = search needs
-
-sub-j : tie.Need-sub-j
-sub-j c = search needs
-
-mul-word : tie.Need-mul-word
-mul-word c = search needs
-
-add-word : tie.Need-add-word
-add-word c = search needs
-
-word-requires : tie.Need-word-requires
-word-requires c κs = search needs
-
-has-at-requires : tie.Need-has-at-requires
-has-at-requires c κs = search needs
-
-end-counted-requires : tie.Need-end-counted-requires
-end-counted-requires c κs = search needs
-
-same-length : tie.Need-same-length
-same-length c = search needs
-
 returns : tie.Need-returns
 returns c =
     let found = c .before .before in
@@ -154,15 +130,6 @@ returns c =
     going (c .end-counted .ensures .1)
     (c .end-counted .ensures .0 _ _ (number-is (found .before .before))
     ∙ sym (no-36 (machine q) _ (task q) (q .pre .0 .line) (filled q) (q .pre .0 .may-change) (q .pre .1) (sym (has found) ∙ c .before .if1 .taken)))
-
-count-requires : tie.Need-count-requires
-count-requires c κs = search needs
-
-end-counted-requires-2 : tie.Need-end-counted-requires-2
-end-counted-requires-2 c κs = search needs
-
-same-length-2 : tie.Need-same-length-2
-same-length-2 c = search needs
 
 returns-2 : tie.Need-returns-2
 returns-2 c =
@@ -175,27 +142,12 @@ returns-2 c =
     (c .end-counted2 .ensures .0 _ _ (number-is (found .before .before))
     ∙ sym (full-36 (machine q) _ (task q) (q .pre .0 .line) (filled q) (q .pre .0 .may-change) (q .pre .1) (sym (has found) ∙ looked .if1 .left) full))
 
-refused-requires : tie.Need-refused-requires
-refused-requires c κs = search needs
-
-same-length-3 : tie.Need-same-length-3
-same-length-3 c = search needs
-
 returns-3 : tie.Need-returns-3
 returns-3 c =
     let t = c .before .before in
     let over = le-leb 64 (length (tags (words (q t)) (place (q t)))) (rw (long t) (c .before .if3 .taken)) in
     refusing 8 (c .refused .ensures) (over-36 (machine (q t)) _ (task (q t)) (q t .pre .0 .line) (filled (q t)) (nf t) (q t .pre .1) (absent t) (room t)
     over)
-
-add-at-requires : tie.Need-add-at-requires
-add-at-requires c κs = search needs
-
-end-counted-requires-3 : tie.Need-end-counted-requires-3
-end-counted-requires-3 c κs = search needs
-
-same-length-4 : tie.Need-same-length-4
-same-length-4 c = search needs
 
 returns-4 : tie.Need-returns-4
 returns-4 c =
@@ -206,23 +158,23 @@ pub insert36-spec : {M : Type 1} → statement M
 insert36-spec =
     tie.close
     (tie.spec
-    cast-j
-    sub-j
-    mul-word
-    add-word
-    word-requires
-    has-at-requires
-    end-counted-requires
-    same-length
+    (λ c. search needs)
+    (λ c. search needs)
+    (λ c. search needs)
+    (λ c. search needs)
+    (λ c κs. search needs)
+    (λ c κs. search needs)
+    (λ c κs. search needs)
+    (λ c. search needs)
     returns
-    count-requires
-    end-counted-requires-2
-    same-length-2
+    (λ c κs. search needs)
+    (λ c κs. search needs)
+    (λ c. search needs)
     returns-2
-    refused-requires
-    same-length-3
+    (λ c κs. search needs)
+    (λ c. search needs)
     returns-3
-    add-at-requires
-    end-counted-requires-3
-    same-length-4
+    (λ c κs. search needs)
+    (λ c κs. search needs)
+    (λ c. search needs)
     returns-4)

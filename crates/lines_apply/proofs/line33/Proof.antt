@@ -13,15 +13,6 @@ use borrow.Author.Needs.{needs}
 use Rattle.lines_apply.proofs.line33.Statement.{statement}
 use Rattle.lines_apply.proofs.line33.Tie as tie
 
-size-of-requires : tie.Need-size-of-requires
-size-of-requires c κs = search needs
-
-slot-requires : tie.Need-slot-requires
-slot-requires c κs = search needs
-
-read-bucket-requires : tie.Need-read-bucket-requires
-read-bucket-requires c κs = search needs
-
 returns : tie.Need-returns
 unfolding step-table line-33 reads-bucket size-of
 returns c =
@@ -33,4 +24,4 @@ returns c =
     λ bs. gives-as (rw place-number (sym (tested-at (machine-of (a .s) ns bs) (a .c) 33 (start .pre .1) (a .k) refl))) (c .read-bucket .ensures bs)
 
 pub line33-spec : {M : Type 1} → statement M
-line33-spec = tie.close (tie.spec size-of-requires slot-requires read-bucket-requires returns)
+line33-spec = tie.close (tie.spec (λ c κs. search needs) (λ c κs. search needs) (λ c κs. search needs) returns)

@@ -40,32 +40,11 @@ invokes p =
 
 -- ---- the needs
 
-refused-requires : tie.Need-refused-requires
-refused-requires c κs = search needs
-
 returns : tie.Need-returns
 unfolding step-table
 returns c =
     let q = c .before .before .before .before in
     refuses-8 (machine q) (q .args .c) 36 (q .pre .1) (here (c .before .if1 .taken)) (c .refused .ensures)
-
-cast-word : tie.Need-cast-word
-cast-word c = search needs
-
-sub-word : tie.Need-sub-word
-sub-word c = search needs
-
-mul-word : tie.Need-mul-word
-mul-word c = search needs
-
-word-requires : tie.Need-word-requires
-word-requires c κs = search needs
-
-go-requires : tie.Need-go-requires
-go-requires c κs = search needs
-
-same-length : tie.Need-same-length
-same-length c = search needs
 
 returns-2 : tie.Need-returns-2
 unfolding changeable with-i without-places
@@ -81,17 +60,8 @@ insert36-requires c κs =
     let p = c .before .before in
     (invokes p, c .before .if3 .taken, start (p .before .before .before) .pre .2)
 
-same-length-2 : tie.Need-same-length-2
-same-length-2 c = search needs
-
-returns-3 : tie.Need-returns-3
-returns-3 c = search needs
-
 remove36-requires : tie.Need-remove36-requires
 remove36-requires c κs = (invokes (c .before .before), c .before .if3 .left)
-
-same-length-3 : tie.Need-same-length-3
-same-length-3 c = search needs
 
 returns-4 : tie.Need-returns-4
 returns-4 c = c .before .before .remove36 .ensures _
@@ -100,18 +70,18 @@ pub line36-spec : {M : Type 1} → statement M
 line36-spec =
     tie.close
     (tie.spec
-    refused-requires
+    (λ c κs. search needs)
     returns
-    cast-word
-    sub-word
-    mul-word
-    word-requires
-    go-requires
-    same-length
+    (λ c. search needs)
+    (λ c. search needs)
+    (λ c. search needs)
+    (λ c κs. search needs)
+    (λ c κs. search needs)
+    (λ c. search needs)
     returns-2
     insert36-requires
-    same-length-2
-    returns-3
+    (λ c. search needs)
+    (λ c. search needs)
     remove36-requires
-    same-length-3
+    (λ c. search needs)
     returns-4)

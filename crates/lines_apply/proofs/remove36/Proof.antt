@@ -83,34 +83,10 @@ module _ (p : tie.After-remove-at) where
 
 -- ---- the needs
 
-cast-j : tie.Need-cast-j
-cast-j c = search needs
-
-sub-j : tie.Need-sub-j
-sub-j c = search needs
-
-remove-at-requires : tie.Need-remove-at-requires
-remove-at-requires c κs = search needs
-
-enum-told : tie.Need-enum-told
-enum-told c = search needs
-
-end-counted-requires : tie.Need-end-counted-requires
-end-counted-requires c κs = search needs
-
-same-length : tie.Need-same-length
-same-length c = search needs
-
 returns : tie.Need-returns
 returns c =
     let p = c .before .before .before .before .before in
     λ ns. going (c .end-counted .ensures .1) (c .end-counted .ensures .0 _ _ (count-is p) ∙ on-yes p ns (asked p) (c .before .enum-told .given .1))
-
-end-counted-requires-2 : tie.Need-end-counted-requires-2
-end-counted-requires-2 c κs = search needs
-
-same-length-2 : tie.Need-same-length-2
-same-length-2 c = search needs
 
 returns-2 : tie.Need-returns-2
 returns-2 c =
@@ -121,13 +97,13 @@ pub remove36-spec : {M : Type 1} → statement M
 remove36-spec =
     tie.close
     (tie.spec
-    cast-j
-    sub-j
-    remove-at-requires
-    enum-told
-    end-counted-requires
-    same-length
+    (λ c. search needs)
+    (λ c. search needs)
+    (λ c κs. search needs)
+    (λ c. search needs)
+    (λ c κs. search needs)
+    (λ c. search needs)
     returns
-    end-counted-requires-2
-    same-length-2
+    (λ c κs. search needs)
+    (λ c. search needs)
     returns-2)

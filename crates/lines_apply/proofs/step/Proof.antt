@@ -41,11 +41,8 @@ returns c =
 returns-2 : tie.Need-returns-2
 returns-2 c = c .line33 .ensures _
 
-same-length : tie.Need-same-length
-same-length c = search needs
-
 returns-3 : tie.Need-returns-3
 returns-3 c = c .before .before .line36 .ensures
 
 pub step-spec : {M : Type 1} → statement M
-step-spec = tie.close (tie.spec read-head-requires line33-requires line36-requires returns returns-2 same-length returns-3)
+step-spec = tie.close (tie.spec read-head-requires line33-requires line36-requires returns returns-2 (λ c. search needs) returns-3)

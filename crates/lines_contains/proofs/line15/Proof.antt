@@ -16,20 +16,11 @@ use Rattle.lines_contains.proofs.line15.Tie as tie
 abbrev machine : tie.Start → List ℕ → Machine
 machine p bs = machine-of (p .args .s) (now (p .args .ns)) bs
 
-refused-requires : tie.Need-refused-requires
-refused-requires c κs = search needs
-
 returns : tie.Need-returns
 unfolding step-table
 returns c =
     let p = c .before .before .before in
     λ bs. refuses-8 (machine p bs) (p .args .c) 15 (p .pre .1) (here (c .before .if1 .taken)) (c .refused .ensures)
-
-pred-of-requires : tie.Need-pred-of-requires
-pred-of-requires c κs = search needs
-
-go-requires : tie.Need-go-requires
-go-requires c κs = search needs
 
 returns-2 : tie.Need-returns-2
 unfolding step-table line-15 pred-of with-s
@@ -39,9 +30,6 @@ returns-2 c =
     λ bs.
     goes (machine p bs) (p .args .c) 15 (p .pre .1) (c .before .before .before .if1 .left) tt (c .go .ensures .1)
     (c .go .ensures .0 _ bs ∙ rw (← read, c .before .if2 .taken))
-
-go-requires-2 : tie.Need-go-requires-2
-go-requires-2 c κs = search needs
 
 returns-3 : tie.Need-returns-3
 unfolding step-table line-15 pred-of with-s
@@ -53,4 +41,4 @@ returns-3 c =
     (c .go2 .ensures .0 _ bs ∙ rw (← read, ne-eqb _ _ (c .before .if2 .left)))
 
 pub line15-spec : {M : Type 1} → statement M
-line15-spec = tie.close (tie.spec refused-requires returns pred-of-requires go-requires returns-2 go-requires-2 returns-3)
+line15-spec = tie.close (tie.spec (λ c κs. search needs) returns (λ c κs. search needs) (λ c κs. search needs) returns-2 (λ c κs. search needs) returns-3)

@@ -27,26 +27,11 @@ has p =
     let there = p .before .if1 .left in
     p .has-at .ensures ∙ found-here (now (a .bs)) (a .c .b - 1) (start .pre .4 (omega (arith, there))) (omega (arith, there)) (a .c .tag)
 
-refused-requires : tie.Need-refused-requires
-refused-requires c κs = search needs
-
 returns : tie.Need-returns
 unfolding step-table
 returns c =
     let p = c .before .before .before in
     λ ns. refuses-8 (machine p ns) (p .args .c) 18 (p .pre .1) (here (c .before .if1 .taken)) (c .refused .ensures)
-
-cast-has-at : tie.Need-cast-has-at
-cast-has-at c = search needs
-
-sub-has-at : tie.Need-sub-has-at
-sub-has-at c = search needs
-
-has-at-requires : tie.Need-has-at-requires
-has-at-requires c κs = search needs
-
-end-requires : tie.Need-end-requires
-end-requires c κs = search needs
 
 returns-2 : tie.Need-returns-2
 unfolding step-table line-18 tags-of
@@ -56,9 +41,6 @@ returns-2 c =
     λ ns.
     goes (machine p ns) (p .args .c) 18 (p .pre .1) (c .before .before .before .if1 .left) tt (c .end .ensures .1)
     (c .end .ensures .0 ns _ ∙ rw (sym (has at-has) ∙ c .before .if2 .taken))
-
-end-requires-2 : tie.Need-end-requires-2
-end-requires-2 c κs = search needs
 
 returns-3 : tie.Need-returns-3
 unfolding step-table line-18 tags-of
@@ -73,12 +55,12 @@ pub line18-spec : {M : Type 1} → statement M
 line18-spec =
     tie.close
     (tie.spec
-    refused-requires
+    (λ c κs. search needs)
     returns
-    cast-has-at
-    sub-has-at
-    has-at-requires
-    end-requires
+    (λ c. search needs)
+    (λ c. search needs)
+    (λ c κs. search needs)
+    (λ c κs. search needs)
     returns-2
-    end-requires-2
+    (λ c κs. search needs)
     returns-3)

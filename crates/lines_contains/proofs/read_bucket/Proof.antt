@@ -16,19 +16,10 @@ use Rattle.lines_contains.proofs.read_bucket.Tie as tie
 abbrev machine : tie.Start → List ℕ → Machine
 machine p bs = machine-of (p .args .s) (now (p .args .ns)) bs
 
-refused-requires : tie.Need-refused-requires
-refused-requires c κs = search needs
-
 returns : tie.Need-returns
 returns c =
     let p = c .before .before .before in
     λ bs. fails-test (machine p bs) (p .args .c) (through (p .args .node) ∷ []) _ (here (c .before .if1 .taken)) (c .refused .ensures)
-
-place-for-requires : tie.Need-place-for-requires
-place-for-requires c κs = search needs
-
-go-requires : tie.Need-go-requires
-go-requires c κs = search needs
 
 returns-2 : tie.Need-returns-2
 unfolding AllPass reads-bucket place-for place-of size-of with-b with-i
@@ -39,9 +30,6 @@ returns-2 c =
     λ bs.
     passes-tests (machine p bs) (p .args .c) (through (p .args .node) ∷ []) _ (at-if1 .if1 .left) (c .go .ensures .1)
     (c .go .ensures .0 _ bs ∙ rw (← read, c .before .if2 .taken))
-
-go-requires-2 : tie.Need-go-requires-2
-go-requires-2 c κs = search needs
 
 returns-3 : tie.Need-returns-3
 unfolding AllPass reads-bucket place-for place-of size-of with-b with-i
@@ -54,4 +42,4 @@ returns-3 c =
     (c .go2 .ensures .0 _ bs ∙ rw (← read, ne-eqb _ _ (c .before .if2 .left)))
 
 pub read-bucket-spec : {M : Type 1} → statement M
-read-bucket-spec = tie.close (tie.spec refused-requires returns place-for-requires go-requires returns-2 go-requires-2 returns-3)
+read-bucket-spec = tie.close (tie.spec (λ c κs. search needs) returns (λ c κs. search needs) (λ c κs. search needs) returns-2 (λ c κs. search needs) returns-3)

@@ -6,15 +6,9 @@ use borrow.Author.Needs.{needs}
 use Rattle.lines_contains.proofs.read_head.Statement.{statement}
 use Rattle.lines_contains.proofs.read_head.Tie as tie
 
-add-x : tie.Need-add-x
-add-x c = search needs
-
-go-requires : tie.Need-go-requires
-go-requires c κs = search needs
-
 returns : tie.Need-returns
 unfolding with-t head-of
 returns c = λ ns bs. going (c .go .ensures .1) (c .go .ensures .0 ns bs)
 
 pub read-head-spec : {M : Type 1} → statement M
-read-head-spec = tie.close (tie.spec add-x go-requires returns)
+read-head-spec = tie.close (tie.spec (λ c. search needs) (λ c κs. search needs) returns)

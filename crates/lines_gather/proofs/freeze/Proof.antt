@@ -18,25 +18,10 @@ use Rattle.lines_gather.proofs.freeze.Tie as tie
 abbrev machine : tie.Start → List ℕ → Machine
 machine p ns = machine-of (p .args .s) ns (now (p .args .bs))
 
-refused-requires : tie.Need-refused-requires
-refused-requires c κs = search needs
-
 returns : tie.Need-returns
 returns c =
     let p = c .before .before .before in
     λ ns. fails-test (machine p ns) (p .args .c) (through (p .args .b) ∷ []) _ (here (c .before .if1 .taken)) (c .refused .ensures)
-
-sub-freeze-at : tie.Need-sub-freeze-at
-sub-freeze-at c = search needs
-
-freeze-at-requires : tie.Need-freeze-at-requires
-freeze-at-requires c κs = search needs
-
-go-requires : tie.Need-go-requires
-go-requires c κs = search needs
-
-same-length : tie.Need-same-length
-same-length c = search needs
 
 returns-2 : tie.Need-returns-2
 unfolding AllPass accept apply with-buckets
@@ -53,4 +38,13 @@ returns-2 c =
     ∙ ap (λ (v : List ℕ). accept (machine-of (a .s) ns v) (a .k) (a .c .own) (moves (with-line (a .l) (a .c)))) frozen)
 
 pub freeze-spec : {M : Type 1} → statement M
-freeze-spec = tie.close (tie.spec refused-requires returns sub-freeze-at freeze-at-requires go-requires same-length returns-2)
+freeze-spec =
+    tie.close
+    (tie.spec
+    (λ c κs. search needs)
+    returns
+    (λ c. search needs)
+    (λ c κs. search needs)
+    (λ c κs. search needs)
+    (λ c. search needs)
+    returns-2)

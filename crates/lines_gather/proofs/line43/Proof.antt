@@ -16,26 +16,11 @@ use Rattle.lines_gather.proofs.line43.Tie as tie
 abbrev machine : tie.Start → List ℕ → Machine
 machine p bs = machine-of (p .args .s) (now (p .args .ns)) bs
 
-refused-requires : tie.Need-refused-requires
-refused-requires c κs = search needs
-
 returns : tie.Need-returns
 unfolding step-table
 returns c =
     let p = c .before .before .before in
     λ bs. refuses-8 (machine p bs) (p .args .c) 43 (p .pre .1) (here (c .before .if1 .taken)) (c .refused .ensures)
-
-size-of-requires : tie.Need-size-of-requires
-size-of-requires c κs = search needs
-
-remainder-requires : tie.Need-remainder-requires
-remainder-requires c κs = search needs
-
-place-of-requires : tie.Need-place-of-requires
-place-of-requires c κs = search needs
-
-go-requires : tie.Need-go-requires
-go-requires c κs = search needs
 
 returns-2 : tie.Need-returns-2
 unfolding step-table line-43 place-of size-of with-m
@@ -51,4 +36,13 @@ returns-2 c =
     λ bs. goes (machine p bs) t 43 (p .pre .1) (at-if1 .if1 .left) tt (c .go .ensures .1) (c .go .ensures .0 _ bs ∙ rw (← m))
 
 pub line43-spec : {M : Type 1} → statement M
-line43-spec = tie.close (tie.spec refused-requires returns size-of-requires remainder-requires place-of-requires go-requires returns-2)
+line43-spec =
+    tie.close
+    (tie.spec
+    (λ c κs. search needs)
+    returns
+    (λ c κs. search needs)
+    (λ c κs. search needs)
+    (λ c κs. search needs)
+    (λ c κs. search needs)
+    returns-2)

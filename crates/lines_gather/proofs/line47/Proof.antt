@@ -16,29 +16,11 @@ use Rattle.lines_gather.proofs.line47.Tie as tie
 abbrev machine : tie.Start → List ℕ → Machine
 machine p bs = machine-of (p .args .s) (now (p .args .ns)) bs
 
-refused-requires : tie.Need-refused-requires
-refused-requires c κs = search needs
-
 returns : tie.Need-returns
 unfolding step-table
 returns c =
     let p = c .before .before .before in
     λ bs. refuses-8 (machine p bs) (p .args .c) 47 (p .pre .1) (here (c .before .if1 .taken)) (c .refused .ensures)
-
-size-of-requires : tie.Need-size-of-requires
-size-of-requires c κs = search needs
-
-cast-j : tie.Need-cast-j
-cast-j c = search needs
-
-cast-j-2 : tie.Need-cast-j-2
-cast-j-2 c = search needs
-
-add-j : tie.Need-add-j
-add-j c = search needs
-
-read-place-requires : tie.Need-read-place-requires
-read-place-requires c κs = search needs
 
 returns-2 : tie.Need-returns-2
 unfolding step-table line-47 with-field size-of
@@ -53,4 +35,14 @@ returns-2 c =
     (c .read-place .ensures bs)
 
 pub line47-spec : {M : Type 1} → statement M
-line47-spec = tie.close (tie.spec refused-requires returns size-of-requires cast-j cast-j-2 add-j read-place-requires returns-2)
+line47-spec =
+    tie.close
+    (tie.spec
+    (λ c κs. search needs)
+    returns
+    (λ c κs. search needs)
+    (λ c. search needs)
+    (λ c. search needs)
+    (λ c. search needs)
+    (λ c κs. search needs)
+    returns-2)

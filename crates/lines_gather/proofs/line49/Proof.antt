@@ -62,16 +62,10 @@ free-is p = let q = begun (p .before) in p .free-bucket-of .ensures (now (q .arg
 
 -- ---- the needs
 
-refused-requires : tie.Need-refused-requires
-refused-requires c κs = search needs
-
 returns : tie.Need-returns
 unfolding step-table
 returns c =
     let p = c .before .before .before .before in refuses-8 (machine p) (p .args .c) 49 (p .pre .1) (here (c .before .if1 .taken)) (c .refused .ensures)
-
-refused-requires-2 : tie.Need-refused-requires-2
-refused-requires-2 c κs = search needs
 
 returns-2 : tie.Need-returns-2
 unfolding step-table
@@ -88,15 +82,6 @@ new-bucket-of-requires c κs =
     let n = link-of (machine p) (p .pre .2) (t .n) (p .pre .4) in
     (omega (arith, there), m .most, n .most, m .fits, n .fits, m .good (omega (arith, there)), n .good)
 
-enum-told : tie.Need-enum-told
-enum-told c = search needs
-
-refused-requires-3 : tie.Need-refused-requires-3
-refused-requires-3 c κs = search needs
-
-same-length : tie.Need-same-length
-same-length c = search needs
-
 returns-3 : tie.Need-returns-3
 unfolding step-table
 returns-3 c =
@@ -104,39 +89,12 @@ returns-3 c =
     let over = made (c .before .before .before) .over (c .before .enum-told .given .1) in
     refuses-8 (machine p) (p .args .c) 49 (p .pre .1) (next (next (here over))) (c .refused3 .ensures)
 
-free-bucket-of-requires : tie.Need-free-bucket-of-requires
-free-bucket-of-requires c κs = search needs
-
-refused-requires-4 : tie.Need-refused-requires-4
-refused-requires-4 c κs = search needs
-
-same-length-2 : tie.Need-same-length-2
-same-length-2 c = search needs
-
 returns-4 : tie.Need-returns-4
 unfolding step-table
 returns-4 c =
     let p = c .before .before .before .before .before .before .before .before .before .before .before in
     let found = c .before .before in
     refuses-7 (machine p) (p .args .c) 49 (p .pre .1) (passed (found .before)) (here (sym (free-is found) ∙ c .before .if3 .taken)) (c .refused4 .ensures)
-
-cast-store-at : tie.Need-cast-store-at
-cast-store-at c = search needs
-
-sub-store-at : tie.Need-sub-store-at
-sub-store-at c = search needs
-
-store-at-requires : tie.Need-store-at-requires
-store-at-requires c κs = search needs
-
-sub-u : tie.Need-sub-u
-sub-u c = search needs
-
-go-requires : tie.Need-go-requires
-go-requires c κs = search needs
-
-same-length-3 : tie.Need-same-length-3
-same-length-3 c = search needs
 
 returns-5 : tie.Need-returns-5
 unfolding step-table line-49 accept apply with-last-bucket with-buckets with-state state-last-bucket with-new-bucket
@@ -161,23 +119,23 @@ pub line49-spec : {M : Type 1} → statement M
 line49-spec =
     tie.close
     (tie.spec
-    refused-requires
+    (λ c κs. search needs)
     returns
-    refused-requires-2
+    (λ c κs. search needs)
     returns-2
     new-bucket-of-requires
-    enum-told
-    refused-requires-3
-    same-length
+    (λ c. search needs)
+    (λ c κs. search needs)
+    (λ c. search needs)
     returns-3
-    free-bucket-of-requires
-    refused-requires-4
-    same-length-2
+    (λ c κs. search needs)
+    (λ c κs. search needs)
+    (λ c. search needs)
     returns-4
-    cast-store-at
-    sub-store-at
-    store-at-requires
-    sub-u
-    go-requires
-    same-length-3
+    (λ c. search needs)
+    (λ c. search needs)
+    (λ c κs. search needs)
+    (λ c. search needs)
+    (λ c κs. search needs)
+    (λ c. search needs)
     returns-5)

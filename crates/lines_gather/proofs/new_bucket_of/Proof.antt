@@ -46,24 +46,6 @@ module _ (p : tie.After-load2) where
       let some = p .before .if1 .left in
       ap (λ (b : Bucket). tags-in (b .words)) (p .load2 .ensures) ∙ tags-here (now (start-n .args .bs)) n there (omega (arith, some))
 
-cast-load : tie.Need-cast-load
-cast-load c = search needs
-
-sub-load : tie.Need-sub-load
-sub-load c = search needs
-
-load-requires : tie.Need-load-requires
-load-requires c κs = search needs
-
-size-of-requires : tie.Need-size-of-requires
-size-of-requires c κs = search needs
-
-split-requires : tie.Need-split-requires
-split-requires c κs = search needs
-
-answered-requires : tie.Need-answered-requires
-answered-requires c κs = search needs
-
 returns : tie.Need-returns
 unfolding gathered split-of tags-of size-of
 returns c =
@@ -79,15 +61,6 @@ returns c =
     λ s same.
     rw (c .answered .ensures, same, cut .before .before .if1 .taken, ← cut .before .size-of .ensures, ← tags-m loaded)
     (makes-one (cut .split .result) (filter f (tags-in (loaded .load .result .words))) few (ap (λ (b : Bucket). b .words) (cut .split .ensures)))
-
-cast-load-2 : tie.Need-cast-load-2
-cast-load-2 c = search needs
-
-sub-load-2 : tie.Need-sub-load-2
-sub-load-2 c = search needs
-
-load-requires-2 : tie.Need-load-requires-2
-load-requires-2 c κs = search needs
 
 union-requires : tie.Need-union-requires
 union-requires c κs =
@@ -108,15 +81,15 @@ pub new-bucket-of-spec : {M : Type 1} → statement M
 new-bucket-of-spec =
     tie.close
     (tie.spec
-    cast-load
-    sub-load
-    load-requires
-    size-of-requires
-    split-requires
-    answered-requires
+    (λ c. search needs)
+    (λ c. search needs)
+    (λ c κs. search needs)
+    (λ c κs. search needs)
+    (λ c κs. search needs)
+    (λ c κs. search needs)
     returns
-    cast-load-2
-    sub-load-2
-    load-requires-2
+    (λ c. search needs)
+    (λ c. search needs)
+    (λ c κs. search needs)
     union-requires
     returns-2)

@@ -27,23 +27,11 @@ own-kept B v c = refl
 own-kept M v c = refl
 own-kept N v c = refl
 
-refused-requires : tie.Need-refused-requires
-refused-requires c κs = search needs
-
 returns : tie.Need-returns
 returns c =
     let p = c .before .before .before in
     λ bs. fails-test (machine p bs) (p .args .c) (place-tests (machine p bs) (p .args .node) (p .args .i)) _ (here (c .before .if1 .taken))
     (c .refused .ensures)
-
-size-of-requires : tie.Need-size-of-requires
-size-of-requires c κs = search needs
-
-cast-if2 : tie.Need-cast-if2
-cast-if2 c = search needs
-
-refused-requires-2 : tie.Need-refused-requires-2
-refused-requires-2 c κs = search needs
 
 returns-2 : tie.Need-returns-2
 unfolding size-of
@@ -53,18 +41,6 @@ returns-2 c =
     λ bs.
     fails-test (machine p bs) (p .args .c) (place-tests (machine p bs) (p .args .node) (p .args .i)) _ (next (here (rw (← size) (c .before .if2 .taken))))
     (c .refused2 .ensures)
-
-cast-place-of : tie.Need-cast-place-of
-cast-place-of c = search needs
-
-place-of-requires : tie.Need-place-of-requires
-place-of-requires c κs = search needs
-
-stored-requires : tie.Need-stored-requires
-stored-requires c κs = search needs
-
-go-requires : tie.Need-go-requires
-go-requires c κs = search needs
 
 returns-3 : tie.Need-returns-3
 unfolding AllPass size-of place-of
@@ -86,14 +62,14 @@ pub read-place-spec : {M : Type 1} → statement M
 read-place-spec =
     tie.close
     (tie.spec
-    refused-requires
+    (λ c κs. search needs)
     returns
-    size-of-requires
-    cast-if2
-    refused-requires-2
+    (λ c κs. search needs)
+    (λ c. search needs)
+    (λ c κs. search needs)
     returns-2
-    cast-place-of
-    place-of-requires
-    stored-requires
-    go-requires
+    (λ c. search needs)
+    (λ c κs. search needs)
+    (λ c κs. search needs)
+    (λ c κs. search needs)
     returns-3)

@@ -33,9 +33,6 @@ freeze-requires : tie.Need-freeze-requires
 freeze-requires c κs =
     let runs = c .before .before .before .before .pre in let l = linked runs _ (runs .task .m) in (numbers runs .number, l .most, l .fits)
 
-cast-read-place : tie.Need-cast-read-place
-cast-read-place c = search needs
-
 read-place-requires : tie.Need-read-place-requires
 read-place-requires c κs = numbers (c .before .before .before .before .pre) .number
 
@@ -57,9 +54,6 @@ freeze-requires-3 c κs =
 returns : tie.Need-returns
 returns c = c .line43 .ensures _
 
-same-length : tie.Need-same-length
-same-length c = search needs
-
 returns-2 : tie.Need-returns-2
 unfolding step-table line-44
 returns-2 c =
@@ -76,9 +70,6 @@ returns-3 c =
 returns-4 : tie.Need-returns-4
 returns-4 c = c .line47 .ensures _
 
-same-length-2 : tie.Need-same-length-2
-same-length-2 c = search needs
-
 returns-5 : tie.Need-returns-5
 unfolding step-table line-48
 returns-5 c =
@@ -86,14 +77,8 @@ returns-5 c =
     let p = at-match .before .before .before in
     gives-as (sym (tested-at (machine p) (p .args .c) 48 (at-match .match .keys5) (p .args .k) refl)) (c .before .before .freeze2 .ensures _)
 
-same-length-3 : tie.Need-same-length-3
-same-length-3 c = search needs
-
 returns-6 : tie.Need-returns-6
 returns-6 c = c .before .before .line49 .ensures
-
-same-length-4 : tie.Need-same-length-4
-same-length-4 c = search needs
 
 returns-7 : tie.Need-returns-7
 unfolding step-table line-52
@@ -111,20 +96,20 @@ step-spec =
     (tie.spec
     line43-requires
     freeze-requires
-    cast-read-place
+    (λ c. search needs)
     read-place-requires
     line47-requires
     freeze-requires-2
     line49-requires
     freeze-requires-3
     returns
-    same-length
+    (λ c. search needs)
     returns-2
     returns-3
     returns-4
-    same-length-2
+    (λ c. search needs)
     returns-5
-    same-length-3
+    (λ c. search needs)
     returns-6
-    same-length-4
+    (λ c. search needs)
     returns-7)

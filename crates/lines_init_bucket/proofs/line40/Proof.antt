@@ -17,20 +17,11 @@ use Rattle.lines_init_bucket.proofs.line40.Tie as tie
 abbrev machine : tie.Start → List ℕ → Machine
 machine p bs = machine-of (p .args .s) (now (p .args .ns)) bs
 
-refused-requires : tie.Need-refused-requires
-refused-requires c κs = search needs
-
 returns : tie.Need-returns
 unfolding step-table
 returns c =
     let p = c .before .before .before in
     λ bs. refuses-8 (machine p bs) (p .args .c) 40 (p .pre .1) (here (c .before .if1 .taken)) (c .refused .ensures)
-
-pred-of-requires : tie.Need-pred-of-requires
-pred-of-requires c κs = search needs
-
-go-requires : tie.Need-go-requires
-go-requires c κs = search needs
 
 returns-2 : tie.Need-returns-2
 unfolding step-table line-40 after-40 pred-of size-of with-s
@@ -42,9 +33,6 @@ returns-2 c =
     goes (machine p bs) (p .args .c) 40 (p .pre .1) (c .before .before .before .if1 .left) tt (c .go .ensures .1)
     (c .go .ensures .0 _ bs ∙ rw (← pred, ne-eqb _ _ filled-b))
 
-go-requires-2 : tie.Need-go-requires-2
-go-requires-2 c κs = search needs
-
 returns-3 : tie.Need-returns-3
 unfolding step-table line-40 after-40 pred-of size-of with-s
 returns-3 c =
@@ -55,24 +43,6 @@ returns-3 c =
     λ bs.
     goes (machine p bs) (p .args .c) 40 (p .pre .1) (at-if1 .if1 .left) tt (c .go2 .ensures .1)
     (c .go2 .ensures .0 _ bs ∙ rw (← pred, eq-eqb _ 0 empty-b, c .before .if3 .taken))
-
-size-of-requires : tie.Need-size-of-requires
-size-of-requires c κs = search needs
-
-size-of-requires-2 : tie.Need-size-of-requires-2
-size-of-requires-2 c κs = search needs
-
-cast-if4 : tie.Need-cast-if4
-cast-if4 c = search needs
-
-cast-if4-2 : tie.Need-cast-if4-2
-cast-if4-2 c = search needs
-
-mul-if4 : tie.Need-mul-if4
-mul-if4 c = search needs
-
-go-requires-3 : tie.Need-go-requires-3
-go-requires-3 c κs = search needs
 
 returns-4 : tie.Need-returns-4
 unfolding step-table line-40 after-40 pred-of size-of with-s
@@ -89,9 +59,6 @@ returns-4 c =
     λ bs.
     goes (machine p bs) (p .args .c) 40 (p .pre .1) (at-if1 .if1 .left) tt (c .go3 .ensures .1)
     (c .go3 .ensures .0 _ bs ∙ rw (← pred, eq-eqb _ 0 empty-b, ne-eqb _ _ (at-if3 .if3 .left), ← size-t, ← size-s, eq-eqb _ _ (c .before .if4 .taken)))
-
-go-requires-4 : tie.Need-go-requires-4
-go-requires-4 c κs = search needs
 
 returns-5 : tie.Need-returns-5
 unfolding step-table line-40 after-40 pred-of size-of with-s
@@ -113,19 +80,19 @@ pub line40-spec : {M : Type 1} → statement M
 line40-spec =
     tie.close
     (tie.spec
-    refused-requires
+    (λ c κs. search needs)
     returns
-    pred-of-requires
-    go-requires
+    (λ c κs. search needs)
+    (λ c κs. search needs)
     returns-2
-    go-requires-2
+    (λ c κs. search needs)
     returns-3
-    size-of-requires
-    size-of-requires-2
-    cast-if4
-    cast-if4-2
-    mul-if4
-    go-requires-3
+    (λ c κs. search needs)
+    (λ c κs. search needs)
+    (λ c. search needs)
+    (λ c. search needs)
+    (λ c. search needs)
+    (λ c κs. search needs)
     returns-4
-    go-requires-4
+    (λ c κs. search needs)
     returns-5)

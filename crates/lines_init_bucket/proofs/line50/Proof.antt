@@ -32,17 +32,11 @@ module _ (p : tie.Else3) where
       let new = p .before .before .before in
       (new .before .if1 .left, (new .if2 .left, rw (← size) (p .if3 .left)))
 
-refused-requires : tie.Need-refused-requires
-refused-requires c κs = search needs
-
 returns : tie.Need-returns
 unfolding step-table
 returns c =
     let p = c .before .before .before in
     λ bs. refuses-8 (machine p bs) (p .args .c) 50 (p .pre .1) (here (c .before .if1 .taken)) (c .refused .ensures)
-
-refused-requires-2 : tie.Need-refused-requires-2
-refused-requires-2 c κs = search needs
 
 returns-2 : tie.Need-returns-2
 unfolding step-table
@@ -50,51 +44,12 @@ returns-2 c =
     let p = c .before .before .before .before in
     λ bs. refuses-8 (machine p bs) (p .args .c) 50 (p .pre .1) (next (here (c .before .if2 .taken))) (c .refused2 .ensures)
 
-size-of-requires : tie.Need-size-of-requires
-size-of-requires c κs = search needs
-
-refused-requires-3 : tie.Need-refused-requires-3
-refused-requires-3 c κs = search needs
-
-same-length : tie.Need-same-length
-same-length c = search needs
-
 returns-3 : tie.Need-returns-3
 unfolding step-table size-of
 returns-3 c =
     let p = c .before .before .before .before .before .before .before in
     let size = c .before .before .size-of .ensures in
     λ bs. refuses-8 (machine p bs) (p .args .c) 50 (p .pre .1) (next (next (here (rw (← size) (c .before .if3 .taken))))) (c .refused3 .ensures)
-
-place-of-requires : tie.Need-place-of-requires
-place-of-requires c κs = search needs
-
-number-of-requires : tie.Need-number-of-requires
-number-of-requires c κs = search needs
-
-cast-put : tie.Need-cast-put
-cast-put c = search needs
-
-mul-put : tie.Need-mul-put
-mul-put c = search needs
-
-add-put : tie.Need-add-put
-add-put c = search needs
-
-cast-put-2 : tie.Need-cast-put-2
-cast-put-2 c = search needs
-
-add-put-2 : tie.Need-add-put-2
-add-put-2 c = search needs
-
-put-requires : tie.Need-put-requires
-put-requires c κs = search needs
-
-go-requires : tie.Need-go-requires
-go-requires c κs = search needs
-
-same-length-2 : tie.Need-same-length-2
-same-length-2 c = search needs
 
 returns-4 : tie.Need-returns-4
 unfolding step-table line-50 accept apply with-nodes place-of size-of
@@ -115,12 +70,6 @@ returns-4 c =
     (c .go .ensures .0 (at-put .put .last .0) bs ∙ ap (λ (v : List ℕ). accept (machine-of (a .s) v bs) (a .k) (a .c .own) (moves (with-line 51 (a .c)))) stored
     ∙ rw (← place, at-if4 .if4 .taken))
 
-go-requires-2 : tie.Need-go-requires-2
-go-requires-2 c κs = search needs
-
-same-length-3 : tie.Need-same-length-3
-same-length-3 c = search needs
-
 returns-5 : tie.Need-returns-5
 unfolding step-table line-50 place-of size-of
 returns-5 c =
@@ -136,25 +85,25 @@ pub line50-spec : {M : Type 1} → statement M
 line50-spec =
     tie.close
     (tie.spec
-    refused-requires
+    (λ c κs. search needs)
     returns
-    refused-requires-2
+    (λ c κs. search needs)
     returns-2
-    size-of-requires
-    refused-requires-3
-    same-length
+    (λ c κs. search needs)
+    (λ c κs. search needs)
+    (λ c. search needs)
     returns-3
-    place-of-requires
-    number-of-requires
-    cast-put
-    mul-put
-    add-put
-    cast-put-2
-    add-put-2
-    put-requires
-    go-requires
-    same-length-2
+    (λ c κs. search needs)
+    (λ c κs. search needs)
+    (λ c. search needs)
+    (λ c. search needs)
+    (λ c. search needs)
+    (λ c. search needs)
+    (λ c. search needs)
+    (λ c κs. search needs)
+    (λ c κs. search needs)
+    (λ c. search needs)
     returns-4
-    go-requires-2
-    same-length-3
+    (λ c κs. search needs)
+    (λ c. search needs)
     returns-5)

@@ -26,20 +26,11 @@ module _ (p : tie.Else2) where
   unfolding step-table size-of
   passed bs = let size = p .before .size-of .ensures in (p .before .before .if1 .left, rw (← size) (p .if2 .left))
 
-refused-requires : tie.Need-refused-requires
-refused-requires c κs = search needs
-
 returns : tie.Need-returns
 unfolding step-table
 returns c =
     let p = c .before .before .before in
     λ bs. refuses-8 (machine p bs) (p .args .c) 51 (p .pre .1) (here (c .before .if1 .taken)) (c .refused .ensures)
-
-size-of-requires : tie.Need-size-of-requires
-size-of-requires c κs = search needs
-
-refused-requires-2 : tie.Need-refused-requires-2
-refused-requires-2 c κs = search needs
 
 returns-2 : tie.Need-returns-2
 unfolding step-table size-of
@@ -47,18 +38,6 @@ returns-2 c =
     let p = c .before .before .before .before .before in
     let size = c .before .before .size-of .ensures in
     λ bs. refuses-8 (machine p bs) (p .args .c) 51 (p .pre .1) (next (here (rw (← size) (c .before .if2 .taken)))) (c .refused2 .ensures)
-
-is-resize-requires : tie.Need-is-resize-requires
-is-resize-requires c κs = search needs
-
-add-x : tie.Need-add-x
-add-x c = search needs
-
-add-if4 : tie.Need-add-if4
-add-if4 c = search needs
-
-go-requires : tie.Need-go-requires
-go-requires c κs = search needs
 
 returns-3 : tie.Need-returns-3
 unfolding step-table line-51 with-b with-s with-m with-n with-new-bucket with-i place-of size-of
@@ -71,9 +50,6 @@ returns-3 c =
     goes (machine p bs) (p .args .c) 51 (p .pre .1) (passed in-node bs) tt (c .go .ensures .1)
     (c .go .ensures .0 _ bs ∙ rw (sym resizes ∙ c .before .before .if3 .taken, ← size, lt-ltb _ _ (c .before .if4 .taken)))
 
-go-requires-2 : tie.Need-go-requires-2
-go-requires-2 c κs = search needs
-
 returns-4 : tie.Need-returns-4
 unfolding step-table line-51 with-b with-s with-m with-n with-new-bucket with-i place-of size-of
 returns-4 c =
@@ -84,12 +60,6 @@ returns-4 c =
     λ bs.
     goes (machine p bs) (p .args .c) 51 (p .pre .1) (passed in-node bs) tt (c .go2 .ensures .1)
     (c .go2 .ensures .0 _ bs ∙ rw (sym resizes ∙ c .before .before .if3 .taken, ← size, le-ltb _ _ (c .before .if4 .left)))
-
-place-of-requires : tie.Need-place-of-requires
-place-of-requires c κs = search needs
-
-go-requires-3 : tie.Need-go-requires-3
-go-requires-3 c κs = search needs
 
 returns-5 : tie.Need-returns-5
 unfolding step-table line-51 with-b with-s with-m with-n with-new-bucket with-i place-of size-of
@@ -106,18 +76,18 @@ pub line51-spec : {M : Type 1} → statement M
 line51-spec =
     tie.close
     (tie.spec
-    refused-requires
+    (λ c κs. search needs)
     returns
-    size-of-requires
-    refused-requires-2
+    (λ c κs. search needs)
+    (λ c κs. search needs)
     returns-2
-    is-resize-requires
-    add-x
-    add-if4
-    go-requires
+    (λ c κs. search needs)
+    (λ c. search needs)
+    (λ c. search needs)
+    (λ c κs. search needs)
     returns-3
-    go-requires-2
+    (λ c κs. search needs)
     returns-4
-    place-of-requires
-    go-requires-3
+    (λ c κs. search needs)
+    (λ c κs. search needs)
     returns-5)

@@ -21,9 +21,6 @@ left-gather : (l : ℕ) → member l init-bucket-lines ≡ true → (l ≡ 39 �
 unfolding member
 left-gather l h n39 n40 n50 n51 = rw (ne-eqb l 39 n39, ne-eqb l 40 n40, ne-eqb l 50 n50, ne-eqb l 51 n51) at h
 
-cast-read-place : tie.Need-cast-read-place
-cast-read-place c = search needs
-
 read-place-requires : tie.Need-read-place-requires
 read-place-requires c κs = numbers (c .before .before .before .before .before .pre) .number
 
@@ -46,9 +43,6 @@ step-requires c κs =
       at-line = left-gather _ (runs .at-line) (others .0 .0 .0 .1) (others .0 .0 .1) (others .0 .1) (others .1);
     }
 
-same-length : tie.Need-same-length
-same-length c = search needs
-
 returns : tie.Need-returns
 unfolding step-table line-39 with-field
 returns c =
@@ -56,29 +50,14 @@ returns c =
     gives-as (sym (tested-at (machine-of (a .s) (now (a .ns)) (now (a .bs))) (a .c) 39 (c .before .before .before .match .keys1) (a .k) refl))
     (c .read-place .ensures _)
 
-same-length-2 : tie.Need-same-length-2
-same-length-2 c = search needs
-
 returns-2 : tie.Need-returns-2
 returns-2 c = c .line40 .ensures _
-
-same-length-3 : tie.Need-same-length-3
-same-length-3 c = search needs
 
 returns-3 : tie.Need-returns-3
 returns-3 c = c .before .before .line50 .ensures _
 
-same-length-4 : tie.Need-same-length-4
-same-length-4 c = search needs
-
 returns-4 : tie.Need-returns-4
 returns-4 c = c .line51 .ensures _
-
-same-length-5 : tie.Need-same-length-5
-same-length-5 c = search needs
-
-same-length-6 : tie.Need-same-length-6
-same-length-6 c = search needs
 
 returns-5 : tie.Need-returns-5
 returns-5 c = c .before .before .step .ensures
@@ -87,20 +66,20 @@ pub step-spec : {M : Type 1} → statement M
 step-spec =
     tie.close
     (tie.spec
-    cast-read-place
+    (λ c. search needs)
     read-place-requires
     line40-requires
     line50-requires
     line51-requires
     step-requires
-    same-length
+    (λ c. search needs)
     returns
-    same-length-2
+    (λ c. search needs)
     returns-2
-    same-length-3
+    (λ c. search needs)
     returns-3
-    same-length-4
+    (λ c. search needs)
     returns-4
-    same-length-5
-    same-length-6
+    (λ c. search needs)
+    (λ c. search needs)
     returns-5)

@@ -15,18 +15,6 @@ use Rattle.lines_resize.proofs.line20.Tie as tie
 abbrev machine : tie.Start → List ℕ → Machine
 machine p bs = machine-of (p .args .s) (now (p .args .ns)) bs
 
-add-h : tie.Need-add-h
-add-h c = search needs
-
-size-of-requires : tie.Need-size-of-requires
-size-of-requires c κs = search needs
-
-at-limit-requires : tie.Need-at-limit-requires
-at-limit-requires c κs = search needs
-
-end-requires : tie.Need-end-requires
-end-requires c κs = search needs
-
 returns : tie.Need-returns
 unfolding step-table line-20 head-of size-of with-t with-i
 returns c =
@@ -35,9 +23,6 @@ returns c =
     let limit = c .before .before .at-limit .ensures in
     λ bs.
     goes (machine p bs) (p .args .c) 20 (p .pre .1) tt tt (c .end .ensures .1) (c .end .ensures .0 _ bs ∙ rw (← size, sym limit ∙ c .before .if1 .taken))
-
-go-requires : tie.Need-go-requires
-go-requires c κs = search needs
 
 returns-2 : tie.Need-returns-2
 unfolding step-table line-20 head-of size-of with-t with-i
@@ -49,4 +34,13 @@ returns-2 c =
     goes (machine p bs) (p .args .c) 20 (p .pre .1) tt tt (c .go .ensures .1) (c .go .ensures .0 _ bs ∙ rw (← size, sym limit ∙ c .before .if1 .left))
 
 pub line20-spec : {M : Type 1} → statement M
-line20-spec = tie.close (tie.spec add-h size-of-requires at-limit-requires end-requires returns go-requires returns-2)
+line20-spec =
+    tie.close
+    (tie.spec
+    (λ c. search needs)
+    (λ c κs. search needs)
+    (λ c κs. search needs)
+    (λ c κs. search needs)
+    returns
+    (λ c κs. search needs)
+    returns-2)

@@ -55,26 +55,11 @@ free-is p bs = let q = start (p .before .before) in p .free-node-of .ensures bs 
 
 -- ---- the needs
 
-refused-requires : tie.Need-refused-requires
-refused-requires c κs = search needs
-
 returns : tie.Need-returns
 unfolding step-table
 returns c =
     let p = c .before .before .before in
     λ bs. refuses-8 (machine p bs) (p .args .c) 27 (p .pre .1) (here (c .before .if1 .taken)) (c .refused .ensures)
-
-size-of-requires : tie.Need-size-of-requires
-size-of-requires c κs = search needs
-
-new-size-requires : tie.Need-new-size-requires
-new-size-requires c κs = search needs
-
-refused-requires-2 : tie.Need-refused-requires-2
-refused-requires-2 c κs = search needs
-
-same-length : tie.Need-same-length
-same-length c = search needs
 
 returns-2 : tie.Need-returns-2
 unfolding step-table size-of
@@ -84,15 +69,6 @@ returns-2 c =
     let unlisted = c .before .before .new-size .ensures .none (c .before .if2 .taken) in
     λ bs. refuses-8 (machine p bs) (p .args .c) 27 (p .pre .1) (next (here (rw (← size-t) unlisted))) (c .refused2 .ensures)
 
-free-node-of-requires : tie.Need-free-node-of-requires
-free-node-of-requires c κs = search needs
-
-refused-requires-3 : tie.Need-refused-requires-3
-refused-requires-3 c κs = search needs
-
-same-length-2 : tie.Need-same-length-2
-same-length-2 c = search needs
-
 returns-3 : tie.Need-returns-3
 unfolding step-table
 returns-3 c =
@@ -101,24 +77,6 @@ returns-3 c =
     let found = c .before .before in
     λ bs.
     refuses-7 (machine p bs) (p .args .c) 27 (p .pre .1) (passed listed bs) (here (sym (free-is found bs) ∙ c .before .if3 .taken)) (c .refused3 .ensures)
-
-cast-new-node : tie.Need-cast-new-node
-cast-new-node c = search needs
-
-sub-new-node : tie.Need-sub-new-node
-sub-new-node c = search needs
-
-new-node-requires : tie.Need-new-node-requires
-new-node-requires c κs = search needs
-
-sub-u : tie.Need-sub-u
-sub-u c = search needs
-
-go-requires : tie.Need-go-requires
-go-requires c κs = search needs
-
-same-length-3 : tie.Need-same-length-3
-same-length-3 c = search needs
 
 returns-4 : tie.Need-returns-4
 unfolding step-table line-27 accept apply with-last-node with-nodes with-state state-last-node with-new-node size-of
@@ -146,21 +104,21 @@ pub line27-spec : {M : Type 1} → statement M
 line27-spec =
     tie.close
     (tie.spec
-    refused-requires
+    (λ c κs. search needs)
     returns
-    size-of-requires
-    new-size-requires
-    refused-requires-2
-    same-length
+    (λ c κs. search needs)
+    (λ c κs. search needs)
+    (λ c κs. search needs)
+    (λ c. search needs)
     returns-2
-    free-node-of-requires
-    refused-requires-3
-    same-length-2
+    (λ c κs. search needs)
+    (λ c κs. search needs)
+    (λ c. search needs)
     returns-3
-    cast-new-node
-    sub-new-node
-    new-node-requires
-    sub-u
-    go-requires
-    same-length-3
+    (λ c. search needs)
+    (λ c. search needs)
+    (λ c κs. search needs)
+    (λ c. search needs)
+    (λ c κs. search needs)
+    (λ c. search needs)
     returns-4)

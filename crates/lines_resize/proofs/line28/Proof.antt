@@ -19,32 +19,17 @@ use Rattle.lines_resize.proofs.line28.Tie as tie
 abbrev machine : tie.Start → List ℕ → List ℕ → Machine
 machine p ns bs = machine-of (p .args .s) ns bs
 
-refused-requires : tie.Need-refused-requires
-refused-requires c κs = search needs
-
 returns : tie.Need-returns
 unfolding step-table
 returns c =
     let p = c .before .before in
     λ ns bs. refuses-8 (machine p ns bs) (p .args .c) 28 (p .pre .1) (here (c .before .if1 .taken)) (c .refused .ensures)
 
-refused-requires-2 : tie.Need-refused-requires-2
-refused-requires-2 c κs = search needs
-
 returns-2 : tie.Need-returns-2
 unfolding step-table
 returns-2 c =
     let p = c .before .before .before in
     λ ns bs. refuses-8 (machine p ns bs) (p .args .c) 28 (p .pre .1) (next (here (c .before .if2 .taken))) (c .refused2 .ensures)
-
-add-h : tie.Need-add-h
-add-h c = search needs
-
-sub-u : tie.Need-sub-u
-sub-u c = search needs
-
-end-requires : tie.Need-end-requires
-end-requires c κs = search needs
 
 returns-3 : tie.Need-returns-3
 unfolding step-table line-28 head-of accept apply with-head with-state state-head
@@ -56,9 +41,6 @@ returns-3 c =
     goes (machine p ns bs) (a .c) 28 (p .pre .1) (at-if1 .if1 .left, c .before .before .before .if2 .left) tt (c .end .ensures .1)
     (over-head (a .c .«new_node» - 1) (a .s) (a .k) (c .end .result) ns bs (c .end .ensures .1) (c .end .ensures .0 ns bs) ∙ rw
     (eq-eqb _ _ (c .before .if3 .taken)))
-
-end-requires-2 : tie.Need-end-requires-2
-end-requires-2 c κs = search needs
 
 returns-4 : tie.Need-returns-4
 unfolding step-table line-28 head-of
@@ -73,13 +55,13 @@ pub line28-spec : {M : Type 1} → statement M
 line28-spec =
     tie.close
     (tie.spec
-    refused-requires
+    (λ c κs. search needs)
     returns
-    refused-requires-2
+    (λ c κs. search needs)
     returns-2
-    add-h
-    sub-u
-    end-requires
+    (λ c. search needs)
+    (λ c. search needs)
+    (λ c κs. search needs)
     returns-3
-    end-requires-2
+    (λ c κs. search needs)
     returns-4)

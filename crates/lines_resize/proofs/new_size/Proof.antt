@@ -14,12 +14,6 @@ returns c =
     let a = c .before .before .args in
     sized-no (a .call) (a .z) (2 * a .z) (twice (a .call) (a .z) (c .before .if1 .taken)) (big (a .z) (c .if2 .taken))
 
-mul-w : tie.Need-mul-w
-mul-w c = search needs
-
-is-listed-size-requires : tie.Need-is-listed-size-requires
-is-listed-size-requires c κs = search needs
-
 returns-2 : tie.Need-returns-2
 returns-2 c =
     let at-if1 = c .before .before .before in
@@ -33,9 +27,6 @@ returns-3 c =
     let a = at-if1 .before .args in
     let listed = sym (c .before .is-listed-size .ensures) ∙ c .if3 .left in
     sized-no (a .call) (a .z) (2 * a .z) (twice (a .call) (a .z) (at-if1 .if1 .taken)) listed
-
-is-listed-size-requires-2 : tie.Need-is-listed-size-requires-2
-is-listed-size-requires-2 c κs = search needs
 
 returns-4 : tie.Need-returns-4
 unfolding resized
@@ -58,10 +49,10 @@ new-size-spec =
     tie.close
     (tie.spec
     returns
-    mul-w
-    is-listed-size-requires
+    (λ c. search needs)
+    (λ c κs. search needs)
     returns-2
     returns-3
-    is-listed-size-requires-2
+    (λ c κs. search needs)
     returns-4
     returns-5)

@@ -32,20 +32,11 @@ line28-requires c κs =
     let others = c .match .rest in
     (n .number, left-28 _ (runs .at-line) (others .0 .0 .1) (others .0 .1) (others .1), n .head)
 
-same-length : tie.Need-same-length
-same-length c = search needs
-
 returns : tie.Need-returns
 returns c = c .line20 .ensures
 
-same-length-2 : tie.Need-same-length-2
-same-length-2 c = search needs
-
 returns-2 : tie.Need-returns-2
 returns-2 c = c .before .before .line24 .ensures
-
-same-length-3 : tie.Need-same-length-3
-same-length-3 c = search needs
 
 returns-3 : tie.Need-returns-3
 returns-3 c = c .before .before .line27 .ensures
@@ -61,10 +52,10 @@ step-spec =
     line24-requires
     line27-requires
     line28-requires
-    same-length
+    (λ c. search needs)
     returns
-    same-length-2
+    (λ c. search needs)
     returns-2
-    same-length-3
+    (λ c. search needs)
     returns-3
     returns-4)

@@ -9,12 +9,6 @@ use Rattle.listing.proofs.add_to.Tie as tie
 returns : tie.Need-returns
 returns c = sym (full-same (c .before .args .g) (c .before .args .tag) (c .if1 .taken))
 
-add-requires : tie.Need-add-requires
-add-requires c κs = search needs
-
-enum-told : tie.Need-enum-told
-enum-told c = search needs
-
 returns-2 : tie.Need-returns-2
 returns-2 c =
     let at-if1 = c .before .before .before .before .before in
@@ -30,4 +24,4 @@ returns-3 c =
     sym (not-full-yet (a .g) (a .tag) (at-if1 .if1 .left) (added .result) (added .ensures) (not-full (added .result .answer) (c .match .keys2)))
 
 pub add-to-spec : {M : Type 1} → statement M
-add-to-spec = tie.close (tie.spec returns add-requires enum-told returns-2 returns-3)
+add-to-spec = tie.close (tie.spec returns (λ c κs. search needs) (λ c. search needs) returns-2 returns-3)

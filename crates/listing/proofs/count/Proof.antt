@@ -13,26 +13,11 @@ use borrow.Author.Needs.{needs}
 use Rattle.listing.proofs.count.Statement.{statement}
 use Rattle.listing.proofs.count.Tie as tie
 
-count-node-requires : tie.Need-count-node-requires
-count-node-requires c κs = search needs
-
-pred-at-requires : tie.Need-pred-at-requires
-pred-at-requires c κs = search needs
-
 returns : tie.Need-returns
 returns c =
     let a = c .before .before .before .before .before .before .args in
     let alone = set-alone (a .s .config) (now (a .ns)) (now (a .bs)) (a .s .head) (sym (c .before .pred-at .ensures) ∙ c .if1 .taken) in
     c .before .before .count-node .ensures .0 ∙ sym (ap length alone)
-
-number-of-requires : tie.Need-number-of-requires
-number-of-requires c κs = search needs
-
-count-node-requires-2 : tie.Need-count-node-requires-2
-count-node-requires-2 c κs = search needs
-
-add-result : tie.Need-add-result
-add-result c = search needs
 
 returns-2 : tie.Need-returns-2
 returns-2 c =
@@ -54,10 +39,10 @@ pub count-spec : {M : Type 1} → statement M
 count-spec =
     tie.close
     (tie.spec
-    count-node-requires
-    pred-at-requires
+    (λ c κs. search needs)
+    (λ c κs. search needs)
     returns
-    number-of-requires
-    count-node-requires-2
-    add-result
+    (λ c κs. search needs)
+    (λ c κs. search needs)
+    (λ c. search needs)
     returns-2)

@@ -12,26 +12,11 @@ use borrow.Author.Needs.{needs}
 use Rattle.listing.proofs.gather.Statement.{statement}
 use Rattle.listing.proofs.gather.Tie as tie
 
-array-write-w : tie.Need-array-write-w
-array-write-w c = search needs
-
-gather-node-requires : tie.Need-gather-node-requires
-gather-node-requires c κs = search needs
-
-pred-at-requires : tie.Need-pred-at-requires
-pred-at-requires c κs = search needs
-
 returns : tie.Need-returns
 returns c =
     let a = c .before .before .before .before .before .before .args in
     let alone = set-alone (a .s .config) (now (a .ns)) (now (a .bs)) (a .s .head) (sym (c .before .pred-at .ensures) ∙ c .if1 .taken) in
     c .before .before .gather-node .ensures ∙ ap (adds nothing) (sym alone)
-
-number-of-requires : tie.Need-number-of-requires
-number-of-requires c κs = search needs
-
-gather-node-requires-2 : tie.Need-gather-node-requires-2
-gather-node-requires-2 c κs = search needs
 
 returns-2 : tie.Need-returns-2
 returns-2 c =
@@ -53,10 +38,10 @@ pub gather-spec : {M : Type 1} → statement M
 gather-spec =
     tie.close
     (tie.spec
-    array-write-w
-    gather-node-requires
-    pred-at-requires
+    (λ c. search needs)
+    (λ c κs. search needs)
+    (λ c κs. search needs)
     returns
-    number-of-requires
-    gather-node-requires-2
+    (λ c κs. search needs)
+    (λ c κs. search needs)
     returns-2)

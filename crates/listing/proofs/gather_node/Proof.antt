@@ -21,15 +21,6 @@ abbrev μ-loop : tie.MeasureT-loop
 loop-holds : tie.Need-loop-holds Inv-loop μ-loop
 loop-holds c = (omega arith, refl)
 
-gather-place-requires : tie.Need-gather-place-requires Inv-loop μ-loop
-gather-place-requires c κs = search needs
-
-add-j : tie.Need-add-j Inv-loop μ-loop
-add-j c = search needs
-
-loop-less : tie.Need-loop-less Inv-loop μ-loop
-loop-less c = search needs
-
 loop-again : tie.Need-loop-again Inv-loop μ-loop
 loop-again c =
     let loop = c .before .before .loop in
@@ -53,4 +44,4 @@ returns c =
 pub gather-node-spec : {M : Type 1} → statement M
 gather-node-spec =
     tie.close
-    (tie.spec Inv-loop μ-loop loop-holds gather-place-requires add-j loop-less loop-again returns)
+    (tie.spec Inv-loop μ-loop loop-holds (λ c κs. search needs) (λ c. search needs) (λ c. search needs) loop-again returns)

@@ -25,9 +25,6 @@ Inv-loop g ns bs head k old j l w n out₀ i₀ out i =
 abbrev μ-loop : tie.MeasureT-loop
 μ-loop g ns bs head k old j l w n out₀ i₀ out i = n - i
 
-place-at-requires : tie.Need-place-at-requires Inv-loop μ-loop
-place-at-requires c κs = search needs
-
 returns : tie.Need-returns Inv-loop μ-loop
 returns c =
     let a = c .before .before .before .before .args in
@@ -36,41 +33,8 @@ returns c =
     let none = place-empty g (now (a .ns)) (now (a .bs)) (a .head) (a .k) (a .old) (a .j) (placed .result) (placed .ensures) (c .if1 .taken) in
     sym (ap (adds (a .had)) none ∙ adds-none (a .had))
 
-cast-load : tie.Need-cast-load Inv-loop μ-loop
-cast-load c = search needs
-
-sub-load : tie.Need-sub-load Inv-loop μ-loop
-sub-load c = search needs
-
-load-requires : tie.Need-load-requires Inv-loop μ-loop
-load-requires c κs = search needs
-
-count-requires : tie.Need-count-requires Inv-loop μ-loop
-count-requires c κs = search needs
-
 loop-holds : tie.Need-loop-holds Inv-loop μ-loop
 loop-holds c = (omega arith, refl)
-
-add-t : tie.Need-add-t Inv-loop μ-loop
-add-t c = search needs
-
-mul-t : tie.Need-mul-t Inv-loop μ-loop
-mul-t c = search needs
-
-array-read-t : tie.Need-array-read-t Inv-loop μ-loop
-array-read-t c = search needs
-
-is-looked-up-requires : tie.Need-is-looked-up-requires Inv-loop μ-loop
-is-looked-up-requires c κs = search needs
-
-add-to-requires : tie.Need-add-to-requires Inv-loop μ-loop
-add-to-requires c κs = search needs
-
-add-i : tie.Need-add-i Inv-loop μ-loop
-add-i c = search needs
-
-loop-less : tie.Need-loop-less Inv-loop μ-loop
-loop-less c = search needs
 
 loop-again : tie.Need-loop-again Inv-loop μ-loop
 loop-again c =
@@ -115,19 +79,19 @@ gather-place-spec =
     (tie.spec
     Inv-loop
     μ-loop
-    place-at-requires
+    (λ c κs. search needs)
     returns
-    cast-load
-    sub-load
-    load-requires
-    count-requires
+    (λ c. search needs)
+    (λ c. search needs)
+    (λ c κs. search needs)
+    (λ c κs. search needs)
     loop-holds
-    add-t
-    mul-t
-    array-read-t
-    is-looked-up-requires
-    add-to-requires
-    add-i
-    loop-less
+    (λ c. search needs)
+    (λ c. search needs)
+    (λ c. search needs)
+    (λ c κs. search needs)
+    (λ c κs. search needs)
+    (λ c. search needs)
+    (λ c. search needs)
     loop-again
     returns-2)

@@ -23,9 +23,6 @@ Inv-loop g ns bs head k old j l w n found₀ i₀ found i =
 abbrev μ-loop : tie.MeasureT-loop
 μ-loop g ns bs head k old j l w n found₀ i₀ found i = n - i
 
-place-at-requires : tie.Need-place-at-requires Inv-loop μ-loop
-place-at-requires c κs = search needs
-
 returns : tie.Need-returns Inv-loop μ-loop
 returns c =
     let a = c .before .before .before .before .args in
@@ -34,45 +31,12 @@ returns c =
     let none = place-empty g (now (a .ns)) (now (a .bs)) (a .head) (a .k) (a .old) (a .j) (placed .result) (placed .ensures) (c .if1 .taken) in
     (sym (ap length none), omega arith)
 
-cast-load : tie.Need-cast-load Inv-loop μ-loop
-cast-load c = search needs
-
-sub-load : tie.Need-sub-load Inv-loop μ-loop
-sub-load c = search needs
-
-load-requires : tie.Need-load-requires Inv-loop μ-loop
-load-requires c κs = search needs
-
-count-requires : tie.Need-count-requires Inv-loop μ-loop
-count-requires c κs = search needs
-
 loop-holds : tie.Need-loop-holds Inv-loop μ-loop
 loop-holds c =
     let a = c .before .before .before .before .before .before .before .args in
     let f = looked-up (a .g) (now (a .ns)) (a .head) (a .k) (a .old) (a .j) in
     let z = zero-add (length (filter f (tags-in (c .before .before .load .result .words)))) in
     (omega arith, omega arith, z)
-
-add-is-looked-up : tie.Need-add-is-looked-up Inv-loop μ-loop
-add-is-looked-up c = search needs
-
-mul-is-looked-up : tie.Need-mul-is-looked-up Inv-loop μ-loop
-mul-is-looked-up c = search needs
-
-array-read-is-looked-up : tie.Need-array-read-is-looked-up Inv-loop μ-loop
-array-read-is-looked-up c = search needs
-
-is-looked-up-requires : tie.Need-is-looked-up-requires Inv-loop μ-loop
-is-looked-up-requires c κs = search needs
-
-add-found : tie.Need-add-found Inv-loop μ-loop
-add-found c = search needs
-
-add-i : tie.Need-add-i Inv-loop μ-loop
-add-i c = search needs
-
-loop-less : tie.Need-loop-less Inv-loop μ-loop
-loop-less c = search needs
 
 loop-again : tie.Need-loop-again Inv-loop μ-loop
 loop-again c =
@@ -115,19 +79,19 @@ count-place-spec =
     (tie.spec
     Inv-loop
     μ-loop
-    place-at-requires
+    (λ c κs. search needs)
     returns
-    cast-load
-    sub-load
-    load-requires
-    count-requires
+    (λ c. search needs)
+    (λ c. search needs)
+    (λ c κs. search needs)
+    (λ c κs. search needs)
     loop-holds
-    add-is-looked-up
-    mul-is-looked-up
-    array-read-is-looked-up
-    is-looked-up-requires
-    add-found
-    add-i
-    loop-less
+    (λ c. search needs)
+    (λ c. search needs)
+    (λ c. search needs)
+    (λ c κs. search needs)
+    (λ c. search needs)
+    (λ c. search needs)
+    (λ c. search needs)
     loop-again
     returns-2)

@@ -11,12 +11,6 @@ use borrow.Author.Needs.{needs}
 use Rattle.looked_up.proofs.is_looked_up.Statement.{statement}
 use Rattle.looked_up.proofs.is_looked_up.Tie as tie
 
-size-at-requires : tie.Need-size-at-requires
-size-at-requires c κs = search needs
-
-slot-requires : tie.Need-slot-requires
-slot-requires c κs = search needs
-
 returns : tie.Need-returns
 unfolding looked-up left-over
 returns c =
@@ -24,9 +18,6 @@ returns c =
     let spot : c .before .slot .result ≡ slot (a .g) (a .tag) (size (now (a .ns)) (a .k)) =
     c .before .slot .ensures ∙ ap (slot (a .g) (a .tag)) (c .before .before .size-at .ensures) in
     rw (← spot, ne-eqb _ _ (c .if1 .taken))
-
-place-for-at-requires : tie.Need-place-for-at-requires
-place-for-at-requires c κs = search needs
 
 returns-2 : tie.Need-returns-2
 unfolding looked-up left-over
@@ -49,4 +40,4 @@ returns-3 c =
 pub is-looked-up-spec : {M : Type 1} → statement M
 is-looked-up-spec =
     tie.close
-    (tie.spec size-at-requires slot-requires returns place-for-at-requires returns-2 returns-3)
+    (tie.spec (λ c κs. search needs) (λ c κs. search needs) returns (λ c κs. search needs) returns-2 returns-3)

@@ -23,9 +23,6 @@ Inv-loop k n events ns₀ bs₀ calls₀ ok t₀ count₀ i₀ ns bs calls t cou
 abbrev μ-loop : tie.MeasureT-loop
 μ-loop k n events ns₀ bs₀ calls₀ ok t₀ count₀ i₀ ns bs calls t count i = n - i
 
-open-requires : tie.Need-open-requires Inv-loop μ-loop
-open-requires c κs = search needs
-
 loop-holds : tie.Need-loop-holds Inv-loop μ-loop
 loop-holds c =
     let at-open = c .before .before .before .before .before .before in
@@ -39,15 +36,6 @@ loop-holds c =
       run-start (now (a .events)) (a .k) (a .n) _,
       known-opened (a .g) (now (a .ns)) (now (a .bs)) (o .ensures .0) (o .ensures .1),
     )
-
-add-next : tie.Need-add-next Inv-loop μ-loop
-add-next c = search needs
-
-run-one-requires : tie.Need-run-one-requires Inv-loop μ-loop
-run-one-requires c κs = search needs
-
-loop-less : tie.Need-loop-less Inv-loop μ-loop
-loop-less c = search needs
 
 loop-again : tie.Need-loop-again Inv-loop μ-loop
 loop-again c =
@@ -68,9 +56,6 @@ loop-again c =
       l .inv .6 ∙ sym (known-after _ _ (event-at (now (a .events)) (l .i)) (r .ensures .1)),
     )
 
-loop-less-2 : tie.Need-loop-less-2 Inv-loop μ-loop
-loop-less-2 c = search needs
-
 loop-again-2 : tie.Need-loop-again-2 Inv-loop μ-loop
 loop-again-2 c =
     let at-test = c .before in
@@ -86,15 +71,6 @@ loop-again-2 c =
       run-past (now (a .events)) (a .k) (a .n) _ (l .inv .5) (at-test .loop-test .taken) (c .if1 .left),
       l .inv .6,
     )
-
-same-length : tie.Need-same-length Inv-loop μ-loop
-same-length c = search needs
-
-same-length-2 : tie.Need-same-length-2 Inv-loop μ-loop
-same-length-2 c = search needs
-
-same-length-3 : tie.Need-same-length-3 Inv-loop μ-loop
-same-length-3 c = search needs
 
 returns : tie.Need-returns Inv-loop μ-loop
 returns c =
@@ -113,15 +89,15 @@ run-without-spec =
     (tie.spec
     Inv-loop
     μ-loop
-    open-requires
+    (λ c κs. search needs)
     loop-holds
-    add-next
-    run-one-requires
-    loop-less
+    (λ c. search needs)
+    (λ c κs. search needs)
+    (λ c. search needs)
     loop-again
-    loop-less-2
+    (λ c. search needs)
     loop-again-2
-    same-length
-    same-length-2
-    same-length-3
+    (λ c. search needs)
+    (λ c. search needs)
+    (λ c. search needs)
     returns)

@@ -11,18 +11,9 @@ use Rattle.mattered_replay.proofs.task_of.Tie as tie
 eight : (c : tie.Start) → length (c .args .t1 .task) ≡ 8
 eight c = search (needs, length-mapped)
 
-mul-result : tie.Need-mul-result
-mul-result c = search needs
-
-element-copy-out-result : tie.Need-element-copy-out-result
-element-copy-out-result c = search needs
-
 returns : tie.Need-returns
 unfolding idle
 returns c = refl
-
-idle-requires : tie.Need-idle-requires
-idle-requires c κs = search needs
 
 returns-2 : tie.Need-returns-2
 returns-2 c =
@@ -31,4 +22,4 @@ returns-2 c =
 
 pub task-of-spec : {M : Type 1} → statement M
 task-of-spec =
-    tie.close (tie.spec mul-result element-copy-out-result returns idle-requires returns-2)
+    tie.close (tie.spec (λ c. search needs) (λ c. search needs) returns (λ c κs. search needs) returns-2)

@@ -12,9 +12,6 @@ use borrow.Author.Needs.{needs}
 use Rattle.mattered_run.proofs.earliest.Statement.{statement}
 use Rattle.mattered_run.proofs.earliest.Tie as tie
 
-refusal-requires : tie.Need-refusal-requires
-refusal-requires c κs = search needs
-
 returns : tie.Need-returns
 unfolding words-after
 returns c =
@@ -22,9 +19,6 @@ returns c =
     let a = at-refusal .before .before .before .before .args in
     let e = at-refusal .refusal .ensures ∙ sym (opening-refusal (a .g) (now (a .ns)) (now (a .bs))) in
     record { answer = verdict-refused _ (now (a .events)) (a .n) _ e (c .if1 .taken); nodes = refl; buckets = refl }
-
-too-many-requires : tie.Need-too-many-requires
-too-many-requires c κs = search needs
 
 returns-2 : tie.Need-returns-2
 unfolding words-after
@@ -46,15 +40,6 @@ first-step-requires c κs =
     let a = at-refusal .before .before .before .before .args in
     let few = ltb-false _ _ (sym (at-many .too-many .ensures) ∙ at-if2 .if2 .left) in
     (few, opening-refusal (a .g) (now (a .ns)) (now (a .bs)) ∙ sym (at-refusal .refusal .ensures) ∙ at-if1 .if1 .left)
-
-open-again-requires : tie.Need-open-again-requires
-open-again-requires c κs = search needs
-
-same-length : tie.Need-same-length
-same-length c = search needs
-
-same-length-2 : tie.Need-same-length-2
-same-length-2 c = search needs
 
 returns-3 : tie.Need-returns-3
 returns-3 c =
@@ -84,12 +69,12 @@ pub earliest-spec : {M : Type 1} → statement M
 earliest-spec =
     tie.close
     (tie.spec
-    refusal-requires
+    (λ c κs. search needs)
     returns
-    too-many-requires
+    (λ c κs. search needs)
     returns-2
     first-step-requires
-    open-again-requires
-    same-length
-    same-length-2
+    (λ c κs. search needs)
+    (λ c. search needs)
+    (λ c. search needs)
     returns-3)

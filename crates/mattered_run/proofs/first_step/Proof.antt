@@ -12,21 +12,6 @@ use borrow.Author.Needs.{needs}
 use Rattle.mattered_run.proofs.first_step.Statement.{statement}
 use Rattle.mattered_run.proofs.first_step.Tie as tie
 
-room-requires : tie.Need-room-requires
-room-requires c κs = search needs
-
-slice-aggregate-run-without : tie.Need-slice-aggregate-run-without
-slice-aggregate-run-without c = search needs
-
-run-without-requires : tie.Need-run-without-requires
-run-without-requires c κs = search needs
-
-mul-at : tie.Need-mul-at
-mul-at c = search needs
-
-array-share-prefix-calls : tie.Need-array-share-prefix-calls
-array-share-prefix-calls c = search needs
-
 slice-aggregate-search : tie.Need-slice-aggregate-search
 slice-aggregate-search c =
     let at-run = c .before .before .before .before .before .before .before .before in
@@ -51,12 +36,6 @@ search-requires c κs =
       all-words-read (now (a .events)) (a .n) _ _ same _ _ (r .result) (r .ensures .count) (r .ensures .words),
     )
 
-same-length : tie.Need-same-length
-same-length c = search needs
-
-same-length-2 : tie.Need-same-length-2
-same-length-2 c = search needs
-
 returns : tie.Need-returns
 returns c =
     let at-search = c .before .before .before .before in
@@ -73,13 +52,13 @@ pub first-step-spec : {M : Type 1} → statement M
 first-step-spec =
     tie.close
     (tie.spec
-    room-requires
-    slice-aggregate-run-without
-    run-without-requires
-    mul-at
-    array-share-prefix-calls
+    (λ c κs. search needs)
+    (λ c. search needs)
+    (λ c κs. search needs)
+    (λ c. search needs)
+    (λ c. search needs)
     slice-aggregate-search
     search-requires
-    same-length
-    same-length-2
+    (λ c. search needs)
+    (λ c. search needs)
     returns)

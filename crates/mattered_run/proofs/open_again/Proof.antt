@@ -5,15 +5,6 @@ use borrow.Author.Needs.{needs}
 use Rattle.mattered_run.proofs.open_again.Statement.{statement}
 use Rattle.mattered_run.proofs.open_again.Tie as tie
 
-open-requires : tie.Need-open-requires
-open-requires c κs = search needs
-
-same-length : tie.Need-same-length
-same-length c = search needs
-
-same-length-2 : tie.Need-same-length-2
-same-length-2 c = search needs
-
 returns : tie.Need-returns
 returns c =
     let o = c .before .before .before .before .«open» .ensures in
@@ -23,7 +14,7 @@ pub open-again-spec : {M : Type 1} → statement M
 open-again-spec =
     tie.close
     (tie.spec
-    open-requires
-    same-length
-    same-length-2
+    (λ c κs. search needs)
+    (λ c. search needs)
+    (λ c. search needs)
     returns)

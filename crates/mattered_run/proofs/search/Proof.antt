@@ -24,21 +24,6 @@ loop-holds c =
     let a = c .before .before .before .before .args in
     (refl, refl, omega arith, search-start _ _ (a .n) (events-length (a .n) (now (a .events))))
 
-matters-requires : tie.Need-matters-requires Inv-loop μ-loop
-matters-requires c κs = search needs
-
-cast-t14 : tie.Need-cast-t14 Inv-loop μ-loop
-cast-t14 c = search needs
-
-add-t15 : tie.Need-add-t15 Inv-loop μ-loop
-add-t15 c = search needs
-
-same-length : tie.Need-same-length Inv-loop μ-loop
-same-length c = search needs
-
-same-length-2 : tie.Need-same-length-2 Inv-loop μ-loop
-same-length-2 c = search needs
-
 returns : tie.Need-returns Inv-loop μ-loop
 returns c =
     let at-matters = c .before .before .before .before .before in
@@ -50,12 +35,6 @@ returns c =
     let same = again-machine (a .g) (now (a .ns)) (now (a .bs)) (l .ns) (l .bs) (l .inv .0) (l .inv .1) (start .pre .1) in
     let r = alters-read _ _ same _ _ (start .pre .2) (l .k) (m .result) (m .ensures) in
     search-found _ _ (a .n) (l .k) (l .inv .3) (at-test .loop-test .taken) (sym r ∙ c .if1 .taken)
-
-add-k : tie.Need-add-k Inv-loop μ-loop
-add-k c = search needs
-
-loop-less : tie.Need-loop-less Inv-loop μ-loop
-loop-less c = search needs
 
 loop-again : tie.Need-loop-again Inv-loop μ-loop
 loop-again c =
@@ -73,12 +52,6 @@ loop-again c =
       search-on _ _ (a .n) (l .k) (l .inv .3) (at-test .loop-test .taken) (sym r ∙ c .if1 .left),
     )
 
-same-length-3 : tie.Need-same-length-3 Inv-loop μ-loop
-same-length-3 c = search needs
-
-same-length-4 : tie.Need-same-length-4 Inv-loop μ-loop
-same-length-4 c = search needs
-
 returns-2 : tie.Need-returns-2 Inv-loop μ-loop
 returns-2 c =
     let l = c .before .loop in
@@ -91,15 +64,15 @@ search-spec =
     Inv-loop
     μ-loop
     loop-holds
-    matters-requires
-    cast-t14
-    add-t15
-    same-length
-    same-length-2
+    (λ c κs. search needs)
+    (λ c. search needs)
+    (λ c. search needs)
+    (λ c. search needs)
+    (λ c. search needs)
     returns
-    add-k
-    loop-less
+    (λ c. search needs)
+    (λ c. search needs)
     loop-again
-    same-length-3
-    same-length-4
+    (λ c. search needs)
+    (λ c. search needs)
     returns-2)

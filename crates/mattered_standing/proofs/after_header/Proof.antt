@@ -4,30 +4,6 @@ use borrow.Author.Needs.{needs}
 use Rattle.mattered_standing.proofs.after_header.Statement.{statement}
 use Rattle.mattered_standing.proofs.after_header.Tie as tie
 
-enum-known-step : tie.Need-enum-known-step
-enum-known-step c = search needs
-
-stands-requires : tie.Need-stands-requires
-stands-requires c κs = search needs
-
-enum-known-step-2 : tie.Need-enum-known-step-2
-enum-known-step-2 c = search needs
-
-stands-requires-2 : tie.Need-stands-requires-2
-stands-requires-2 c κs = search needs
-
-enum-known-step-3 : tie.Need-enum-known-step-3
-enum-known-step-3 c = search needs
-
-after-event-requires : tie.Need-after-event-requires
-after-event-requires c κs = search needs
-
-enum-told : tie.Need-enum-told
-enum-told c = search needs
-
-stands-requires-3 : tie.Need-stands-requires-3
-stands-requires-3 c κs = search needs
-
 returns : tie.Need-returns
 unfolding after-header
 returns c =
@@ -56,14 +32,14 @@ pub after-header-spec : {M : Type 1} → statement M
 after-header-spec =
     tie.close
     (tie.spec
-    enum-known-step
-    stands-requires
-    enum-known-step-2
-    stands-requires-2
-    enum-known-step-3
-    after-event-requires
-    enum-told
-    stands-requires-3
+    (λ c. search needs)
+    (λ c κs. search needs)
+    (λ c. search needs)
+    (λ c κs. search needs)
+    (λ c. search needs)
+    (λ c κs. search needs)
+    (λ c. search needs)
+    (λ c κs. search needs)
     returns
     returns-2
     returns-3

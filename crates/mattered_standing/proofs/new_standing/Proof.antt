@@ -5,12 +5,6 @@ use borrow.Author.Needs.{needs}
 use Rattle.mattered_standing.proofs.new_standing.Statement.{statement}
 use Rattle.mattered_standing.proofs.new_standing.Tie as tie
 
-zero-config-requires : tie.Need-zero-config-requires
-zero-config-requires c κs = search needs
-
-stands-requires : tie.Need-stands-requires
-stands-requires c κs = search needs
-
 returns : tie.Need-returns
 unfolding new-standing empty-header
 returns c =
@@ -18,4 +12,4 @@ returns c =
     rw (c .stands .ensures, at-zero-config .zero-config .ensures)
 
 pub new-standing-spec : {M : Type 1} → statement M
-new-standing-spec = tie.close (tie.spec zero-config-requires stands-requires returns)
+new-standing-spec = tie.close (tie.spec (λ c κs. search needs) (λ c κs. search needs) returns)

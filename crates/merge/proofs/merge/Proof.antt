@@ -16,16 +16,10 @@ len-a c = search (needs, length-mapped)
 len-b : (c : tie.Start) → length (c .args .b .note) ≡ 6
 len-b c = search (needs, length-mapped)
 
-unfit-requires : tie.Need-unfit-requires
-unfit-requires c κs = search needs
-
 returns : tie.Need-returns
 returns c =
     let entry = c .before .before in
     refused-first (entry .args .a) (entry .args .b) (sym (c .before .unfit .ensures) ∙ c .if1 .taken)
-
-unfit-requires-2 : tie.Need-unfit-requires-2
-unfit-requires-2 c κs = search needs
 
 returns-2 : tie.Need-returns-2
 returns-2 c =
@@ -66,9 +60,9 @@ pub merge-spec : {M : Type 1} → statement M
 merge-spec =
     tie.close
     (tie.spec
-    unfit-requires
+    (λ c κs. search needs)
     returns
-    unfit-requires-2
+    (λ c κs. search needs)
     returns-2
     search-requires
     returns-3

@@ -21,24 +21,6 @@ returns c =
       given = λ S st. past (a .a) (a .b) (a .i) (a .j) S st (p .1) (p .2) (a .t1) (len entry) (p .0) (a .k) (c .if1 .taken);
     }
 
-mul-x : tie.Need-mul-x
-mul-x c = search needs
-
-element-copy-out-x : tie.Need-element-copy-out-x
-element-copy-out-x c = search needs
-
-toggled-requires : tie.Need-toggled-requires
-toggled-requires c κs = search needs
-
-toggled-requires-2 : tie.Need-toggled-requires-2
-toggled-requires-2 c κs = search needs
-
-said-requires : tie.Need-said-requires
-said-requires c κs = search needs
-
-number-requires : tie.Need-number-requires
-number-requires c κs = search needs
-
 returns-2 : tie.Need-returns-2
 returns-2 c =
     let at-said = c .before in
@@ -60,10 +42,10 @@ right-spec =
     tie.close
     (tie.spec
     returns
-    mul-x
-    element-copy-out-x
-    toggled-requires
-    toggled-requires-2
-    said-requires
-    number-requires
+    (λ c. search needs)
+    (λ c. search needs)
+    (λ c κs. search needs)
+    (λ c κs. search needs)
+    (λ c κs. search needs)
+    (λ c κs. search needs)
     returns-2)

@@ -9,17 +9,11 @@ returns : tie.Need-returns
 unfolding turns
 returns c = rw (ne-eqb _ _ (c .if1 .taken))
 
-number-requires : tie.Need-number-requires
-number-requires c κs = search needs
-
 returns-2 : tie.Need-returns-2
 unfolding turns
 returns-2 c =
     let at-number = c .before in
     rw (eq-eqb _ _ (at-number .before .if1 .left), ← at-number .number .ensures, ne-eqb _ _ (c .if2 .taken))
-
-moves-requires : tie.Need-moves-requires
-moves-requires c κs = search needs
 
 returns-3 : tie.Need-returns-3
 unfolding turns
@@ -29,4 +23,4 @@ returns-3 c =
     rw (eq-eqb _ _ (at-number .before .if1 .left), ← at-number .number .ensures, eq-eqb _ _ (at-if2 .if2 .left)) (c .moves .ensures)
 
 pub turns-spec : {M : Type 1} → statement M
-turns-spec = tie.close (tie.spec returns number-requires returns-2 moves-requires returns-3)
+turns-spec = tie.close (tie.spec returns (λ c κs. search needs) returns-2 (λ c κs. search needs) returns-3)

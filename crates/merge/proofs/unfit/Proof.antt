@@ -26,15 +26,6 @@ returns c = sym (list-long (c .before .args .t1) (c .if1 .taken))
 loop-holds : tie.Need-loop-holds Inv-loop μ-loop
 loop-holds c = (refl, omega arith, refl)
 
-mul-x : tie.Need-mul-x Inv-loop μ-loop
-mul-x c = search needs
-
-element-copy-out-x : tie.Need-element-copy-out-x Inv-loop μ-loop
-element-copy-out-x c = search needs
-
-is-set-call-requires : tie.Need-is-set-call-requires Inv-loop μ-loop
-is-set-call-requires c κs = search needs
-
 returns-2 : tie.Need-returns-2 Inv-loop μ-loop
 returns-2 c =
     let called = c .before in
@@ -43,12 +34,6 @@ returns-2 c =
     let entry = at-loop .before .before in
     resize-found (entry .args .t1) (len entry) (at-loop .before .if1 .left) (at-loop .loop .i) (at-loop .loop .inv .2) _ (in-loop .loop-test .taken)
     (sym (called .is-set-call .ensures) ∙ not-true _ (c .if2 .taken))
-
-add-i : tie.Need-add-i Inv-loop μ-loop
-add-i c = search needs
-
-loop-less : tie.Need-loop-less Inv-loop μ-loop
-loop-less c = search needs
 
 loop-again : tie.Need-loop-again Inv-loop μ-loop
 loop-again c =
@@ -75,11 +60,11 @@ unfit-spec =
     μ-loop
     returns
     loop-holds
-    mul-x
-    element-copy-out-x
-    is-set-call-requires
+    (λ c. search needs)
+    (λ c. search needs)
+    (λ c κs. search needs)
     returns-2
-    add-i
-    loop-less
+    (λ c. search needs)
+    (λ c. search needs)
     loop-again
     returns-3)

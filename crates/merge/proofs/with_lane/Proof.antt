@@ -4,9 +4,6 @@ use Rattle.merge.proofs.SearchLaws.{lane-before, none-before}
 use Rattle.merge.proofs.with_lane.Statement.{statement}
 use Rattle.merge.proofs.with_lane.Tie as tie
 
-array-write-w : tie.Need-array-write-w
-array-write-w c = search needs
-
 returns : tie.Need-returns
 returns c l f e h =
     let a = c .before .before .args in
@@ -16,4 +13,4 @@ returns-2 : tie.Need-returns-2
 returns-2 c l f e h = none-before (c .before .args .t) (c .before .args .k) l f h (c .if1 .left)
 
 pub with-lane-spec : {M : Type 1} → statement M
-with-lane-spec = tie.close (tie.spec array-write-w returns returns-2)
+with-lane-spec = tie.close (tie.spec (λ c. search needs) returns returns-2)

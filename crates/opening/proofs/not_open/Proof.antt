@@ -4,11 +4,8 @@ use borrow.Author.Needs.{needs}
 use Rattle.opening.proofs.not_open.Statement.{statement}
 use Rattle.opening.proofs.not_open.Tie as tie
 
-zero-state-requires : tie.Need-zero-state-requires
-zero-state-requires c κs = search needs
-
 returns : tie.Need-returns
 returns c = (refl, c .zero-state .ensures)
 
 pub not-open-spec : {M : Type 1} → statement M
-not-open-spec = tie.close (tie.spec zero-state-requires returns)
+not-open-spec = tie.close (tie.spec (λ c κs. search needs) returns)

@@ -14,12 +14,6 @@ use borrow.Author.Needs.{needs}
 use Rattle.opening.proofs.open.Statement.{statement}
 use Rattle.opening.proofs.open.Tie as tie
 
-refusal-requires : tie.Need-refusal-requires
-refusal-requires c κs = search needs
-
-not-open-requires : tie.Need-not-open-requires
-not-open-requires c κs = search needs
-
 returns : tie.Need-returns
 unfolding not-opened
 returns c =
@@ -44,21 +38,6 @@ cast-h c = omega (arith, accepted c .nodes-fit .few)
 cast-b : tie.Need-cast-b
 cast-b c = omega (arith, accepted c .buckets-fit .few)
 
-put-first-node-requires : tie.Need-put-first-node-requires
-put-first-node-requires c κs = search needs
-
-put-first-bucket-requires : tie.Need-put-first-bucket-requires
-put-first-bucket-requires c κs = search needs
-
-fresh-state-requires : tie.Need-fresh-state-requires
-fresh-state-requires c κs = search needs
-
-same-length : tie.Need-same-length
-same-length c = search needs
-
-same-length-2 : tie.Need-same-length-2
-same-length-2 c = search needs
-
 returns-2 : tie.Need-returns-2
 unfolding fresh-machine
 returns-2 c =
@@ -81,14 +60,14 @@ pub open-spec : {M : Type 1} → statement M
 open-spec =
     tie.close
     (tie.spec
-    refusal-requires
-    not-open-requires
+    (λ c κs. search needs)
+    (λ c κs. search needs)
     returns
     cast-h
     cast-b
-    put-first-node-requires
-    put-first-bucket-requires
-    fresh-state-requires
-    same-length
-    same-length-2
+    (λ c κs. search needs)
+    (λ c κs. search needs)
+    (λ c κs. search needs)
+    (λ c. search needs)
+    (λ c. search needs)
     returns-2)

@@ -7,15 +7,6 @@ use borrow.Author.Needs.{needs}
 use Rattle.opening.proofs.put_first_bucket.Statement.{statement}
 use Rattle.opening.proofs.put_first_bucket.Tie as tie
 
-zero-requires : tie.Need-zero-requires
-zero-requires c κs = search needs
-
-put-requires : tie.Need-put-requires
-put-requires c κs = search needs
-
-same-length : tie.Need-same-length
-same-length c = search needs
-
 returns : tie.Need-returns
 returns c =
     let put-flag = c .before .before in
@@ -23,4 +14,4 @@ returns c =
     put-flag .put .ensures ∙ ap (λ (l : List ℕ). set l 0 1) (zeroed .ensures)
 
 pub put-first-bucket-spec : {M : Type 1} → statement M
-put-first-bucket-spec = tie.close (tie.spec zero-requires put-requires same-length returns)
+put-first-bucket-spec = tie.close (tie.spec (λ c κs. search needs) (λ c κs. search needs) (λ c. search needs) returns)

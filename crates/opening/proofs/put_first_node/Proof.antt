@@ -7,18 +7,6 @@ use borrow.Author.Needs.{needs}
 use Rattle.opening.proofs.put_first_node.Statement.{statement}
 use Rattle.opening.proofs.put_first_node.Tie as tie
 
-zero-requires : tie.Need-zero-requires
-zero-requires c κs = search needs
-
-put-requires : tie.Need-put-requires
-put-requires c κs = search needs
-
-put-requires-2 : tie.Need-put-requires-2
-put-requires-2 c κs = search needs
-
-same-length : tie.Need-same-length
-same-length c = search needs
-
 returns : tie.Need-returns
 returns c =
     let put-place = c .before .before in
@@ -28,4 +16,4 @@ returns c =
 
 pub put-first-node-spec : {M : Type 1} → statement M
 put-first-node-spec =
-    tie.close (tie.spec zero-requires put-requires put-requires-2 same-length returns)
+    tie.close (tie.spec (λ c κs. search needs) (λ c κs. search needs) (λ c κs. search needs) (λ c. search needs) returns)

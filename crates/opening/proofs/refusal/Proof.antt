@@ -6,24 +6,15 @@ use borrow.Author.Needs.{needs}
 use Rattle.opening.proofs.refusal.Statement.{statement}
 use Rattle.opening.proofs.refusal.Tie as tie
 
-within-requires : tie.Need-within-requires
-within-requires c κs = search needs
-
 returns : tie.Need-returns
 unfolding refusal-of
 returns c = rw (sym (c .before .within .ensures) ∙ not-true _ (c .if1 .taken))
-
-fits-requires : tie.Need-fits-requires
-fits-requires c κs = search needs
 
 returns-2 : tie.Need-returns-2
 unfolding refusal-of
 returns-2 c =
     let tasks-ok = c .before .before in
     rw (sym (tasks-ok .before .within .ensures) ∙ not-false _ (tasks-ok .if1 .left), sym (c .before .fits2 .ensures) ∙ not-true _ (c .if2 .taken))
-
-fits-requires-2 : tie.Need-fits-requires-2
-fits-requires-2 c κs = search needs
 
 returns-3 : tie.Need-returns-3
 unfolding refusal-of
@@ -35,9 +26,6 @@ returns-3 c =
       sym (nodes-ok .before .fits2 .ensures) ∙ not-false _ (nodes-ok .if2 .left),
       sym (c .before .fits3 .ensures) ∙ not-true _ (c .if3 .taken),
     )
-
-within-requires-2 : tie.Need-within-requires-2
-within-requires-2 c κs = search needs
 
 returns-4 : tie.Need-returns-4
 unfolding refusal-of
@@ -69,12 +57,12 @@ pub refusal-spec : {M : Type 1} → statement M
 refusal-spec =
     tie.close
     (tie.spec
-    within-requires
+    (λ c κs. search needs)
     returns
-    fits-requires
+    (λ c κs. search needs)
     returns-2
-    fits-requires-2
+    (λ c κs. search needs)
     returns-3
-    within-requires-2
+    (λ c κs. search needs)
     returns-4
     returns-5)

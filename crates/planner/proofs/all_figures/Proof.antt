@@ -25,35 +25,11 @@ abbrev μ-loop : tie.MeasureT-loop
 room : (c : tie.Start Inv-loop μ-loop) → length (c .args .t2 .call) ≡ 64
 room c = search (needs, length-mapped)
 
-no-figures-requires : tie.Need-no-figures-requires Inv-loop μ-loop
-no-figures-requires c κs = search needs
-
-fresh-requires : tie.Need-fresh-requires Inv-loop μ-loop
-fresh-requires c κs = search needs
-
 loop-holds : tie.Need-loop-holds Inv-loop μ-loop
 loop-holds c = (omega arith, c .fresh .ensures .1, rw (c .before .no-figures .ensures, c .fresh .ensures .0))
 
-mul-call : tie.Need-mul-call Inv-loop μ-loop
-mul-call c = search needs
-
-element-copy-out-call : tie.Need-element-copy-out-call Inv-loop μ-loop
-element-copy-out-call c = search needs
-
 call-requires : tie.Need-call-requires Inv-loop μ-loop
 call-requires c κs = c .before .before .loop .inv .1
-
-mul-out : tie.Need-mul-out Inv-loop μ-loop
-mul-out c = search needs
-
-array-set-from-out : tie.Need-array-set-from-out Inv-loop μ-loop
-array-set-from-out c = search needs
-
-add-i : tie.Need-add-i Inv-loop μ-loop
-add-i c = search needs
-
-loop-less : tie.Need-loop-less Inv-loop μ-loop
-loop-less c = search needs
 
 loop-again : tie.Need-loop-again Inv-loop μ-loop
 loop-again c =
@@ -85,15 +61,15 @@ all-figures-spec =
     (tie.spec
     Inv-loop
     μ-loop
-    no-figures-requires
-    fresh-requires
+    (λ c κs. search needs)
+    (λ c κs. search needs)
     loop-holds
-    mul-call
-    element-copy-out-call
+    (λ c. search needs)
+    (λ c. search needs)
     call-requires
-    mul-out
-    array-set-from-out
-    add-i
-    loop-less
+    (λ c. search needs)
+    (λ c. search needs)
+    (λ c. search needs)
+    (λ c. search needs)
     loop-again
     returns)

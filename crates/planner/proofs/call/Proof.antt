@@ -3,36 +3,6 @@ use borrow.Author.Needs.{needs}
 use Rattle.planner.proofs.call.Statement.{statement}
 use Rattle.planner.proofs.call.Tie as tie
 
-enum-told : tie.Need-enum-told
-enum-told c = search needs
-
-insert-requires : tie.Need-insert-requires
-insert-requires c κs = search needs
-
-enum-told-2 : tie.Need-enum-told-2
-enum-told-2 c = search needs
-
-remove-requires : tie.Need-remove-requires
-remove-requires c κs = search needs
-
-enum-told-3 : tie.Need-enum-told-3
-enum-told-3 c = search needs
-
-contains-requires : tie.Need-contains-requires
-contains-requires c κs = search needs
-
-enum-told-4 : tie.Need-enum-told-4
-enum-told-4 c = search needs
-
-grow-requires : tie.Need-grow-requires
-grow-requires c κs = search needs
-
-enum-told-5 : tie.Need-enum-told-5
-enum-told-5 c = search needs
-
-shrink-requires : tie.Need-shrink-requires
-shrink-requires c κs = search needs
-
 returns : tie.Need-returns
 returns c = rw (c .before .enum-told .given .1) (c .insert .ensures)
 
@@ -52,16 +22,16 @@ pub call-spec : {M : Type 1} → statement M
 call-spec =
     tie.close
     (tie.spec
-    enum-told
-    insert-requires
-    enum-told-2
-    remove-requires
-    enum-told-3
-    contains-requires
-    enum-told-4
-    grow-requires
-    enum-told-5
-    shrink-requires
+    (λ c. search needs)
+    (λ c κs. search needs)
+    (λ c. search needs)
+    (λ c κs. search needs)
+    (λ c. search needs)
+    (λ c κs. search needs)
+    (λ c. search needs)
+    (λ c κs. search needs)
+    (λ c. search needs)
+    (λ c κs. search needs)
     returns
     returns-2
     returns-3

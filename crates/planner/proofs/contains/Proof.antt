@@ -6,18 +6,6 @@ use borrow.Author.Needs.{needs}
 use Rattle.planner.proofs.contains.Statement.{statement}
 use Rattle.planner.proofs.contains.Tie as tie
 
-place-requires : tie.Need-place-requires
-place-requires c κs = search needs
-
-has-requires : tie.Need-has-requires
-has-requires c κs = search needs
-
-yes-or-no-requires : tie.Need-yes-or-no-requires
-yes-or-no-requires c κs = search needs
-
-array-read-if1 : tie.Need-array-read-if1
-array-read-if1 c = search needs
-
 returns : tie.Need-returns
 returns c =
     let at-filled = c .before in
@@ -43,4 +31,4 @@ returns-2 c =
 pub contains-spec : {M : Type 1} → statement M
 contains-spec =
     tie.close
-    (tie.spec place-requires has-requires yes-or-no-requires array-read-if1 returns returns-2)
+    (tie.spec (λ c κs. search needs) (λ c κs. search needs) (λ c κs. search needs) (λ c. search needs) returns returns-2)

@@ -5,21 +5,6 @@ use borrow.Author.Needs.{needs}
 use Rattle.planner.proofs.fill_steps.Statement.{statement}
 use Rattle.planner.proofs.fill_steps.Tie as tie
 
-cast-if1 : tie.Need-cast-if1
-cast-if1 c = search needs
-
-cast-if1-2 : tie.Need-cast-if1-2
-cast-if1-2 c = search needs
-
-mul-if1 : tie.Need-mul-if1
-mul-if1 c = search needs
-
-mul-result : tie.Need-mul-result
-mul-result c = search needs
-
-mul-result-2 : tie.Need-mul-result-2
-mul-result-2 c = search needs
-
 returns : tie.Need-returns
 returns c = (rw (eq-eqb _ _ (c .if1 .taken)), omega arith)
 
@@ -28,4 +13,4 @@ returns-2 c = (rw (ne-eqb _ _ (c .if1 .left)), omega arith)
 
 pub fill-steps-spec : {M : Type 1} → statement M
 fill-steps-spec =
-    tie.close (tie.spec cast-if1 cast-if1-2 mul-if1 mul-result mul-result-2 returns returns-2)
+    tie.close (tie.spec (λ c. search needs) (λ c. search needs) (λ c. search needs) (λ c. search needs) (λ c. search needs) returns returns-2)

@@ -8,13 +8,10 @@ use borrow.Author.Needs.{needs}
 use Rattle.planner.proofs.fresh.Statement.{statement}
 use Rattle.planner.proofs.fresh.Tie as tie
 
-array-write-words : tie.Need-array-write-words
-array-write-words c = search needs
-
 returns : tie.Need-returns
 unfolding fresh listed-size member
 returns c =
     (refl, record { listed = refl; room = refl; changeable = refl; rising = tt; few = omega arith })
 
 pub fresh-spec : {M : Type 1} → statement M
-fresh-spec = tie.close (tie.spec array-write-words returns)
+fresh-spec = tie.close (tie.spec (λ c. search needs) returns)

@@ -6,9 +6,6 @@ use borrow.Author.Needs.{needs}
 use Rattle.planner.proofs.grow.Statement.{statement}
 use Rattle.planner.proofs.grow.Tie as tie
 
-limited-requires : tie.Need-limited-requires
-limited-requires c κs = search needs
-
 returns : tie.Need-returns
 returns c =
     let entry = c .before .before .before .before in
@@ -30,4 +27,4 @@ returns-2 c =
     λ g tag. grow-plans g (entry .args .s) (entry .pre) tag _ (c .before .before .if1 .left) (c .resize .ensures)
 
 pub grow-spec : {M : Type 1} → statement M
-grow-spec = tie.close (tie.spec limited-requires returns mul-resize resize-requires returns-2)
+grow-spec = tie.close (tie.spec (λ c κs. search needs) returns mul-resize resize-requires returns-2)

@@ -4,12 +4,6 @@ use borrow.Author.Needs.{needs}
 use Rattle.planner.proofs.insert.Statement.{statement}
 use Rattle.planner.proofs.insert.Tie as tie
 
-add-requires : tie.Need-add-requires
-add-requires c κs = search needs
-
-update-requires : tie.Need-update-requires
-update-requires c κs = search needs
-
 returns : tie.Need-returns
 returns c =
     let called = c .before in
@@ -18,4 +12,4 @@ returns c =
     insert-plans (a .g) (a .s) (entry .pre) (a .tag) _ (rw (called .add .ensures) at (c .update .ensures))
 
 pub insert-spec : {M : Type 1} → statement M
-insert-spec = tie.close (tie.spec add-requires update-requires returns)
+insert-spec = tie.close (tie.spec (λ c κs. search needs) (λ c κs. search needs) returns)

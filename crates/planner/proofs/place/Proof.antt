@@ -4,12 +4,6 @@ use borrow.Author.Needs.{needs}
 use Rattle.planner.proofs.place.Statement.{statement}
 use Rattle.planner.proofs.place.Tie as tie
 
-slot-requires : tie.Need-slot-requires
-slot-requires c κs = search needs
-
-cast-result : tie.Need-cast-result
-cast-result c = search needs
-
 returns : tie.Need-returns
 returns c =
     let a = c .before .args in
@@ -17,4 +11,4 @@ returns c =
     (e, place-fits (a .g) (a .tag) (a .h) _ (c .before .pre) e)
 
 pub place-spec : {M : Type 1} → statement M
-place-spec = tie.close (tie.spec slot-requires cast-result returns)
+place-spec = tie.close (tie.spec (λ c κs. search needs) (λ c. search needs) returns)

@@ -12,28 +12,16 @@ use Rattle.planner.proofs.plan.Tie as tie
 room : (c : tie.Start) → length (c .args .calls .call) ≡ 64
 room c = search (needs, length-mapped)
 
-refused-requires : tie.Need-refused-requires
-refused-requires c κs = search needs
-
 returns : tie.Need-returns
 returns c =
     let a = c .before .before .args in
     c .refused .ensures ∙ ap plan-array (sym (refused-low (a .version) (a .calls) (c .before .if1 .taken)))
-
-refused-requires-2 : tie.Need-refused-requires-2
-refused-requires-2 c κs = search needs
 
 returns-2 : tie.Need-returns-2
 returns-2 c =
     let at-if2 = c .before in
     let a = at-if2 .before .before .args in
     c .refused2 .ensures ∙ ap plan-array (sym (refused-high (a .version) (a .calls) (at-if2 .before .if1 .left) (at-if2 .if2 .taken)))
-
-too-long-requires : tie.Need-too-long-requires
-too-long-requires c κs = search needs
-
-refused-requires-3 : tie.Need-refused-requires-3
-refused-requires-3 c κs = search needs
 
 returns-3 : tie.Need-returns-3
 returns-3 c =
@@ -43,12 +31,6 @@ returns-3 c =
     let a = at-if2 .before .before .args in
     let long = ltb-true _ _ (sym (at-long .too-long .ensures) ∙ at-if3 .if3 .taken) in
     c .refused3 .ensures ∙ ap plan-array (sym (refused-long (a .version) (a .calls) (at-if2 .before .if1 .left) (at-if2 .if2 .left) long))
-
-config-requires : tie.Need-config-requires
-config-requires c κs = search needs
-
-with-version-requires : tie.Need-with-version-requires
-with-version-requires c κs = search needs
 
 all-figures-requires : tie.Need-all-figures-requires
 all-figures-requires c κs =
@@ -72,14 +54,14 @@ pub plan-spec : {M : Type 1} → statement M
 plan-spec =
     tie.close
     (tie.spec
-    refused-requires
+    (λ c κs. search needs)
     returns
-    refused-requires-2
+    (λ c κs. search needs)
     returns-2
-    too-long-requires
-    refused-requires-3
+    (λ c κs. search needs)
+    (λ c κs. search needs)
     returns-3
-    config-requires
-    with-version-requires
+    (λ c κs. search needs)
+    (λ c κs. search needs)
     all-figures-requires
     returns-4)

@@ -4,12 +4,6 @@ use borrow.Author.Needs.{needs}
 use Rattle.planner.proofs.remove.Statement.{statement}
 use Rattle.planner.proofs.remove.Tie as tie
 
-remove-requires : tie.Need-remove-requires
-remove-requires c κs = search needs
-
-update-requires : tie.Need-update-requires
-update-requires c κs = search needs
-
 returns : tie.Need-returns
 returns c =
     let called = c .before in
@@ -18,4 +12,4 @@ returns c =
     remove-plans (a .g) (a .s) (entry .pre) (a .tag) _ (rw (called .remove .ensures) at (c .update .ensures))
 
 pub remove-spec : {M : Type 1} → statement M
-remove-spec = tie.close (tie.spec remove-requires update-requires returns)
+remove-spec = tie.close (tie.spec (λ c κs. search needs) (λ c κs. search needs) returns)

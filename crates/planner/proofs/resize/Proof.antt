@@ -12,27 +12,6 @@ use Rattle.planner.proofs.resize.Tie as tie
 room : (c : tie.Start) → length (c .args .s .head .filled) ≡ 32
 room c = search needs
 
-empty-places-requires : tie.Need-empty-places-requires
-empty-places-requires c κs = search needs
-
-fill-steps-requires : tie.Need-fill-steps-requires
-fill-steps-requires c κs = search needs
-
-sub-t11 : tie.Need-sub-t11
-sub-t11 c = search needs
-
-mul-t12 : tie.Need-mul-t12
-mul-t12 c = search needs
-
-add-t13 : tie.Need-add-t13
-add-t13 c = search needs
-
-add-t14 : tie.Need-add-t14
-add-t14 c = search needs
-
-resized-requires : tie.Need-resized-requires
-resized-requires c κs = search needs
-
 returns : tie.Need-returns
 returns c =
     let at-resized = c .before in
@@ -49,4 +28,12 @@ returns c =
 pub resize-spec : {M : Type 1} → statement M
 resize-spec =
     tie.close
-    (tie.spec empty-places-requires fill-steps-requires sub-t11 mul-t12 add-t13 add-t14 resized-requires returns)
+    (tie.spec
+    (λ c κs. search needs)
+    (λ c κs. search needs)
+    (λ c. search needs)
+    (λ c. search needs)
+    (λ c. search needs)
+    (λ c. search needs)
+    (λ c κs. search needs)
+    returns)

@@ -5,9 +5,6 @@ use borrow.Author.Needs.{needs}
 use Rattle.planner.proofs.shrink.Statement.{statement}
 use Rattle.planner.proofs.shrink.Tie as tie
 
-limited-requires : tie.Need-limited-requires
-limited-requires c κs = search needs
-
 returns : tie.Need-returns
 returns c =
     let entry = c .before .before .before .before in
@@ -24,4 +21,4 @@ returns-2 c =
     λ g tag. shrink-plans g (entry .args .s) (entry .pre) tag _ (c .before .before .if1 .left) (c .resize .ensures)
 
 pub shrink-spec : {M : Type 1} → statement M
-shrink-spec = tie.close (tie.spec limited-requires returns resize-requires returns-2)
+shrink-spec = tie.close (tie.spec (λ c κs. search needs) returns resize-requires returns-2)

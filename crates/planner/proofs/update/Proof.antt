@@ -4,18 +4,6 @@ use borrow.Author.Needs.{needs}
 use Rattle.planner.proofs.update.Statement.{statement}
 use Rattle.planner.proofs.update.Tie as tie
 
-place-requires : tie.Need-place-requires
-place-requires c κs = search needs
-
-answer-requires : tie.Need-answer-requires
-answer-requires c κs = search needs
-
-update-figures-requires : tie.Need-update-figures-requires
-update-figures-requires c κs = search needs
-
-fill-requires : tie.Need-fill-requires
-fill-requires c κs = search needs
-
 returns : tie.Need-returns
 returns c =
     let at-fill = c .before in
@@ -30,4 +18,4 @@ returns c =
 pub update-spec : {M : Type 1} → statement M
 update-spec =
     tie.close
-    (tie.spec place-requires answer-requires update-figures-requires fill-requires returns)
+    (tie.spec (λ c κs. search needs) (λ c κs. search needs) (λ c κs. search needs) (λ c κs. search needs) returns)

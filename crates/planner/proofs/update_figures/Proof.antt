@@ -9,20 +9,11 @@ use Rattle.planner.proofs.update_figures.Tie as tie
 room : (c : tie.Start) → length (c .args .h .filled) ≡ 32
 room c = search needs
 
-array-read-if1 : tie.Need-array-read-if1
-array-read-if1 c = search needs
-
 returns : tie.Need-returns
 returns c =
     let entry = c .before .before in
     let a = entry .args in
     λ ts. update-filled (a .h) ts (room entry) (entry .pre .most) (a .i) (entry .pre .within) (a .answer) (c .if1 .taken)
-
-fill-steps-requires : tie.Need-fill-steps-requires
-fill-steps-requires c κs = search needs
-
-add-t10 : tie.Need-add-t10
-add-t10 c = search needs
 
 returns-2 : tie.Need-returns-2
 returns-2 c =
@@ -32,4 +23,4 @@ returns-2 c =
 
 pub update-figures-spec : {M : Type 1} → statement M
 update-figures-spec =
-    tie.close (tie.spec array-read-if1 returns fill-steps-requires add-t10 returns-2)
+    tie.close (tie.spec (λ c. search needs) returns (λ c κs. search needs) (λ c. search needs) returns-2)

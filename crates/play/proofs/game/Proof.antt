@@ -10,30 +10,12 @@ use Rattle.play.proofs.NoGame.{spoilt, refused, plays, turns-within}
 use Rattle.play.proofs.game.Statement.{statement}
 use Rattle.play.proofs.game.Tie as tie
 
-sound-requires : tie.Need-sound-requires
-sound-requires c κs = search needs
-
-same-length : tie.Need-same-length
-same-length c = search needs
-
-same-length-2 : tie.Need-same-length-2
-same-length-2 c = search needs
-
 returns : tie.Need-returns
 returns c =
     let at-sound = c .before in
     let a = at-sound .before .before .before .before .before .args in
     let y : Machine = machine-of (a .s) (now (a .ns)) (now (a .bs)) in
     (sym (spoilt (a .n) y (sym (at-sound .sound .ensures) ∙ not-true _ (c .if1 .taken))), refl, refl)
-
-no-game-requires : tie.Need-no-game-requires
-no-game-requires c κs = search needs
-
-same-length-3 : tie.Need-same-length-3
-same-length-3 c = search needs
-
-same-length-4 : tie.Need-same-length-4
-same-length-4 c = search needs
 
 returns-2 : tie.Need-returns-2
 returns-2 c =
@@ -67,12 +49,6 @@ lanes-turn-requires c κs =
     let at-sound = at-if1 .before in
     sym (at-sound .sound .ensures) ∙ not-false _ (at-if1 .if1 .left)
 
-same-length-5 : tie.Need-same-length-5
-same-length-5 c = search needs
-
-same-length-6 : tie.Need-same-length-6
-same-length-6 c = search needs
-
 returns-3 : tie.Need-returns-3
 unfolding plies
 returns-3 c =
@@ -92,17 +68,17 @@ pub game-spec : {M : Type 1} → statement M
 game-spec =
     tie.close
     (tie.spec
-    sound-requires
-    same-length
-    same-length-2
+    (λ c κs. search needs)
+    (λ c. search needs)
+    (λ c. search needs)
     returns
-    no-game-requires
-    same-length-3
-    same-length-4
+    (λ c κs. search needs)
+    (λ c. search needs)
+    (λ c. search needs)
     returns-2
     mul-lanes-turn
     sub-lanes-turn
     lanes-turn-requires
-    same-length-5
-    same-length-6
+    (λ c. search needs)
+    (λ c. search needs)
     returns-3)

@@ -4,15 +4,6 @@ use Rattle.game.specs.Game.{is-win}
 use Rattle.play.proofs.is_win.Statement.{statement}
 use Rattle.play.proofs.is_win.Tie as tie
 
-enum-told : tie.Need-enum-told
-enum-told c = search needs
-
-enum-told-2 : tie.Need-enum-told-2
-enum-told-2 c = search needs
-
-enum-told-3 : tie.Need-enum-told-3
-enum-told-3 c = search needs
-
 returns : tie.Need-returns
 unfolding is-win
 returns c = rw (c .enum-told .given .1)
@@ -26,4 +17,4 @@ unfolding is-win
 returns-3 c = rw (c .enum-told3 .given .1)
 
 pub is-win-spec : {M : Type 1} → statement M
-is-win-spec = tie.close (tie.spec enum-told enum-told-2 enum-told-3 returns returns-2 returns-3)
+is-win-spec = tie.close (tie.spec (λ c. search needs) (λ c. search needs) (λ c. search needs) returns returns-2 returns-3)

@@ -23,9 +23,6 @@ returns-3 c ns bs =
     let a = at-if1 .before .args in
     sym (too-few-tasks (a .n) (machine-of (a .t1) ns bs) (at-if1 .if1 .left) (at-if2 .if2 .left) (c .if3 .taken))
 
-element-copy-out-c : tie.Need-element-copy-out-c
-element-copy-out-c c = search needs
-
 returns-4 : tie.Need-returns-4
 unfolding task-of idle
 returns-4 c ns bs =
@@ -46,4 +43,4 @@ returns-5 c ns bs =
     sym (by-call (a .n) (machine-of (a .t1) ns bs) (at-if1 .if1 .left) (at-if2 .if2 .left) (at-if3 .if3 .left) (not-false _ (at-if4 .if4 .left)))
 
 pub no-game-spec : {M : Type 1} → statement M
-no-game-spec = tie.close (tie.spec returns returns-2 returns-3 element-copy-out-c returns-4 returns-5)
+no-game-spec = tie.close (tie.spec returns returns-2 returns-3 (λ c. search needs) returns-4 returns-5)

@@ -5,15 +5,9 @@ use borrow.Author.Needs.{needs}
 use Rattle.pool.proofs.fits.Statement.{statement}
 use Rattle.pool.proofs.fits.Tie as tie
 
-rem-if1 : tie.Need-rem-if1
-rem-if1 c = search needs
-
 returns : tie.Need-returns
 unfolding pool-fits
 returns c = rw (ne-eqb _ _ (c .if1 .taken))
-
-div-n : tie.Need-div-n
-div-n c = search needs
 
 returns-2 : tie.Need-returns-2
 unfolding pool-fits
@@ -30,4 +24,4 @@ returns-4 c =
     rw (eq-eqb _ _ (c .before .before .if1 .left), le-leb _ _ (c .before .if2 .left), le-leb _ _ (c .if3 .left))
 
 pub fits-spec : {M : Type 1} → statement M
-fits-spec = tie.close (tie.spec rem-if1 returns div-n returns-2 returns-3 returns-4)
+fits-spec = tie.close (tie.spec (λ c. search needs) returns (λ c. search needs) returns-2 returns-3 returns-4)

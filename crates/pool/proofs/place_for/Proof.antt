@@ -8,12 +8,6 @@ use borrow.Author.Needs.{needs}
 use Rattle.pool.proofs.place_for.Statement.{statement}
 use Rattle.pool.proofs.place_for.Tie as tie
 
-number-of-requires : tie.Need-number-of-requires
-number-of-requires c κs = search needs
-
-place-for-at-requires : tie.Need-place-for-at-requires
-place-for-at-requires c κs = search needs
-
 returns : tie.Need-returns
 returns c =
     let a = c .before .before .before .args in
@@ -21,4 +15,4 @@ returns c =
     c .place-for-at .ensures ∙ ap (λ (k : ℕ). place w k (slot (a .g) (a .tag) (size w k))) (c .before .number-of .ensures)
 
 pub place-for-spec : {M : Type 1} → statement M
-place-for-spec = tie.close (tie.spec number-of-requires place-for-at-requires returns)
+place-for-spec = tie.close (tie.spec (λ c κs. search needs) (λ c κs. search needs) returns)

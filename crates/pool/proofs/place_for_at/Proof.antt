@@ -8,15 +8,6 @@ use borrow.Author.Needs.{needs}
 use Rattle.pool.proofs.place_for_at.Statement.{statement}
 use Rattle.pool.proofs.place_for_at.Tie as tie
 
-size-at-requires : tie.Need-size-at-requires
-size-at-requires c κs = search needs
-
-slot-requires : tie.Need-slot-requires
-slot-requires c κs = search needs
-
-place-at-requires : tie.Need-place-at-requires
-place-at-requires c κs = search needs
-
 returns : tie.Need-returns
 returns c =
     let a = c .before .before .before .before .args in
@@ -25,4 +16,4 @@ returns c =
     c .place-at .ensures ∙ ap (λ (i : ℕ). place w (a .k) i) spot
 
 pub place-for-at-spec : {M : Type 1} → statement M
-place-for-at-spec = tie.close (tie.spec size-at-requires slot-requires place-at-requires returns)
+place-for-at-spec = tie.close (tie.spec (λ c κs. search needs) (λ c κs. search needs) (λ c κs. search needs) returns)

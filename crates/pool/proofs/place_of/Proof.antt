@@ -7,16 +7,10 @@ use borrow.Author.Needs.{needs}
 use Rattle.pool.proofs.place_of.Statement.{statement}
 use Rattle.pool.proofs.place_of.Tie as tie
 
-number-of-requires : tie.Need-number-of-requires
-number-of-requires c κs = search needs
-
-place-at-requires : tie.Need-place-at-requires
-place-at-requires c κs = search needs
-
 returns : tie.Need-returns
 returns c =
     c .place-at .ensures ∙ ap (λ (k : ℕ). place (now (c .before .before .before .args .ns)) k (c .before .before .before .args .i))
     (c .before .number-of .ensures)
 
 pub place-of-spec : {M : Type 1} → statement M
-place-of-spec = tie.close (tie.spec number-of-requires place-at-requires returns)
+place-of-spec = tie.close (tie.spec (λ c κs. search needs) (λ c κs. search needs) returns)

@@ -4,18 +4,9 @@ use borrow.Author.Needs.{needs}
 use Rattle.pool.proofs.pred_at.Statement.{statement}
 use Rattle.pool.proofs.pred_at.Tie as tie
 
-mul-word : tie.Need-mul-word
-mul-word c = search needs
-
-add-word : tie.Need-add-word
-add-word c = search needs
-
-word-requires : tie.Need-word-requires
-word-requires c κs = search needs
-
 returns : tie.Need-returns
 unfolding pred
 returns c = c .word .ensures
 
 pub pred-at-spec : {M : Type 1} → statement M
-pred-at-spec = tie.close (tie.spec mul-word add-word word-requires returns)
+pred-at-spec = tie.close (tie.spec (λ c. search needs) (λ c. search needs) (λ c κs. search needs) returns)

@@ -7,15 +7,9 @@ use borrow.Author.Needs.{needs}
 use Rattle.pool.proofs.pred_of.Statement.{statement}
 use Rattle.pool.proofs.pred_of.Tie as tie
 
-number-of-requires : tie.Need-number-of-requires
-number-of-requires c κs = search needs
-
-pred-at-requires : tie.Need-pred-at-requires
-pred-at-requires c κs = search needs
-
 returns : tie.Need-returns
 returns c =
     c .pred-at .ensures ∙ ap (λ (k : ℕ). pred (now (c .before .before .before .args .ns)) k) (c .before .number-of .ensures)
 
 pub pred-of-spec : {M : Type 1} → statement M
-pred-of-spec = tie.close (tie.spec number-of-requires pred-at-requires returns)
+pred-of-spec = tie.close (tie.spec (λ c κs. search needs) (λ c κs. search needs) returns)

@@ -4,15 +4,9 @@ use borrow.Author.Needs.{needs}
 use Rattle.pool.proofs.size_at.Statement.{statement}
 use Rattle.pool.proofs.size_at.Tie as tie
 
-mul-word : tie.Need-mul-word
-mul-word c = search needs
-
-word-requires : tie.Need-word-requires
-word-requires c κs = search needs
-
 returns : tie.Need-returns
 unfolding size
 returns c = c .word .ensures
 
 pub size-at-spec : {M : Type 1} → statement M
-size-at-spec = tie.close (tie.spec mul-word word-requires returns)
+size-at-spec = tie.close (tie.spec (λ c. search needs) (λ c κs. search needs) returns)

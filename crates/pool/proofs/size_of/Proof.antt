@@ -7,15 +7,9 @@ use borrow.Author.Needs.{needs}
 use Rattle.pool.proofs.size_of.Statement.{statement}
 use Rattle.pool.proofs.size_of.Tie as tie
 
-number-of-requires : tie.Need-number-of-requires
-number-of-requires c κs = search needs
-
-size-at-requires : tie.Need-size-at-requires
-size-at-requires c κs = search needs
-
 returns : tie.Need-returns
 returns c =
     c .size-at .ensures ∙ ap (λ (k : ℕ). size (now (c .before .before .before .args .ns)) k) (c .before .number-of .ensures)
 
 pub size-of-spec : {M : Type 1} → statement M
-size-of-spec = tie.close (tie.spec number-of-requires size-at-requires returns)
+size-of-spec = tie.close (tie.spec (λ c κs. search needs) (λ c κs. search needs) returns)

@@ -27,18 +27,12 @@ use Rattle.queries.proofs.list.Tie as tie
 len : (c : tie.After-count) → length (c .before .before .before .before .gather .result .bucket .words) ≡ 66
 len c = search needs
 
-sound-requires : tie.Need-sound-requires
-sound-requires c κs = search needs
-
 returns : tie.Need-returns
 returns c =
     let a = c .before .before .before .before .before .args in
     let y : Machine = machine-of (a .s) (now (a .ns)) (now (a .bs)) in
     let p = list-spoilt y (now (a .out)) (sym (c .before .sound .ensures) ∙ not-true _ (c .if1 .taken)) in
     (sym (ap (λ (z : Written). z .says) p), sym (ap (λ (z : Written). z .words) p))
-
-gather-requires : tie.Need-gather-requires
-gather-requires c κs = search needs
 
 returns-2 : tie.Need-returns-2
 returns-2 c =
@@ -59,29 +53,8 @@ returns-3 c =
     let p = list-short y (now (a .out)) s (f .0) (c .if3 .taken) in
     (sym (ap (λ (z : Written). z .says) p), sym (ap (λ (z : Written). z .words) p))
 
-count-requires : tie.Need-count-requires
-count-requires c κs = search needs
-
-add-e : tie.Need-add-e
-add-e c = search needs
-
-sub-write-over : tie.Need-sub-write-over
-sub-write-over c = search needs
-
-part-write-over-start : tie.Need-part-write-over-start
-part-write-over-start c = search needs
-
 part-write-over-end : tie.Need-part-write-over-end
 part-write-over-end c = let e = len (c .before .before .before) in omega arith
-
-write-over-requires : tie.Need-write-over-requires
-write-over-requires c κs = search needs
-
-cast-t21 : tie.Need-cast-t21
-cast-t21 c = search needs
-
-same-length : tie.Need-same-length
-same-length c = search needs
 
 returns-4 : tie.Need-returns-4
 unfolding overwrite write-front
@@ -115,17 +88,17 @@ pub list-spec : {M : Type 1} → statement M
 list-spec =
     tie.close
     (tie.spec
-    sound-requires
+    (λ c κs. search needs)
     returns
-    gather-requires
+    (λ c κs. search needs)
     returns-2
     returns-3
-    count-requires
-    add-e
-    sub-write-over
-    part-write-over-start
+    (λ c κs. search needs)
+    (λ c. search needs)
+    (λ c. search needs)
+    (λ c. search needs)
     part-write-over-end
-    write-over-requires
-    cast-t21
-    same-length
+    (λ c κs. search needs)
+    (λ c. search needs)
+    (λ c. search needs)
     returns-4)

@@ -16,30 +16,9 @@ use borrow.Author.Needs.{needs}
 use Rattle.queries.proofs.show.Statement.{statement}
 use Rattle.queries.proofs.show.Tie as tie
 
-sound-requires : tie.Need-sound-requires
-sound-requires c κs = search needs
-
-sub-result : tie.Need-sub-result
-sub-result c = search needs
-
-part-result-start : tie.Need-part-result-start
-part-result-start c = search needs
-
-part-result-end : tie.Need-part-result-end
-part-result-end c = search needs
-
 returns : tie.Need-returns
 unfolding show
 returns c = rw (sym (c .before .before .sound .ensures) ∙ not-true _ (c .before .if1 .taken))
-
-sub-result-2 : tie.Need-sub-result-2
-sub-result-2 c = search needs
-
-part-result-start-2 : tie.Need-part-result-start-2
-part-result-start-2 c = search needs
-
-part-result-end-2 : tie.Need-part-result-end-2
-part-result-end-2 c = search needs
 
 returns-2 : tie.Need-returns-2
 unfolding show
@@ -48,15 +27,6 @@ returns-2 c =
     let s = sym (at-sound .before .sound .ensures) ∙ not-false _ (at-sound .if1 .left) in
     rw (s, le-ltb _ _ (c .before .if2 .taken))
 
-sub-result-3 : tie.Need-sub-result-3
-sub-result-3 c = search needs
-
-part-result-start-3 : tie.Need-part-result-start-3
-part-result-start-3 c = search needs
-
-part-result-end-3 : tie.Need-part-result-end-3
-part-result-end-3 c = search needs
-
 returns-3 : tie.Need-returns-3
 returns-3 c =
     let at-sound = c .before .before .before .before in
@@ -64,33 +34,6 @@ returns-3 c =
     let y : Machine = machine-of (a .s) (now (a .ns)) (now (a .bs)) in
     let n = numbers-of y (sym (at-sound .before .sound .ensures) ∙ not-false _ (at-sound .if1 .left)) in
     absurd (omega (arith, c .before .before .if2 .left, c .before .if3 .taken))
-
-mul-a : tie.Need-mul-a
-mul-a c = search needs
-
-add-word : tie.Need-add-word
-add-word c = search needs
-
-word-requires : tie.Need-word-requires
-word-requires c κs = search needs
-
-add-f : tie.Need-add-f
-add-f c = search needs
-
-cast-e : tie.Need-cast-e
-cast-e c = search needs
-
-add-e : tie.Need-add-e
-add-e c = search needs
-
-sub-result-4 : tie.Need-sub-result-4
-sub-result-4 c = search needs
-
-part-result-start-4 : tie.Need-part-result-start-4
-part-result-start-4 c = search needs
-
-part-result-end-4 : tie.Need-part-result-end-4
-part-result-end-4 c = search needs
 
 returns-4 : tie.Need-returns-4
 unfolding count
@@ -106,18 +49,6 @@ returns-4 c =
     let m : count w (a .k) ≤ 64 = few w (a .k) (bucket-fact y s (a .k) (at-k .if2 .left)) in
     let e : at-word .word .result ≡ count w (a .k) = at-word .word .ensures in
     absurd (omega (arith, c .before .if4 .taken, at-k .if2 .left))
-
-mul-result : tie.Need-mul-result
-mul-result c = search needs
-
-sub-result-5 : tie.Need-sub-result-5
-sub-result-5 c = search needs
-
-part-result-start-5 : tie.Need-part-result-start-5
-part-result-start-5 c = search needs
-
-part-result-end-5 : tie.Need-part-result-end-5
-part-result-end-5 c = search needs
 
 returns-5 : tie.Need-returns-5
 unfolding show tags count
@@ -139,31 +70,31 @@ pub show-spec : {M : Type 1} → statement M
 show-spec =
     tie.close
     (tie.spec
-    sound-requires
-    sub-result
-    part-result-start
-    part-result-end
+    (λ c κs. search needs)
+    (λ c. search needs)
+    (λ c. search needs)
+    (λ c. search needs)
     returns
-    sub-result-2
-    part-result-start-2
-    part-result-end-2
+    (λ c. search needs)
+    (λ c. search needs)
+    (λ c. search needs)
     returns-2
-    sub-result-3
-    part-result-start-3
-    part-result-end-3
+    (λ c. search needs)
+    (λ c. search needs)
+    (λ c. search needs)
     returns-3
-    mul-a
-    add-word
-    word-requires
-    add-f
-    cast-e
-    add-e
-    sub-result-4
-    part-result-start-4
-    part-result-end-4
+    (λ c. search needs)
+    (λ c. search needs)
+    (λ c κs. search needs)
+    (λ c. search needs)
+    (λ c. search needs)
+    (λ c. search needs)
+    (λ c. search needs)
+    (λ c. search needs)
+    (λ c. search needs)
     returns-4
-    mul-result
-    sub-result-5
-    part-result-start-5
-    part-result-end-5
+    (λ c. search needs)
+    (λ c. search needs)
+    (λ c. search needs)
+    (λ c. search needs)
     returns-5)

@@ -8,15 +8,6 @@ use borrow.Author.Needs.{needs}
 use Rattle.schedule.proofs.config.Statement.{statement}
 use Rattle.schedule.proofs.config.Tie as tie
 
-config-requires : tie.Need-config-requires
-config-requires c κs = search needs
-
-with-version-requires : tie.Need-with-version-requires
-with-version-requires c κs = search needs
-
-with-zero-withdrawn-requires : tie.Need-with-zero-withdrawn-requires
-with-zero-withdrawn-requires c κs = search needs
-
 returns : tie.Need-returns
 returns c =
     let at-version = c .before in
@@ -27,4 +18,4 @@ returns c =
     c .with-zero-withdrawn .ensures ∙ ap ruled versioned
 
 pub config-spec : {M : Type 1} → statement M
-config-spec = tie.close (tie.spec config-requires with-version-requires with-zero-withdrawn-requires returns)
+config-spec = tie.close (tie.spec (λ c κs. search needs) (λ c κs. search needs) (λ c κs. search needs) returns)

@@ -10,9 +10,6 @@ use borrow.Author.Needs.{needs}
 use Rattle.schedule.proofs.known_sound.Statement.{statement}
 use Rattle.schedule.proofs.known_sound.Tie as tie
 
-idle-requires : tie.Need-idle-requires
-idle-requires c κs = search needs
-
 returns : tie.Need-returns
 returns c =
     let k = c .before .before .args .k in
@@ -26,4 +23,4 @@ returns-2 c =
     sym (told-sound refl ∙ ap (λ (z : Task). record { sound = true; task = z }) (sym (e ∙ ap (task-of y) low)))
 
 pub known-sound-spec : {M : Type 1} → statement M
-known-sound-spec = tie.close (tie.spec idle-requires returns returns-2)
+known-sound-spec = tie.close (tie.spec (λ c κs. search needs) returns returns-2)

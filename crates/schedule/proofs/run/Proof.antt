@@ -21,15 +21,6 @@ opened p = p .before .before .before .before .before .before .before
 abbrev start : tie.After-open → tie.Start
 start p = p .before .before .before .before .before .before .before .before
 
-open-requires : tie.Need-open-requires
-open-requires c κs = search needs
-
-same-length : tie.Need-same-length
-same-length c = search needs
-
-same-length-2 : tie.Need-same-length-2
-same-length-2 c = search needs
-
 returns : tie.Need-returns
 returns c =
     let at-open = c .before .before .before .before .before .before in
@@ -40,9 +31,6 @@ returns c =
       (λ z. absurd (d z), (λ z. absurd (d z), (λ z. absurd (d z), λ z. absurd (d z)))),
     )
 
-number-of-events-requires : tie.Need-number-of-events-requires
-number-of-events-requires c κs = search needs
-
 run-events-requires : tie.Need-run-events-requires
 run-events-requires c κs =
     let at-number = c .before .before .before in
@@ -51,21 +39,6 @@ run-events-requires c κs =
     let o = at-open .«open» .ensures in
     let accepted = sym (o .0) ∙ at-number .before .if1 .left in
     (omega arith, omega arith, rw (o .1) (opening-sound (a .g) (now (a .ns)) (now (a .bs)) accepted))
-
-list-requires : tie.Need-list-requires
-list-requires c κs = search needs
-
-same-length-3 : tie.Need-same-length-3
-same-length-3 c = search needs
-
-same-length-4 : tie.Need-same-length-4
-same-length-4 c = search needs
-
-same-length-5 : tie.Need-same-length-5
-same-length-5 c = search needs
-
-same-length-6 : tie.Need-same-length-6
-same-length-6 c = search needs
 
 returns-2 : tie.Need-returns-2
 unfolding room-for
@@ -96,15 +69,15 @@ pub run-spec : {M : Type 1} → statement M
 run-spec =
     tie.close
     (tie.spec
-    open-requires
-    same-length
-    same-length-2
+    (λ c κs. search needs)
+    (λ c. search needs)
+    (λ c. search needs)
     returns
-    number-of-events-requires
+    (λ c κs. search needs)
     run-events-requires
-    list-requires
-    same-length-3
-    same-length-4
-    same-length-5
-    same-length-6
+    (λ c κs. search needs)
+    (λ c. search needs)
+    (λ c. search needs)
+    (λ c. search needs)
+    (λ c. search needs)
     returns-2)

@@ -6,21 +6,6 @@ use borrow.Author.Needs.{needs}
 use Rattle.schedule.proofs.run_event.Statement.{statement}
 use Rattle.schedule.proofs.run_event.Tie as tie
 
-asked-by-requires : tie.Need-asked-by-requires
-asked-by-requires c κs = search needs
-
-enum-known-call : tie.Need-enum-known-call
-enum-known-call c = search needs
-
-start-requires : tie.Need-start-requires
-start-requires c κs = search needs
-
-enum-told : tie.Need-enum-told
-enum-told c = search needs
-
-step-requires : tie.Need-step-requires
-step-requires c κs = search needs
-
 returns : tie.Need-returns
 unfolding event event-asked
 returns c =
@@ -28,12 +13,6 @@ returns c =
     let at-asked = at-call .before .before in
     let a = at-asked .before .before .before .args in
     rw (at-asked .asked-by .ensures (a .task) (a .tag), at-call .call .given .1) (c .start .ensures _ _ (at-asked .before .before .before .pre) .reply)
-
-same-length : tie.Need-same-length
-same-length c = search needs
-
-same-length-2 : tie.Need-same-length-2
-same-length-2 c = search needs
 
 returns-2 : tie.Need-returns-2
 unfolding event event-asked
@@ -48,12 +27,12 @@ pub run-event-spec : {M : Type 1} → statement M
 run-event-spec =
     tie.close
     (tie.spec
-    asked-by-requires
-    enum-known-call
-    start-requires
-    enum-told
-    step-requires
+    (λ c κs. search needs)
+    (λ c. search needs)
+    (λ c κs. search needs)
+    (λ c. search needs)
+    (λ c κs. search needs)
     returns
-    same-length
-    same-length-2
+    (λ c. search needs)
+    (λ c. search needs)
     returns-2)

@@ -42,47 +42,11 @@ loop-holds c =
     let a = start .args in
     (omega arith, refl, refl, refl, start .pre .2, len start, rest-start (now (a .events)) (a .n) 0 _ _)
 
-add-next : tie.Need-add-next Inv-loop μ-loop
-add-next c = search needs
-
-mul-at : tie.Need-mul-at Inv-loop μ-loop
-mul-at c = search needs
-
-add-k : tie.Need-add-k Inv-loop μ-loop
-add-k c = search needs
-
-mul-k : tie.Need-mul-k Inv-loop μ-loop
-mul-k c = search needs
-
-shared-slice-read-k : tie.Need-shared-slice-read-k Inv-loop μ-loop
-shared-slice-read-k c = search needs
-
-cast-c : tie.Need-cast-c Inv-loop μ-loop
-cast-c c = search needs
-
 mul-c : tie.Need-mul-c Inv-loop μ-loop
 mul-c c = omega arith
 
 element-copy-out-c : tie.Need-element-copy-out-c Inv-loop μ-loop
 element-copy-out-c c = omega arith
-
-known-sound-requires : tie.Need-known-sound-requires Inv-loop μ-loop
-known-sound-requires c κs = search needs
-
-mul-run-event : tie.Need-mul-run-event Inv-loop μ-loop
-mul-run-event c = search needs
-
-shared-slice-read-run-event : tie.Need-shared-slice-read-run-event Inv-loop μ-loop
-shared-slice-read-run-event c = search needs
-
-add-run-event : tie.Need-add-run-event Inv-loop μ-loop
-add-run-event c = search needs
-
-mul-run-event-2 : tie.Need-mul-run-event-2 Inv-loop μ-loop
-mul-run-event-2 c = search needs
-
-shared-slice-read-run-event-2 : tie.Need-shared-slice-read-run-event-2 Inv-loop μ-loop
-shared-slice-read-run-event-2 c = search needs
 
 run-event-requires : tie.Need-run-event-requires Inv-loop μ-loop
 unfolding task-of idle
@@ -93,12 +57,6 @@ run-event-requires c κs =
     let y = machine-of (l .t) (l .ns) (l .bs) in
     rw (l .inv .4) (at-known .known-sound .ensures y (l .inv .5) refl)
 
-write-output-requires : tie.Need-write-output-requires Inv-loop μ-loop
-write-output-requires c κs = search needs
-
-changes-requires : tie.Need-changes-requires Inv-loop μ-loop
-changes-requires c κs = search needs
-
 cast-j : tie.Need-cast-j Inv-loop μ-loop
 cast-j c = let h = changes-below _ _ (sym (c .before .before .changes .ensures) ∙ c .before .if1 .taken) in omega arith
 
@@ -107,9 +65,6 @@ mul-x c = let h = changes-below _ _ (sym (c .before .before .changes .ensures) �
 
 element-set-from-x : tie.Need-element-set-from-x Inv-loop μ-loop
 element-set-from-x c = changes-below _ _ (sym (c .before .before .changes .ensures) ∙ c .before .if1 .taken)
-
-loop-less : tie.Need-loop-less Inv-loop μ-loop
-loop-less c = search needs
 
 loop-again : tie.Need-loop-again Inv-loop μ-loop
 unfolding state-head state-last-node state-last-bucket state-task
@@ -136,9 +91,6 @@ loop-again c =
       turn (now (start .args .events)) (start .args .n) (l .i) h (omega arith) (l .inv .6) _ reply _ (o .ensures),
     )
 
-loop-less-2 : tie.Need-loop-less-2 Inv-loop μ-loop
-loop-less-2 c = search needs
-
 loop-again-2 : tie.Need-loop-again-2 Inv-loop μ-loop
 loop-again-2 c =
     let at-write = c .before .before .before .before in
@@ -163,15 +115,6 @@ loop-again-2 c =
       turn (now (start .args .events)) (start .args .n) (l .i) h (omega arith) (l .inv .6) _ reply _ (o .ensures),
     )
 
-same-length : tie.Need-same-length Inv-loop μ-loop
-same-length c = search needs
-
-same-length-2 : tie.Need-same-length-2 Inv-loop μ-loop
-same-length-2 c = search needs
-
-same-length-3 : tie.Need-same-length-3 Inv-loop μ-loop
-same-length-3 c = search needs
-
 returns : tie.Need-returns Inv-loop μ-loop
 returns c =
     let l = c .before .loop in
@@ -185,31 +128,31 @@ run-events-spec =
     Inv-loop
     μ-loop
     loop-holds
-    add-next
-    mul-at
-    add-k
-    mul-k
-    shared-slice-read-k
-    cast-c
+    (λ c. search needs)
+    (λ c. search needs)
+    (λ c. search needs)
+    (λ c. search needs)
+    (λ c. search needs)
+    (λ c. search needs)
     mul-c
     element-copy-out-c
-    known-sound-requires
-    mul-run-event
-    shared-slice-read-run-event
-    add-run-event
-    mul-run-event-2
-    shared-slice-read-run-event-2
+    (λ c κs. search needs)
+    (λ c. search needs)
+    (λ c. search needs)
+    (λ c. search needs)
+    (λ c. search needs)
+    (λ c. search needs)
     run-event-requires
-    write-output-requires
-    changes-requires
+    (λ c κs. search needs)
+    (λ c κs. search needs)
     cast-j
     mul-x
     element-set-from-x
-    loop-less
+    (λ c. search needs)
     loop-again
-    loop-less-2
+    (λ c. search needs)
     loop-again-2
-    same-length
-    same-length-2
-    same-length-3
+    (λ c. search needs)
+    (λ c. search needs)
+    (λ c. search needs)
     returns)

@@ -12,12 +12,6 @@ use borrow.Author.Needs.{needs}
 use Rattle.schedule_c.proofs.schedule_run.Statement.{statement}
 use Rattle.schedule_c.proofs.schedule_run.Tie as tie
 
-config-requires : tie.Need-config-requires
-config-requires c κs = search needs
-
-run-requires : tie.Need-run-requires
-run-requires c κs = search needs
-
 listing-number-requires : tie.Need-listing-number-requires
 listing-number-requires c κs =
     let at-run = c .before .before .before .before .before .before .before .before in
@@ -61,8 +55,8 @@ pub schedule-run-spec : {M : Type 1} → statement M
 schedule-run-spec =
     tie.close
     (tie.spec
-    config-requires
-    run-requires
+    (λ c κs. search needs)
+    (λ c κs. search needs)
     listing-number-requires
     same-length
     same-length-2

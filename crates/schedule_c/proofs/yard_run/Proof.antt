@@ -18,12 +18,6 @@ use borrow.Author.Needs.{needs}
 use Rattle.schedule_c.proofs.yard_run.Statement.{statement}
 use Rattle.schedule_c.proofs.yard_run.Tie as tie
 
-state-fits-requires : tie.Need-state-fits-requires
-state-fits-requires c κs = search needs
-
-same-length : tie.Need-same-length
-same-length c = search needs
-
 returns : tie.Need-returns
 returns c =
     let at-fits = c .before in
@@ -37,18 +31,6 @@ state-of-words-requires c κs =
     let at-fits = at-if .before in
     fits-long _ (sym (at-fits .state-fits .ensures) ∙ not-false _ (at-if .if1 .left))
 
-sound-requires : tie.Need-sound-requires
-sound-requires c κs = search needs
-
-same-length-2 : tie.Need-same-length-2
-same-length-2 c = search needs
-
-same-length-3 : tie.Need-same-length-3
-same-length-3 c = search needs
-
-same-length-4 : tie.Need-same-length-4
-same-length-4 c = search needs
-
 returns-2 : tie.Need-returns-2
 returns-2 c =
     let at-sound = c .before in
@@ -60,9 +42,6 @@ returns-2 c =
     let is = ap (λ (z : State). sound (machine-of z (now (a .ns)) (now (a .bs)))) (at-state .state-of-words .ensures) in
     run-unsound (now (a .w)) (now (a .outs)) (now (a .ns)) (now (a .bs)) (now (a .events)) fits
     (sym is ∙ (sym (at-sound .sound .ensures) ∙ not-true _ (c .if2 .taken)))
-
-number-of-events-requires : tie.Need-number-of-events-requires
-number-of-events-requires c κs = search needs
 
 run-events-requires : tie.Need-run-events-requires
 run-events-requires c κs =
@@ -79,18 +58,6 @@ put-state-requires c κs =
     let at-if = at-sound .before .before .before .before .before in
     let at-fits = at-if .before in
     fits-long _ (sym (at-fits .state-fits .ensures) ∙ not-false _ (at-if .if1 .left))
-
-same-length-5 : tie.Need-same-length-5
-same-length-5 c = search needs
-
-same-length-6 : tie.Need-same-length-6
-same-length-6 c = search needs
-
-same-length-7 : tie.Need-same-length-7
-same-length-7 c = search needs
-
-same-length-8 : tie.Need-same-length-8
-same-length-8 c = search needs
 
 returns-3 : tie.Need-returns-3
 returns-3 c =
@@ -119,20 +86,20 @@ pub yard-run-spec : {M : Type 1} → statement M
 yard-run-spec =
     tie.close
     (tie.spec
-    state-fits-requires
-    same-length
+    (λ c κs. search needs)
+    (λ c. search needs)
     returns
     state-of-words-requires
-    sound-requires
-    same-length-2
-    same-length-3
-    same-length-4
+    (λ c κs. search needs)
+    (λ c. search needs)
+    (λ c. search needs)
+    (λ c. search needs)
     returns-2
-    number-of-events-requires
+    (λ c κs. search needs)
     run-events-requires
     put-state-requires
-    same-length-5
-    same-length-6
-    same-length-7
-    same-length-8
+    (λ c. search needs)
+    (λ c. search needs)
+    (λ c. search needs)
+    (λ c. search needs)
     returns-3)

@@ -8,21 +8,12 @@ use borrow.Author.Needs.{needs}
 use Rattle.schedule_events.proofs.listing_number.Statement.{statement}
 use Rattle.schedule_events.proofs.listing_number.Tie as tie
 
-enum-known-l : tie.Need-enum-known-l
-enum-known-l c = search needs
-
-enum-known-l-2 : tie.Need-enum-known-l-2
-enum-known-l-2 c = search needs
-
 add-result : tie.Need-add-result
 add-result c =
     let z : listing-number (Refused (c .before .l2 .given .0 .0)) ≤ 267 = rw (c .before .l2 .given .1) at (c .before .before .before .pre) in omega arith
-
-returns : tie.Need-returns
-returns c = search needs
 
 returns-2 : tie.Need-returns-2
 returns-2 c = rw (c .before .l2 .given .1)
 
 pub listing-number-spec : {M : Type 1} → statement M
-listing-number-spec = tie.close (tie.spec enum-known-l enum-known-l-2 add-result returns returns-2)
+listing-number-spec = tie.close (tie.spec (λ c. search needs) (λ c. search needs) add-result (λ c. search needs) returns-2)

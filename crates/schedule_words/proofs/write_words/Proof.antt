@@ -17,30 +17,6 @@ use Rattle.schedule_words.proofs.write_words.Tie as tie
 four : (c : tie.Start) → length (c .args .t3) ≡ 4
 four c = search needs
 
-mul-at : tie.Need-mul-at
-mul-at c = search needs
-
-mul-write-over : tie.Need-mul-write-over
-mul-write-over c = search needs
-
-sub-write-over : tie.Need-sub-write-over
-sub-write-over c = search needs
-
-part-write-over-start : tie.Need-part-write-over-start
-part-write-over-start c = search needs
-
-part-write-over-end : tie.Need-part-write-over-end
-part-write-over-end c = search needs
-
-slice-aggregate-write-over : tie.Need-slice-aggregate-write-over
-slice-aggregate-write-over c = search needs
-
-write-over-requires : tie.Need-write-over-requires
-write-over-requires c κs = search needs
-
-same-length : tie.Need-same-length
-same-length c = search needs
-
 returns : tie.Need-returns
 unfolding write-front
 returns c =
@@ -59,12 +35,12 @@ pub write-words-spec : {M : Type 1} → statement M
 write-words-spec =
     tie.close
     (tie.spec
-    mul-at
-    mul-write-over
-    sub-write-over
-    part-write-over-start
-    part-write-over-end
-    slice-aggregate-write-over
-    write-over-requires
-    same-length
+    (λ c. search needs)
+    (λ c. search needs)
+    (λ c. search needs)
+    (λ c. search needs)
+    (λ c. search needs)
+    (λ c. search needs)
+    (λ c κs. search needs)
+    (λ c. search needs)
     returns)

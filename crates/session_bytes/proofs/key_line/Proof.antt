@@ -4,15 +4,9 @@ use borrow.Author.Needs.{needs}
 use Rattle.session_bytes.proofs.key_line.Statement.{statement}
 use Rattle.session_bytes.proofs.key_line.Tie as tie
 
-keyed-requires : tie.Need-keyed-requires
-keyed-requires c κs = search needs
-
-same-length : tie.Need-same-length
-same-length c = search needs
-
 returns : tie.Need-returns
 unfolding key-line
 returns c = c .before .before .keyed .ensures
 
 pub key-line-spec : {M : Type 1} → statement M
-key-line-spec = tie.close (tie.spec keyed-requires same-length returns)
+key-line-spec = tie.close (tie.spec (λ c κs. search needs) (λ c. search needs) returns)

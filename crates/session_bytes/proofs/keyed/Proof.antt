@@ -8,18 +8,6 @@ use borrow.Author.Needs.{needs}
 use Rattle.session_bytes.proofs.keyed.Statement.{statement}
 use Rattle.session_bytes.proofs.keyed.Tie as tie
 
-all-bytes-requires : tie.Need-all-bytes-requires
-all-bytes-requires c κs = search needs
-
-number-requires : tie.Need-number-requires
-number-requires c κs = search needs
-
-one-byte-requires : tie.Need-one-byte-requires
-one-byte-requires c κs = search needs
-
-same-length : tie.Need-same-length
-same-length c = search needs
-
 returns : tie.Need-returns
 unfolding append
 returns c =
@@ -32,4 +20,4 @@ returns c =
 
 pub keyed-spec : {M : Type 1} → statement M
 keyed-spec =
-    tie.close (tie.spec all-bytes-requires number-requires one-byte-requires same-length returns)
+    tie.close (tie.spec (λ c κs. search needs) (λ c κs. search needs) (λ c κs. search needs) (λ c. search needs) returns)

@@ -4,15 +4,9 @@ use borrow.Author.Needs.{needs}
 use Rattle.session_bytes.proofs.number.Statement.{statement}
 use Rattle.session_bytes.proofs.number.Tie as tie
 
-digits-requires : tie.Need-digits-requires
-digits-requires c κs = search needs
-
-same-length : tie.Need-same-length
-same-length c = search needs
-
 returns : tie.Need-returns
 unfolding decimal
 returns c = c .before .before .digits .ensures
 
 pub number-spec : {M : Type 1} → statement M
-number-spec = tie.close (tie.spec digits-requires same-length returns)
+number-spec = tie.close (tie.spec (λ c κs. search needs) (λ c. search needs) returns)

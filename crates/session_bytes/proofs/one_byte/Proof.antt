@@ -6,15 +6,6 @@ use borrow.Author.Needs.{needs}
 use Rattle.session_bytes.proofs.one_byte.Statement.{statement}
 use Rattle.session_bytes.proofs.one_byte.Tie as tie
 
-slice-write-buf : tie.Need-slice-write-buf
-slice-write-buf c = search needs
-
-add-result : tie.Need-add-result
-add-result c = search needs
-
-same-length : tie.Need-same-length
-same-length c = search needs
-
 returns : tie.Need-returns
 returns c = sym (append-in (now (c .before .args .buf)) (c .before .args .at) (c .before .args .b) (c .if1 .taken))
 
@@ -22,4 +13,4 @@ returns-2 : tie.Need-returns-2
 returns-2 c = sym (append-out (now (c .before .args .buf)) (c .before .args .at) (c .before .args .b) (c .if1 .left))
 
 pub one-byte-spec : {M : Type 1} → statement M
-one-byte-spec = tie.close (tie.spec slice-write-buf add-result same-length returns returns-2)
+one-byte-spec = tie.close (tie.spec (λ c. search needs) (λ c. search needs) (λ c. search needs) returns returns-2)

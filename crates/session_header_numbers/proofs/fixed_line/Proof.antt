@@ -6,9 +6,6 @@ use borrow.Author.Needs.{needs}
 use Rattle.session_header_numbers.proofs.fixed_line.Statement.{statement}
 use Rattle.session_header_numbers.proofs.fixed_line.Tie as tie
 
-equals-requires : tie.Need-equals-requires
-equals-requires c κs = search needs
-
 returns : tie.Need-returns
 unfolding parse-fixed-line admissible
 returns c =
@@ -26,4 +23,4 @@ unfolding parse-fixed-line admissible
 returns-3 c = rw (lt-leb _ _ (c .if1 .left))
 
 pub fixed-line-spec : {M : Type 1} → statement M
-fixed-line-spec = tie.close (tie.spec equals-requires returns returns-2 returns-3)
+fixed-line-spec = tie.close (tie.spec (λ c κs. search needs) returns returns-2 returns-3)

@@ -6,9 +6,6 @@ use borrow.Author.Needs.{needs}
 use Rattle.session_header_numbers.proofs.header_number.Statement.{statement}
 use Rattle.session_header_numbers.proofs.header_number.Tie as tie
 
-keyed-number-requires : tie.Need-keyed-number-requires
-keyed-number-requires c κs = search needs
-
 returns : tie.Need-returns
 unfolding parse-header-line admissible
 returns c = rw (le-leb _ _ (c .before .if1 .taken)) (c .keyed-number .ensures)
@@ -18,4 +15,4 @@ unfolding parse-header-line admissible
 returns-2 c = rw (lt-leb _ _ (c .if1 .left))
 
 pub header-number-spec : {M : Type 1} → statement M
-header-number-spec = tie.close (tie.spec keyed-number-requires returns returns-2)
+header-number-spec = tie.close (tie.spec (λ c κs. search needs) returns returns-2)

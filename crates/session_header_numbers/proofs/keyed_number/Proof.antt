@@ -11,9 +11,6 @@ use borrow.Author.Needs.{needs}
 use Rattle.session_header_numbers.proofs.keyed_number.Statement.{statement}
 use Rattle.session_header_numbers.proofs.keyed_number.Tie as tie
 
-starts-with-requires : tie.Need-starts-with-requires
-starts-with-requires c κs = search needs
-
 sub-number : tie.Need-sub-number
 sub-number c =
     let entry = c .before .before .before .before in
@@ -25,12 +22,6 @@ part-number-start c =
     let entry = c .before .before .before .before in
     omega
     (arith, starts-long (now (entry .args .key)) (now (entry .args .s)) (sym (c .before .starts-with .ensures) ∙ c .if1 .taken))
-
-part-number-end : tie.Need-part-number-end
-part-number-end c = search needs
-
-number-requires : tie.Need-number-requires
-number-requires c κs = search needs
 
 returns : tie.Need-returns
 unfolding parse-keyed-number
@@ -53,10 +44,10 @@ pub keyed-number-spec : {M : Type 1} → statement M
 keyed-number-spec =
     tie.close
     (tie.spec
-    starts-with-requires
+    (λ c κs. search needs)
     sub-number
     part-number-start
-    part-number-end
-    number-requires
+    (λ c. search needs)
+    (λ c κs. search needs)
     returns
     returns-2)

@@ -12,12 +12,6 @@ use borrow.Author.Needs.{needs}
 use Rattle.session_keys.proofs.call.Statement.{statement}
 use Rattle.session_keys.proofs.call.Tie as tie
 
-slice-aggregate-equals : tie.Need-slice-aggregate-equals
-slice-aggregate-equals c = search needs
-
-equals-requires : tie.Need-equals-requires
-equals-requires c κs = search needs
-
 returns : tie.Need-returns
 unfolding parse-call
 returns c =
@@ -25,12 +19,6 @@ returns c =
     let s = now (entry .args .s) in
     let e1 : equals grow-word s ≡ true = sym (c .before .equals .ensures) ∙ c .if1 .taken in
     rw (e1)
-
-slice-aggregate-equals-2 : tie.Need-slice-aggregate-equals-2
-slice-aggregate-equals-2 c = search needs
-
-equals-requires-2 : tie.Need-equals-requires-2
-equals-requires-2 c κs = search needs
 
 returns-2 : tie.Need-returns-2
 unfolding parse-call
@@ -43,12 +31,6 @@ returns-2 c =
     let e2 : equals shrink-word s ≡ true = sym (c .before .equals2 .ensures) ∙ c .if2 .taken in
     rw (e1, e2)
 
-slice-aggregate-starts-with : tie.Need-slice-aggregate-starts-with
-slice-aggregate-starts-with c = search needs
-
-starts-with-requires : tie.Need-starts-with-requires
-starts-with-requires c κs = search needs
-
 sub-number : tie.Need-sub-number
 sub-number c =
     let entry = c .before .before .before .before .before .before .before .before .before .before in
@@ -58,15 +40,6 @@ part-number-start : tie.Need-part-number-start
 part-number-start c =
     let entry = c .before .before .before .before .before .before .before .before .before .before in
     omega (arith, starts-long insert-key (now (entry .args .s)) (sym (c .before .starts-with .ensures) ∙ c .if3 .taken))
-
-part-number-end : tie.Need-part-number-end
-part-number-end c = search needs
-
-number-requires : tie.Need-number-requires
-number-requires c κs = search needs
-
-tagged-start-requires : tie.Need-tagged-start-requires
-tagged-start-requires c κs = search needs
 
 returns-3 : tie.Need-returns-3
 unfolding parse-call
@@ -85,12 +58,6 @@ returns-3 c =
     rw (e1, e2, e3)
     (c .tagged-start .ensures ∙ ap (tagged-start (entry .args .k) Insert) (c .before .number .ensures ∙ ap parse-number (rest s 7)))
 
-slice-aggregate-starts-with-2 : tie.Need-slice-aggregate-starts-with-2
-slice-aggregate-starts-with-2 c = search needs
-
-starts-with-requires-2 : tie.Need-starts-with-requires-2
-starts-with-requires-2 c κs = search needs
-
 sub-number-2 : tie.Need-sub-number-2
 sub-number-2 c =
     let entry = c .before .before .before .before .before .before .before .before .before .before .before .before .before in
@@ -100,15 +67,6 @@ part-number-start-2 : tie.Need-part-number-start-2
 part-number-start-2 c =
     let entry = c .before .before .before .before .before .before .before .before .before .before .before .before .before in
     omega (arith, starts-long remove-key (now (entry .args .s)) (sym (c .before .starts-with2 .ensures) ∙ c .if4 .taken))
-
-part-number-end-2 : tie.Need-part-number-end-2
-part-number-end-2 c = search needs
-
-number-requires-2 : tie.Need-number-requires-2
-number-requires-2 c κs = search needs
-
-tagged-start-requires-2 : tie.Need-tagged-start-requires-2
-tagged-start-requires-2 c κs = search needs
 
 returns-4 : tie.Need-returns-4
 unfolding parse-call
@@ -130,12 +88,6 @@ returns-4 c =
     rw (e1, e2, e3, e4)
     (c .tagged-start2 .ensures ∙ ap (tagged-start (entry .args .k) Remove) (c .before .number2 .ensures ∙ ap parse-number (rest s 7)))
 
-slice-aggregate-starts-with-3 : tie.Need-slice-aggregate-starts-with-3
-slice-aggregate-starts-with-3 c = search needs
-
-starts-with-requires-3 : tie.Need-starts-with-requires-3
-starts-with-requires-3 c κs = search needs
-
 sub-number-3 : tie.Need-sub-number-3
 sub-number-3 c =
     let entry = c .before .before .before .before .before .before .before .before .before .before .before .before .before .before .before .before in
@@ -145,15 +97,6 @@ part-number-start-3 : tie.Need-part-number-start-3
 part-number-start-3 c =
     let entry = c .before .before .before .before .before .before .before .before .before .before .before .before .before .before .before .before in
     omega (arith, starts-long contains-key (now (entry .args .s)) (sym (c .before .starts-with3 .ensures) ∙ c .if5 .taken))
-
-part-number-end-3 : tie.Need-part-number-end-3
-part-number-end-3 c = search needs
-
-number-requires-3 : tie.Need-number-requires-3
-number-requires-3 c κs = search needs
-
-tagged-start-requires-3 : tie.Need-tagged-start-requires-3
-tagged-start-requires-3 c κs = search needs
 
 returns-5 : tie.Need-returns-5
 unfolding parse-call
@@ -202,34 +145,34 @@ pub call-spec : {M : Type 1} → statement M
 call-spec =
     tie.close
     (tie.spec
-    slice-aggregate-equals
-    equals-requires
+    (λ c. search needs)
+    (λ c κs. search needs)
     returns
-    slice-aggregate-equals-2
-    equals-requires-2
+    (λ c. search needs)
+    (λ c κs. search needs)
     returns-2
-    slice-aggregate-starts-with
-    starts-with-requires
+    (λ c. search needs)
+    (λ c κs. search needs)
     sub-number
     part-number-start
-    part-number-end
-    number-requires
-    tagged-start-requires
+    (λ c. search needs)
+    (λ c κs. search needs)
+    (λ c κs. search needs)
     returns-3
-    slice-aggregate-starts-with-2
-    starts-with-requires-2
+    (λ c. search needs)
+    (λ c κs. search needs)
     sub-number-2
     part-number-start-2
-    part-number-end-2
-    number-requires-2
-    tagged-start-requires-2
+    (λ c. search needs)
+    (λ c κs. search needs)
+    (λ c κs. search needs)
     returns-4
-    slice-aggregate-starts-with-3
-    starts-with-requires-3
+    (λ c. search needs)
+    (λ c κs. search needs)
     sub-number-3
     part-number-start-3
-    part-number-end-3
-    number-requires-3
-    tagged-start-requires-3
+    (λ c. search needs)
+    (λ c κs. search needs)
+    (λ c κs. search needs)
     returns-5
     returns-6)

@@ -9,12 +9,9 @@ returns : tie.Need-returns
 unfolding equals
 returns c = rw (ne-eqb _ _ (c .if1 .taken))
 
-starts-with-requires : tie.Need-starts-with-requires
-starts-with-requires c κs = search needs
-
 returns-2 : tie.Need-returns-2
 unfolding equals
 returns-2 c = rw (eq-eqb _ _ (c .before .if1 .left)) (c .starts-with .ensures)
 
 pub equals-spec : {M : Type 1} → statement M
-equals-spec = tie.close (tie.spec returns starts-with-requires returns-2)
+equals-spec = tie.close (tie.spec returns (λ c κs. search needs) returns-2)

@@ -4,12 +4,6 @@ use borrow.Author.Needs.{needs}
 use Rattle.session_keys.proofs.tagged_start.Statement.{statement}
 use Rattle.session_keys.proofs.tagged_start.Tie as tie
 
-enum-known-tag : tie.Need-enum-known-tag
-enum-known-tag c = search needs
-
-enum-told : tie.Need-enum-told
-enum-told c = search needs
-
 returns : tie.Need-returns
 unfolding tagged-start
 returns c = rw (c .before .tag .given .1)
@@ -19,4 +13,4 @@ unfolding tagged-start
 returns-2 c = rw (c .enum-told .given .1)
 
 pub tagged-start-spec : {M : Type 1} → statement M
-tagged-start-spec = tie.close (tie.spec enum-known-tag enum-told returns returns-2)
+tagged-start-spec = tie.close (tie.spec (λ c. search needs) (λ c. search needs) returns returns-2)

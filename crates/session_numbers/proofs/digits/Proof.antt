@@ -20,12 +20,6 @@ abbrev μ-loop : tie.MeasureT-loop
 loop-holds : tie.Need-loop-holds Inv-loop μ-loop
 loop-holds c = (omega arith, refl)
 
-shared-slice-read-wide : tie.Need-shared-slice-read-wide Inv-loop μ-loop
-shared-slice-read-wide c = search needs
-
-wide-requires : tie.Need-wide-requires Inv-loop μ-loop
-wide-requires c κs = search needs
-
 returns : tie.Need-returns Inv-loop μ-loop
 returns c =
     let v = c .before in
@@ -48,12 +42,6 @@ returns-2 c =
     let e = v .wide .ensures .0 in
     sym (sym (l .inv .1) ∙ digits-high (l .n) s (l .i) t x e (c .before .if1 .left) (c .if2 .taken))
 
-mul-m : tie.Need-mul-m Inv-loop μ-loop
-mul-m c = search needs
-
-add-m : tie.Need-add-m Inv-loop μ-loop
-add-m c = search needs
-
 returns-3 : tie.Need-returns-3 Inv-loop μ-loop
 returns-3 c =
     let v = c .before .before .before in
@@ -64,9 +52,6 @@ returns-3 c =
     let t = w .loop-test .taken in
     let e = v .wide .ensures .0 in
     sym (sym (l .inv .1) ∙ digits-over (l .n) s (l .i) t x e (c .before .before .if1 .left) (c .before .if2 .left) (c .if3 .taken))
-
-add-i : tie.Need-add-i Inv-loop μ-loop
-add-i c = search needs
 
 loop-less : tie.Need-loop-less Inv-loop μ-loop
 loop-less c = omega arith
@@ -82,9 +67,6 @@ loop-again c =
     let e = v .wide .ensures .0 in
     (c .if3 .left, sym (digits-on (l .n) s (l .i) t x e (c .before .before .if1 .left) (c .before .if2 .left) (c .if3 .left)) ∙ l .inv .1)
 
-cast-t12 : tie.Need-cast-t12 Inv-loop μ-loop
-cast-t12 c = search needs
-
 returns-4 : tie.Need-returns-4 Inv-loop μ-loop
 returns-4 c =
     let l = c .before .loop in
@@ -97,15 +79,15 @@ digits-spec =
     Inv-loop
     μ-loop
     loop-holds
-    shared-slice-read-wide
-    wide-requires
+    (λ c. search needs)
+    (λ c κs. search needs)
     returns
     returns-2
-    mul-m
-    add-m
+    (λ c. search needs)
+    (λ c. search needs)
     returns-3
-    add-i
+    (λ c. search needs)
     loop-less
     loop-again
-    cast-t12
+    (λ c. search needs)
     returns-4)

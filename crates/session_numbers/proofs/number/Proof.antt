@@ -10,9 +10,6 @@ use Rattle.session_numbers.proofs.number.Tie as tie
 returns : tie.Need-returns
 returns c = sym (number-none (now (c .before .before .args .s)) (c .if1 .taken))
 
-shared-slice-read-if2 : tie.Need-shared-slice-read-if2
-shared-slice-read-if2 c = search needs
-
 returns-2 : tie.Need-returns-2
 returns-2 c =
     let entry = c .before .before .before .before .before in
@@ -24,9 +21,6 @@ returns-3 c =
     let entry = at-if1 .before .before in
     sym (number-led (now (entry .args .s)) (at-if1 .if1 .left) (c .if3 .left) (c .before .if2 .taken))
 
-digits-requires : tie.Need-digits-requires
-digits-requires c κs = search needs
-
 returns-4 : tie.Need-returns-4
 returns-4 c =
     let at-if1 = c .before .before .before in
@@ -36,4 +30,4 @@ returns-4 c =
 pub number-spec : {M : Type 1} → statement M
 number-spec =
     tie.close
-    (tie.spec returns shared-slice-read-if2 returns-2 returns-3 digits-requires returns-4)
+    (tie.spec returns (λ c. search needs) returns-2 returns-3 (λ c κs. search needs) returns-4)

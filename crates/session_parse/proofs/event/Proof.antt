@@ -10,12 +10,6 @@ use borrow.Author.Needs.{needs}
 use Rattle.session_parse.proofs.event.Statement.{statement}
 use Rattle.session_parse.proofs.event.Tie as tie
 
-slice-aggregate-starts-with : tie.Need-slice-aggregate-starts-with
-slice-aggregate-starts-with c = search needs
-
-starts-with-requires : tie.Need-starts-with-requires
-starts-with-requires c κs = search needs
-
 sub-number : tie.Need-sub-number
 sub-number c =
     let entry = c .before .before .before .before in
@@ -25,15 +19,6 @@ part-number-start : tie.Need-part-number-start
 part-number-start c =
     let entry = c .before .before .before .before in
     omega (arith, starts-long step-key (now (entry .args .s)) (sym (c .before .starts-with .ensures) ∙ c .if1 .taken))
-
-part-number-end : tie.Need-part-number-end
-part-number-end c = search needs
-
-number-requires : tie.Need-number-requires
-number-requires c κs = search needs
-
-step-requires : tie.Need-step-requires
-step-requires c κs = search needs
 
 returns : tie.Need-returns
 unfolding parse-event
@@ -45,12 +30,6 @@ returns c =
     let e : starts-with step-key s ≡ true = sym (at-starts-with .starts-with .ensures) ∙ at-if1 .if1 .taken in
     rw e (c .step .ensures ∙ ap step-event (c .before .number .ensures ∙ ap parse-number (rest s 5)))
 
-slice-aggregate-starts-with-2 : tie.Need-slice-aggregate-starts-with-2
-slice-aggregate-starts-with-2 c = search needs
-
-starts-with-requires-2 : tie.Need-starts-with-requires-2
-starts-with-requires-2 c κs = search needs
-
 sub-start : tie.Need-sub-start
 sub-start c =
     let entry = c .before .before .before .before .before .before .before in
@@ -60,12 +39,6 @@ part-start-start : tie.Need-part-start-start
 part-start-start c =
     let entry = c .before .before .before .before .before .before .before in
     omega (arith, starts-long start-key (now (entry .args .s)) (sym (c .before .starts-with2 .ensures) ∙ c .if2 .taken))
-
-part-start-end : tie.Need-part-start-end
-part-start-end c = search needs
-
-start-requires : tie.Need-start-requires
-start-requires c κs = search needs
 
 returns-2 : tie.Need-returns-2
 unfolding parse-event
@@ -94,19 +67,19 @@ pub event-spec : {M : Type 1} → statement M
 event-spec =
     tie.close
     (tie.spec
-    slice-aggregate-starts-with
-    starts-with-requires
+    (λ c. search needs)
+    (λ c κs. search needs)
     sub-number
     part-number-start
-    part-number-end
-    number-requires
-    step-requires
+    (λ c. search needs)
+    (λ c κs. search needs)
+    (λ c κs. search needs)
     returns
-    slice-aggregate-starts-with-2
-    starts-with-requires-2
+    (λ c. search needs)
+    (λ c κs. search needs)
     sub-start
     part-start-start
-    part-start-end
-    start-requires
+    (λ c. search needs)
+    (λ c κs. search needs)
     returns-2
     returns-3)

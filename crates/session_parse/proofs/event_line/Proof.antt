@@ -6,9 +6,6 @@ use borrow.Author.Needs.{needs}
 use Rattle.session_parse.proofs.event_line.Statement.{statement}
 use Rattle.session_parse.proofs.event_line.Tie as tie
 
-event-requires : tie.Need-event-requires
-event-requires c κs = search needs
-
 returns : tie.Need-returns
 unfolding parse-event-line admissible
 returns c = rw (le-leb _ _ (c .before .if1 .taken)) (c .event .ensures)
@@ -18,4 +15,4 @@ unfolding parse-event-line admissible
 returns-2 c = rw (lt-leb _ _ (c .if1 .left))
 
 pub event-line-spec : {M : Type 1} → statement M
-event-line-spec = tie.close (tie.spec event-requires returns returns-2)
+event-line-spec = tie.close (tie.spec (λ c κs. search needs) returns returns-2)

@@ -5,15 +5,9 @@ use borrow.Author.Needs.{needs}
 use Rattle.session_parse.proofs.header_line.Statement.{statement}
 use Rattle.session_parse.proofs.header_line.Tie as tie
 
-other-line-requires : tie.Need-other-line-requires
-other-line-requires c κs = search needs
-
-number-line-requires : tie.Need-number-line-requires
-number-line-requires c κs = search needs
-
 returns : tie.Need-returns
 unfolding header-step
 returns c = rw (sym (c .before .other-line .ensures)) (c .number-line .ensures)
 
 pub header-line-spec : {M : Type 1} → statement M
-header-line-spec = tie.close (tie.spec other-line-requires number-line-requires returns)
+header-line-spec = tie.close (tie.spec (λ c κs. search needs) (λ c κs. search needs) returns)

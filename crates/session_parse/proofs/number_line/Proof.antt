@@ -5,18 +5,6 @@ use borrow.Author.Needs.{needs}
 use Rattle.session_parse.proofs.number_line.Statement.{statement}
 use Rattle.session_parse.proofs.number_line.Tie as tie
 
-line-number-requires : tie.Need-line-number-requires
-line-number-requires c κs = search needs
-
-enum-known-n : tie.Need-enum-known-n
-enum-known-n c = search needs
-
-with-number-requires : tie.Need-with-number-requires
-with-number-requires c κs = search needs
-
-enum-told : tie.Need-enum-told
-enum-told c = search needs
-
 returns : tie.Need-returns
 unfolding number-step
 returns c =
@@ -30,4 +18,4 @@ returns-2 c = rw (sym (c .before .before .line-number .ensures) ∙ c .enum-told
 pub number-line-spec : {M : Type 1} → statement M
 number-line-spec =
     tie.close
-    (tie.spec line-number-requires enum-known-n with-number-requires enum-told returns returns-2)
+    (tie.spec (λ c κs. search needs) (λ c. search needs) (λ c κs. search needs) (λ c. search needs) returns returns-2)

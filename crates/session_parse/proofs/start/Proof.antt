@@ -14,36 +14,12 @@ use borrow.Author.Needs.{needs}
 use Rattle.session_parse.proofs.start.Statement.{statement}
 use Rattle.session_parse.proofs.start.Tie as tie
 
-comma-position-requires : tie.Need-comma-position-requires
-comma-position-requires c κs = search needs
-
 slice-aggregate-number : tie.Need-slice-aggregate-number
 slice-aggregate-number c =
     let at-comma-position = c .before in
     let entry = at-comma-position .before .before in
     sym
     (length-take-le (at-comma-position .comma-position .result) (now (entry .args .s)) (at-comma-position .comma-position .ensures .1))
-
-number-requires : tie.Need-number-requires
-number-requires c κs = search needs
-
-enum-known-k : tie.Need-enum-known-k
-enum-known-k c = search needs
-
-add-a : tie.Need-add-a
-add-a c = search needs
-
-sub-call : tie.Need-sub-call
-sub-call c = search needs
-
-part-call-start : tie.Need-part-call-start
-part-call-start c = search needs
-
-part-call-end : tie.Need-part-call-end
-part-call-end c = search needs
-
-call-requires : tie.Need-call-requires
-call-requires c κs = search needs
 
 returns : tie.Need-returns
 unfolding parse-start call-of-task
@@ -57,9 +33,6 @@ returns c =
     let e : parse-number (take r s) ≡ Value (at-k .k .given .0 .0) = sym (at-number .number .ensures) ∙ at-k .k .given .1 in
     rw (← at-comma-position .comma-position .ensures .0, e)
     (c .call .ensures ∙ ap (parse-call (at-k .k .given .0 .0)) (rest s (r + 1)))
-
-enum-told : tie.Need-enum-told
-enum-told c = search needs
 
 returns-2 : tie.Need-returns-2
 unfolding parse-start call-of-task
@@ -88,16 +61,16 @@ pub start-spec : {M : Type 1} → statement M
 start-spec =
     tie.close
     (tie.spec
-    comma-position-requires
+    (λ c κs. search needs)
     slice-aggregate-number
-    number-requires
-    enum-known-k
-    add-a
-    sub-call
-    part-call-start
-    part-call-end
-    call-requires
+    (λ c κs. search needs)
+    (λ c. search needs)
+    (λ c. search needs)
+    (λ c. search needs)
+    (λ c. search needs)
+    (λ c. search needs)
+    (λ c κs. search needs)
     returns
-    enum-told
+    (λ c. search needs)
     returns-2
     returns-3)

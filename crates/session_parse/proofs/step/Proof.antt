@@ -4,12 +4,6 @@ use borrow.Author.Needs.{needs}
 use Rattle.session_parse.proofs.step.Statement.{statement}
 use Rattle.session_parse.proofs.step.Tie as tie
 
-enum-known-task : tie.Need-enum-known-task
-enum-known-task c = search needs
-
-enum-told : tie.Need-enum-told
-enum-told c = search needs
-
 returns : tie.Need-returns
 unfolding step-event
 returns c = rw (c .before .task .given .1)
@@ -19,4 +13,4 @@ unfolding step-event
 returns-2 c = rw (c .enum-told .given .1)
 
 pub step-spec : {M : Type 1} → statement M
-step-spec = tie.close (tie.spec enum-known-task enum-told returns returns-2)
+step-spec = tie.close (tie.spec (λ c. search needs) (λ c. search needs) returns returns-2)

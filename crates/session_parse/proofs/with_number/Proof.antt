@@ -8,30 +8,6 @@ use borrow.Author.Needs.{needs}
 use Rattle.session_parse.proofs.with_number.Statement.{statement}
 use Rattle.session_parse.proofs.with_number.Tie as tie
 
-enum-told : tie.Need-enum-told
-enum-told c = search needs
-
-config-requires : tie.Need-config-requires
-config-requires c κs = search needs
-
-enum-told-2 : tie.Need-enum-told-2
-enum-told-2 c = search needs
-
-enum-told-3 : tie.Need-enum-told-3
-enum-told-3 c = search needs
-
-enum-told-4 : tie.Need-enum-told-4
-enum-told-4 c = search needs
-
-with-version-requires : tie.Need-with-version-requires
-with-version-requires c κs = search needs
-
-enum-told-5 : tie.Need-enum-told-5
-enum-told-5 c = search needs
-
-with-zero-withdrawn-requires : tie.Need-with-zero-withdrawn-requires
-with-zero-withdrawn-requires c κs = search needs
-
 returns : tie.Need-returns
 unfolding with-number
 returns c =
@@ -62,14 +38,14 @@ pub with-number-spec : {M : Type 1} → statement M
 with-number-spec =
     tie.close
     (tie.spec
-    enum-told
-    config-requires
-    enum-told-2
-    enum-told-3
-    enum-told-4
-    with-version-requires
-    enum-told-5
-    with-zero-withdrawn-requires
+    (λ c. search needs)
+    (λ c κs. search needs)
+    (λ c. search needs)
+    (λ c. search needs)
+    (λ c. search needs)
+    (λ c κs. search needs)
+    (λ c. search needs)
+    (λ c κs. search needs)
     returns
     returns-2
     returns-3

@@ -15,9 +15,6 @@ returns-2 c =
     let entry = c .before .before in
     (sym (extent-high 66 200 (entry .args .n) (entry .args .words) (c .before .if1 .left) (c .if2 .taken)), omega arith)
 
-mul-a : tie.Need-mul-a
-mul-a c = search needs
-
 returns-3 : tie.Need-returns-3
 returns-3 c =
     let entry = c .before .before .before in
@@ -29,4 +26,4 @@ returns-4 c =
     (sym (extent-short 66 200 (entry .args .n) (entry .args .words) (c .before .before .if1 .left) (c .before .if2 .left) (c .if3 .left)), omega arith)
 
 pub bucket-extent-spec : {M : Type 1} → statement M
-bucket-extent-spec = tie.close (tie.spec returns returns-2 mul-a returns-3 returns-4)
+bucket-extent-spec = tie.close (tie.spec returns returns-2 (λ c. search needs) returns-3 returns-4)

@@ -8,21 +8,6 @@ use borrow.Author.Needs.{needs}
 use Rattle.session_print.proofs.at_line.Statement.{statement}
 use Rattle.session_print.proofs.at_line.Tie as tie
 
-slice-aggregate-keyed : tie.Need-slice-aggregate-keyed
-slice-aggregate-keyed c = search needs
-
-keyed-requires : tie.Need-keyed-requires
-keyed-requires c κs = search needs
-
-number-requires : tie.Need-number-requires
-number-requires c κs = search needs
-
-one-byte-requires : tie.Need-one-byte-requires
-one-byte-requires c κs = search needs
-
-same-length : tie.Need-same-length
-same-length c = search needs
-
 returns : tie.Need-returns
 unfolding output-line append
 returns c =
@@ -35,4 +20,4 @@ returns c =
 
 pub at-line-spec : {M : Type 1} → statement M
 at-line-spec =
-    tie.close (tie.spec slice-aggregate-keyed keyed-requires number-requires one-byte-requires same-length returns)
+    tie.close (tie.spec (λ c. search needs) (λ c κs. search needs) (λ c κs. search needs) (λ c κs. search needs) (λ c. search needs) returns)

@@ -8,30 +8,6 @@ use borrow.Author.Needs.{needs}
 use Rattle.session_print.proofs.end_line.Statement.{statement}
 use Rattle.session_print.proofs.end_line.Tie as tie
 
-slice-aggregate-keyed : tie.Need-slice-aggregate-keyed
-slice-aggregate-keyed c = search needs
-
-keyed-requires : tie.Need-keyed-requires
-keyed-requires c κs = search needs
-
-answer-requires : tie.Need-answer-requires
-answer-requires c κs = search needs
-
-one-byte-requires : tie.Need-one-byte-requires
-one-byte-requires c κs = search needs
-
-number-requires : tie.Need-number-requires
-number-requires c κs = search needs
-
-occupancy-field-requires : tie.Need-occupancy-field-requires
-occupancy-field-requires c κs = search needs
-
-one-byte-requires-2 : tie.Need-one-byte-requires-2
-one-byte-requires-2 c κs = search needs
-
-same-length : tie.Need-same-length
-same-length c = search needs
-
 returns : tie.Need-returns
 unfolding output-line append
 returns c =
@@ -50,12 +26,12 @@ pub end-line-spec : {M : Type 1} → statement M
 end-line-spec =
     tie.close
     (tie.spec
-    slice-aggregate-keyed
-    keyed-requires
-    answer-requires
-    one-byte-requires
-    number-requires
-    occupancy-field-requires
-    one-byte-requires-2
-    same-length
+    (λ c. search needs)
+    (λ c κs. search needs)
+    (λ c κs. search needs)
+    (λ c κs. search needs)
+    (λ c κs. search needs)
+    (λ c κs. search needs)
+    (λ c κs. search needs)
+    (λ c. search needs)
     returns)

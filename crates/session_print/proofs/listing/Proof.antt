@@ -8,24 +8,6 @@ use borrow.Author.Needs.{needs}
 use Rattle.session_print.proofs.listing.Statement.{statement}
 use Rattle.session_print.proofs.listing.Tie as tie
 
-slice-aggregate-key-line : tie.Need-slice-aggregate-key-line
-slice-aggregate-key-line c = search needs
-
-key-line-requires : tie.Need-key-line-requires
-key-line-requires c κs = search needs
-
-slice-aggregate-key-line-2 : tie.Need-slice-aggregate-key-line-2
-slice-aggregate-key-line-2 c = search needs
-
-key-line-requires-2 : tie.Need-key-line-requires-2
-key-line-requires-2 c κs = search needs
-
-tags-requires : tie.Need-tags-requires
-tags-requires c κs = search needs
-
-same-length : tie.Need-same-length
-same-length c = search needs
-
 returns : tie.Need-returns
 unfolding listing-lines
 returns c =
@@ -40,10 +22,10 @@ pub listing-spec : {M : Type 1} → statement M
 listing-spec =
     tie.close
     (tie.spec
-    slice-aggregate-key-line
-    key-line-requires
-    slice-aggregate-key-line-2
-    key-line-requires-2
-    tags-requires
-    same-length
+    (λ c. search needs)
+    (λ c κs. search needs)
+    (λ c. search needs)
+    (λ c κs. search needs)
+    (λ c κs. search needs)
+    (λ c. search needs)
     returns)

@@ -6,27 +6,9 @@ use borrow.Author.Needs.{needs}
 use Rattle.session_print.proofs.occupancy_field.Statement.{statement}
 use Rattle.session_print.proofs.occupancy_field.Tie as tie
 
-enum-told : tie.Need-enum-told
-enum-told c = search needs
-
-enum-known-full : tie.Need-enum-known-full
-enum-known-full c = search needs
-
-one-byte-requires : tie.Need-one-byte-requires
-one-byte-requires c κs = search needs
-
-cast-number : tie.Need-cast-number
-cast-number c = search needs
-
-number-requires : tie.Need-number-requires
-number-requires c κs = search needs
-
 returns : tie.Need-returns
 unfolding occupancy-field append
 returns c = rw (c .enum-told .given .1)
-
-same-length : tie.Need-same-length
-same-length c = search needs
 
 returns-2 : tie.Need-returns-2
 unfolding occupancy-field append
@@ -40,11 +22,11 @@ pub occupancy-field-spec : {M : Type 1} → statement M
 occupancy-field-spec =
     tie.close
     (tie.spec
-    enum-told
-    enum-known-full
-    one-byte-requires
-    cast-number
-    number-requires
+    (λ c. search needs)
+    (λ c. search needs)
+    (λ c κs. search needs)
+    (λ c. search needs)
+    (λ c κs. search needs)
     returns
-    same-length
+    (λ c. search needs)
     returns-2)

@@ -21,28 +21,10 @@ abbrev μ-loop : tie.MeasureT-loop
 loop-holds : tie.Need-loop-holds Inv-loop μ-loop
 loop-holds c = (refl, refl)
 
-slice-aggregate-key-line : tie.Need-slice-aggregate-key-line Inv-loop μ-loop
-slice-aggregate-key-line c = search needs
-
-mul-key-line : tie.Need-mul-key-line Inv-loop μ-loop
-mul-key-line c = search needs
-
-shared-slice-read-key-line : tie.Need-shared-slice-read-key-line Inv-loop μ-loop
-shared-slice-read-key-line c = search needs
-
 cast-key-line : tie.Need-cast-key-line Inv-loop μ-loop
 cast-key-line c =
     let at-loop = c .before .before .before .before in
     omega (arith, c .shared-slice-known2 .given (at-loop .loop .i))
-
-key-line-requires : tie.Need-key-line-requires Inv-loop μ-loop
-key-line-requires c κs = search needs
-
-add-i : tie.Need-add-i Inv-loop μ-loop
-add-i c = search needs
-
-loop-less : tie.Need-loop-less Inv-loop μ-loop
-loop-less c = search needs
 
 loop-again : tie.Need-loop-again Inv-loop μ-loop
 loop-again c =
@@ -72,13 +54,13 @@ tags-spec =
     Inv-loop
     μ-loop
     loop-holds
-    slice-aggregate-key-line
-    mul-key-line
-    shared-slice-read-key-line
+    (λ c. search needs)
+    (λ c. search needs)
+    (λ c. search needs)
     cast-key-line
-    key-line-requires
-    add-i
-    loop-less
+    (λ c κs. search needs)
+    (λ c. search needs)
+    (λ c. search needs)
     loop-again
     same-length
     returns)

@@ -5,9 +5,6 @@ use borrow.Author.Needs.{needs}
 use Rattle.slots.proofs.remainder.Statement.{statement}
 use Rattle.slots.proofs.remainder.Tie as tie
 
-rem-result : tie.Need-rem-result
-rem-result c = search needs
-
 returns : tie.Need-returns
 returns c = sym (rw (c .if1 .taken) (mod-zero (c .before .args .n)))
 
@@ -15,4 +12,4 @@ returns-2 : tie.Need-returns-2
 returns-2 c = refl
 
 pub remainder-spec : {M : Type 1} → statement M
-remainder-spec = tie.close (tie.spec rem-result returns returns-2)
+remainder-spec = tie.close (tie.spec (λ c. search needs) returns returns-2)

@@ -6,12 +6,6 @@ use borrow.Author.Needs.{needs}
 use Rattle.slots.proofs.slot.Statement.{statement}
 use Rattle.slots.proofs.slot.Tie as tie
 
-key-requires : tie.Need-key-requires
-key-requires c κs = search needs
-
-remainder-requires : tie.Need-remainder-requires
-remainder-requires c κs = search needs
-
 returns : tie.Need-returns
 unfolding slot
 returns c =
@@ -19,4 +13,4 @@ returns c =
     c .remainder .ensures ∙ ap (λ (k : ℕ). k % a .size) (c .before .key .ensures)
 
 pub slot-spec : {M : Type 1} → statement M
-slot-spec = tie.close (tie.spec key-requires remainder-requires returns)
+slot-spec = tie.close (tie.spec (λ c κs. search needs) (λ c κs. search needs) returns)

@@ -7,18 +7,6 @@ use borrow.Author.Needs.{needs}
 use Rattle.sound_numbers.proofs.config_ok.Statement.{statement}
 use Rattle.sound_numbers.proofs.config_ok.Tie as tie
 
-within-requires : tie.Need-within-requires
-within-requires c κs = search needs
-
-within-requires-2 : tie.Need-within-requires-2
-within-requires-2 c κs = search needs
-
-slice-aggregate-all-true : tie.Need-slice-aggregate-all-true
-slice-aggregate-all-true c = search needs
-
-all-true-requires : tie.Need-all-true-requires
-all-true-requires c κs = search needs
-
 returns : tie.Need-returns
 unfolding config-sound
 returns c =
@@ -28,4 +16,4 @@ returns c =
     ∙ ap all-true (same-list (tasks-tested .within .ensures also version-tested .within2 .ensures also no-more))
 
 pub config-ok-spec : {M : Type 1} → statement M
-config-ok-spec = tie.close (tie.spec within-requires within-requires-2 slice-aggregate-all-true all-true-requires returns)
+config-ok-spec = tie.close (tie.spec (λ c κs. search needs) (λ c κs. search needs) (λ c. search needs) (λ c κs. search needs) returns)

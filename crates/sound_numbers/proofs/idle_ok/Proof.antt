@@ -5,18 +5,9 @@ use borrow.Author.Needs.{needs}
 use Rattle.sound_numbers.proofs.idle_ok.Statement.{statement}
 use Rattle.sound_numbers.proofs.idle_ok.Tie as tie
 
-cast-o : tie.Need-cast-o
-cast-o c = search needs
-
-slice-aggregate-zero-words : tie.Need-slice-aggregate-zero-words
-slice-aggregate-zero-words c = search needs
-
-zero-words-requires : tie.Need-zero-words-requires
-zero-words-requires c κs = search needs
-
 returns : tie.Need-returns
 unfolding zeros zero-task every
 returns c = c .zero-words .ensures
 
 pub idle-ok-spec : {M : Type 1} → statement M
-idle-ok-spec = tie.close (tie.spec cast-o slice-aggregate-zero-words zero-words-requires returns)
+idle-ok-spec = tie.close (tie.spec (λ c. search needs) (λ c. search needs) (λ c κs. search needs) returns)

@@ -10,36 +10,6 @@ use borrow.Author.Needs.{needs}
 use Rattle.sound_numbers.proofs.numbers_ok.Statement.{statement}
 use Rattle.sound_numbers.proofs.numbers_ok.Tie as tie
 
-cast-node-words : tie.Need-cast-node-words
-cast-node-words c = search needs
-
-mul-node-words : tie.Need-mul-node-words
-mul-node-words c = search needs
-
-cast-bucket-words : tie.Need-cast-bucket-words
-cast-bucket-words c = search needs
-
-mul-bucket-words : tie.Need-mul-bucket-words
-mul-bucket-words c = search needs
-
-config-ok-requires : tie.Need-config-ok-requires
-config-ok-requires c κs = search needs
-
-within-requires : tie.Need-within-requires
-within-requires c κs = search needs
-
-within-requires-2 : tie.Need-within-requires-2
-within-requires-2 c κs = search needs
-
-size-at-requires : tie.Need-size-at-requires
-size-at-requires c κs = search needs
-
-slice-aggregate-all-true : tie.Need-slice-aggregate-all-true
-slice-aggregate-all-true c = search needs
-
-all-true-requires : tie.Need-all-true-requires
-all-true-requires c κs = search needs
-
 returns : tie.Need-returns
 unfolding sound-numbers
 returns c =
@@ -64,14 +34,14 @@ pub numbers-ok-spec : {M : Type 1} → statement M
 numbers-ok-spec =
     tie.close
     (tie.spec
-    cast-node-words
-    mul-node-words
-    cast-bucket-words
-    mul-bucket-words
-    config-ok-requires
-    within-requires
-    within-requires-2
-    size-at-requires
-    slice-aggregate-all-true
-    all-true-requires
+    (λ c. search needs)
+    (λ c. search needs)
+    (λ c. search needs)
+    (λ c. search needs)
+    (λ c κs. search needs)
+    (λ c κs. search needs)
+    (λ c κs. search needs)
+    (λ c κs. search needs)
+    (λ c. search needs)
+    (λ c κs. search needs)
     returns)

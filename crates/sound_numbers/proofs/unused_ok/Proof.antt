@@ -6,11 +6,8 @@ use borrow.Author.Needs.{needs}
 use Rattle.sound_numbers.proofs.unused_ok.Statement.{statement}
 use Rattle.sound_numbers.proofs.unused_ok.Tie as tie
 
-idle-ok-requires : tie.Need-idle-ok-requires
-idle-ok-requires c κs = search needs
-
 returns : tie.Need-returns
 returns c = λ y k h. rw (c .idle-ok .ensures) (sym (from-T y k (c .before .args .c) h))
 
 pub unused-ok-spec : {M : Type 1} → statement M
-unused-ok-spec = tie.close (tie.spec idle-ok-requires returns)
+unused-ok-spec = tie.close (tie.spec (λ c κs. search needs) returns)

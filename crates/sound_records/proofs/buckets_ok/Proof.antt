@@ -23,21 +23,6 @@ abbrev μ-loop : tie.MeasureT-loop
 loop-holds : tie.Need-loop-holds Inv-loop μ-loop
 loop-holds c = (omega arith, rw sub-zero)
 
-mul-a : tie.Need-mul-a Inv-loop μ-loop
-mul-a c = search needs
-
-mul-bucket-ok : tie.Need-mul-bucket-ok Inv-loop μ-loop
-mul-bucket-ok c = search needs
-
-sub-bucket-ok : tie.Need-sub-bucket-ok Inv-loop μ-loop
-sub-bucket-ok c = search needs
-
-part-bucket-ok-start : tie.Need-part-bucket-ok-start Inv-loop μ-loop
-part-bucket-ok-start c = search needs
-
-part-bucket-ok-end : tie.Need-part-bucket-ok-end Inv-loop μ-loop
-part-bucket-ok-end c = search needs
-
 bucket-ok-requires : tie.Need-bucket-ok-requires Inv-loop μ-loop
 bucket-ok-requires c κs =
     let w = now (c .before .before .before .before .args .bs) in
@@ -51,12 +36,6 @@ returns c =
     let w = now (a .bs) in
     let fails = ap sound-bucket (sym (rest w (66 * loop .k))) ∙ sym (c .before .bucket-ok .ensures) ∙ not-true _ (c .if1 .taken) in
     sym (loop .inv .1 ∙ buckets-no w (a .n) (loop .k) (c .before .before .before .loop-test .taken) fails)
-
-add-k : tie.Need-add-k Inv-loop μ-loop
-add-k c = search needs
-
-loop-less : tie.Need-loop-less Inv-loop μ-loop
-loop-less c = search needs
 
 loop-again : tie.Need-loop-again Inv-loop μ-loop
 loop-again c =
@@ -79,14 +58,14 @@ buckets-ok-spec =
     Inv-loop
     μ-loop
     loop-holds
-    mul-a
-    mul-bucket-ok
-    sub-bucket-ok
-    part-bucket-ok-start
-    part-bucket-ok-end
+    (λ c. search needs)
+    (λ c. search needs)
+    (λ c. search needs)
+    (λ c. search needs)
+    (λ c. search needs)
     bucket-ok-requires
     returns
-    add-k
-    loop-less
+    (λ c. search needs)
+    (λ c. search needs)
     loop-again
     returns-2)

@@ -4,15 +4,9 @@ use borrow.Author.Needs.{needs}
 use Rattle.sound_records.proofs.is_listed_size.Statement.{statement}
 use Rattle.sound_records.proofs.is_listed_size.Tie as tie
 
-slice-aggregate-among : tie.Need-slice-aggregate-among
-slice-aggregate-among c = search needs
-
-among-requires : tie.Need-among-requires
-among-requires c κs = search needs
-
 returns : tie.Need-returns
 unfolding listed-size
 returns c = c .among .ensures
 
 pub is-listed-size-spec : {M : Type 1} → statement M
-is-listed-size-spec = tie.close (tie.spec slice-aggregate-among among-requires returns)
+is-listed-size-spec = tie.close (tie.spec (λ c. search needs) (λ c κs. search needs) returns)

@@ -14,9 +14,6 @@ returns-2 : tie.Need-returns-2
 unfolding node-link
 returns-2 c = λ y e h. rw (h, le-leb _ _ (c .before .if1 .left), c .if2 .taken)
 
-size-of-requires : tie.Need-size-of-requires
-size-of-requires c κs = search needs
-
 returns-3 : tie.Need-returns-3
 unfolding node-link
 returns-3 c =
@@ -32,4 +29,4 @@ returns-4 c =
     λ y e h. rw (h, in-pool, e, ne-eqb _ _ (at-none .if2 .left), ← c .before .size-of .ensures, ne-eqb _ _ (c .if3 .left))
 
 pub link-ok-spec : {M : Type 1} → statement M
-link-ok-spec = tie.close (tie.spec returns returns-2 size-of-requires returns-3 returns-4)
+link-ok-spec = tie.close (tie.spec returns returns-2 (λ c κs. search needs) returns-3 returns-4)

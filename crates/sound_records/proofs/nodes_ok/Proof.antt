@@ -25,21 +25,6 @@ abbrev μ-loop : tie.MeasureT-loop
 loop-holds : tie.Need-loop-holds Inv-loop μ-loop
 loop-holds c = (omega arith, λ y e h d. rw sub-zero)
 
-mul-a : tie.Need-mul-a Inv-loop μ-loop
-mul-a c = search needs
-
-mul-node-ok : tie.Need-mul-node-ok Inv-loop μ-loop
-mul-node-ok c = search needs
-
-sub-node-ok : tie.Need-sub-node-ok Inv-loop μ-loop
-sub-node-ok c = search needs
-
-part-node-ok-start : tie.Need-part-node-ok-start Inv-loop μ-loop
-part-node-ok-start c = search needs
-
-part-node-ok-end : tie.Need-part-node-ok-end Inv-loop μ-loop
-part-node-ok-end c = search needs
-
 node-ok-requires : tie.Need-node-ok-requires Inv-loop μ-loop
 node-ok-requires c κs =
     let w = now (c .before .before .before .before .args .ns) in
@@ -54,12 +39,6 @@ returns c =
     λ y e h d.
     let fails = ap (sound-node y) (sym (rest w (34 * loop .k))) ∙ sym (c .before .node-ok .ensures y e h d) ∙ not-true _ (c .if1 .taken) in
     sym (loop .inv .1 y e h d ∙ nodes-no w (a .h) (loop .k) (c .before .before .before .loop-test .taken) y fails)
-
-add-k : tie.Need-add-k Inv-loop μ-loop
-add-k c = search needs
-
-loop-less : tie.Need-loop-less Inv-loop μ-loop
-loop-less c = search needs
 
 loop-again : tie.Need-loop-again Inv-loop μ-loop
 loop-again c =
@@ -85,14 +64,14 @@ nodes-ok-spec =
     Inv-loop
     μ-loop
     loop-holds
-    mul-a
-    mul-node-ok
-    sub-node-ok
-    part-node-ok-start
-    part-node-ok-end
+    (λ c. search needs)
+    (λ c. search needs)
+    (λ c. search needs)
+    (λ c. search needs)
+    (λ c. search needs)
     node-ok-requires
     returns
-    add-k
-    loop-less
+    (λ c. search needs)
+    (λ c. search needs)
     loop-again
     returns-2)

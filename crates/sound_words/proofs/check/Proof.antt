@@ -9,12 +9,6 @@ use borrow.Author.Needs.{needs}
 use Rattle.sound_words.proofs.check.Statement.{statement}
 use Rattle.sound_words.proofs.check.Tie as tie
 
-sound-requires : tie.Need-sound-requires
-sound-requires c κs = search needs
-
-unsound-requires : tie.Need-unsound-requires
-unsound-requires c κs = search needs
-
 returns : tie.Need-returns
 returns c =
     let at-sound = c .before .before in
@@ -31,4 +25,4 @@ returns-2 c =
     c .known .ensures _ _ (sym (past .before .sound .ensures) ∙ not-false _ (past .if1 .left))
 
 pub check-spec : {M : Type 1} → statement M
-check-spec = tie.close (tie.spec sound-requires unsound-requires returns known-requires returns-2)
+check-spec = tie.close (tie.spec (λ c κs. search needs) (λ c κs. search needs) returns known-requires returns-2)

@@ -13,9 +13,6 @@ use borrow.Author.Needs.{needs}
 use Rattle.sound_words.proofs.known.Statement.{statement}
 use Rattle.sound_words.proofs.known.Tie as tie
 
-idle-requires : tie.Need-idle-requires
-idle-requires c κs = search needs
-
 returns : tie.Need-returns
 unfolding state-of-words
 returns c =
@@ -24,12 +21,6 @@ returns c =
     λ ns bs ok.
     let none = no-such-task (machine-of (state-of-words w) ns bs) (p .args .j) (eight-tasks w) (c .before .if1 .taken) in
     rw (c .idle .ensures) (sym (told-sound ok ∙ rw none))
-
-mul-task-at : tie.Need-mul-task-at
-mul-task-at c = search needs
-
-add-task-at : tie.Need-add-task-at
-add-task-at c = search needs
 
 task-at-requires : tie.Need-task-at-requires
 task-at-requires c κs = omega (arith, c .before .before .pre, c .if1 .left)
@@ -43,4 +34,4 @@ returns-2 c =
     rw (c .task-at .ensures) (sym (told-sound ok ∙ ap with is))
 
 pub known-spec : {M : Type 1} → statement M
-known-spec = tie.close (tie.spec idle-requires returns mul-task-at add-task-at task-at-requires returns-2)
+known-spec = tie.close (tie.spec (λ c κs. search needs) returns (λ c. search needs) (λ c. search needs) task-at-requires returns-2)

@@ -58,9 +58,6 @@ task-at-requires c κs =
 cast-task-ok : tie.Need-cast-task-ok Inv-loop μ-loop Inv-loop2 μ-loop2
 cast-task-ok c = omega arith
 
-task-ok-requires : tie.Need-task-ok-requires Inv-loop μ-loop Inv-loop2 μ-loop2
-task-ok-requires c κs = search needs
-
 -- a test of the record read is one of the list's
 read : (w : List ℕ) (y : Machine) (k : ℕ) (x : Task) (r : Bool) {t : Bool} → k < 8 → x ≡ task-at w (9 + 13 * k) → r ≡ sound-task y k x → r ≡ t
     → sound-task y k (getD (tasks-of-words w) k idle) ≡ t
@@ -163,7 +160,7 @@ tasks-ok-spec =
     add-task-at
     task-at-requires
     cast-task-ok
-    task-ok-requires
+    (λ c κs. search needs)
     returns
     add-k
     loop-less

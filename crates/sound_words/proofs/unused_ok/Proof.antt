@@ -6,13 +6,10 @@ use Rattle.sound_words.proofs.Laws.{unused-zeros}
 use Rattle.sound_words.proofs.unused_ok.Statement.{statement}
 use Rattle.sound_words.proofs.unused_ok.Tie as tie
 
-zero-words-requires : tie.Need-zero-words-requires
-zero-words-requires c κs = search needs
-
 returns : tie.Need-returns
 returns c =
     let start = c .before .before in
     λ y k h. c .zero-words .ensures ∙ unused-zeros (now (start .args .w)) (start .args .at) (start .pre .1) y k h
 
 pub unused-ok-spec : {M : Type 1} → statement M
-unused-ok-spec = tie.close (tie.spec zero-words-requires returns)
+unused-ok-spec = tie.close (tie.spec (λ c κs. search needs) returns)

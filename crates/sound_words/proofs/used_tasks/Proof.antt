@@ -9,30 +9,6 @@ use borrow.Author.Needs.{needs}
 use Rattle.sound_words.proofs.used_tasks.Statement.{statement}
 use Rattle.sound_words.proofs.used_tasks.Tie as tie
 
-task-at-requires : tie.Need-task-at-requires
-task-at-requires c κs = search needs
-
-used-task-requires : tie.Need-used-task-requires
-used-task-requires c κs = search needs
-
-used-task-requires-2 : tie.Need-used-task-requires-2
-used-task-requires-2 c κs = search needs
-
-used-task-requires-3 : tie.Need-used-task-requires-3
-used-task-requires-3 c κs = search needs
-
-used-task-requires-4 : tie.Need-used-task-requires-4
-used-task-requires-4 c κs = search needs
-
-used-task-requires-5 : tie.Need-used-task-requires-5
-used-task-requires-5 c κs = search needs
-
-used-task-requires-6 : tie.Need-used-task-requires-6
-used-task-requires-6 c κs = search needs
-
-used-task-requires-7 : tie.Need-used-task-requires-7
-used-task-requires-7 c κs = search needs
-
 returns : tie.Need-returns
 unfolding tasks-of-words range
 returns c =
@@ -54,12 +30,12 @@ pub used-tasks-spec : {M : Type 1} → statement M
 used-tasks-spec =
     tie.close
     (tie.spec
-    task-at-requires
-    used-task-requires
-    used-task-requires-2
-    used-task-requires-3
-    used-task-requires-4
-    used-task-requires-5
-    used-task-requires-6
-    used-task-requires-7
+    (λ c κs. search needs)
+    (λ c κs. search needs)
+    (λ c κs. search needs)
+    (λ c κs. search needs)
+    (λ c κs. search needs)
+    (λ c κs. search needs)
+    (λ c κs. search needs)
+    (λ c κs. search needs)
     returns)

@@ -13,12 +13,6 @@ use Rattle.soundness.proofs.check.Tie as tie
 abbrev machine : tie.Start → Machine
 machine p = machine-of (p .args .s) (now (p .args .ns)) (now (p .args .bs))
 
-numbers-ok-requires : tie.Need-numbers-ok-requires
-numbers-ok-requires c κs = search needs
-
-unsound-requires : tie.Need-unsound-requires
-unsound-requires c κs = search needs
-
 returns : tie.Need-returns
 unfolding sound
 returns c =
@@ -32,9 +26,6 @@ nodes-ok-requires c κs =
     let n = numbers Y (sym (c .before .numbers-ok .ensures) ∙ not-false _ (c .if1 .left)) in
     omega arith
 
-unsound-requires-2 : tie.Need-unsound-requires-2
-unsound-requires-2 c κs = search needs
-
 returns-2 : tie.Need-returns-2
 unfolding sound
 returns-2 c =
@@ -46,18 +37,12 @@ returns-2 c =
     let fails = sym (at-if2 .before .nodes-ok .ensures Y refl refl refl) ∙ not-true _ (at-if2 .if2 .taken) in
     rw (numbers-sound, fails) (c .unsound2 .ensures (task-of Y (start .args .j)))
 
-cast-buckets-ok : tie.Need-cast-buckets-ok
-cast-buckets-ok c = search needs
-
 buckets-ok-requires : tie.Need-buckets-ok-requires
 buckets-ok-requires c κs =
     let at-if1 = c .before .before in
     let Y = machine (at-if1 .before .before .before .before) in
     let n = numbers Y (sym (at-if1 .before .numbers-ok .ensures) ∙ not-false _ (at-if1 .if1 .left)) in
     omega arith
-
-unsound-requires-3 : tie.Need-unsound-requires-3
-unsound-requires-3 c κs = search needs
 
 returns-3 : tie.Need-returns-3
 unfolding sound
@@ -95,15 +80,15 @@ pub check-spec : {M : Type 1} → statement M
 check-spec =
     tie.close
     (tie.spec
-    numbers-ok-requires
-    unsound-requires
+    (λ c κs. search needs)
+    (λ c κs. search needs)
     returns
     nodes-ok-requires
-    unsound-requires-2
+    (λ c κs. search needs)
     returns-2
-    cast-buckets-ok
+    (λ c. search needs)
     buckets-ok-requires
-    unsound-requires-3
+    (λ c κs. search needs)
     returns-3
     tasks-ok-requires
     returns-4)

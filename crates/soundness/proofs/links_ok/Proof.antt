@@ -6,15 +6,9 @@ use borrow.Author.Needs.{needs}
 use Rattle.soundness.proofs.links_ok.Statement.{statement}
 use Rattle.soundness.proofs.links_ok.Tie as tie
 
-link-ok-requires : tie.Need-link-ok-requires
-link-ok-requires c κs = search needs
-
 returns : tie.Need-returns
 unfolding every
 returns c = λ y e h. rw (sym (c .before .link-ok .ensures y e h) ∙ not-true _ (c .if1 .taken))
-
-link-ok-requires-2 : tie.Need-link-ok-requires-2
-link-ok-requires-2 c κs = search needs
 
 returns-2 : tie.Need-returns-2
 unfolding every
@@ -23,9 +17,6 @@ returns-2 c =
     λ y e h.
     let t = sym (at-t .before .link-ok .ensures y e h) ∙ not-false _ (at-t .if1 .left) in
     rw (t, sym (c .before .link-ok2 .ensures y e h) ∙ not-true _ (c .if2 .taken))
-
-link-ok-requires-3 : tie.Need-link-ok-requires-3
-link-ok-requires-3 c κs = search needs
 
 returns-3 : tie.Need-returns-3
 unfolding every
@@ -51,10 +42,10 @@ pub links-ok-spec : {M : Type 1} → statement M
 links-ok-spec =
     tie.close
     (tie.spec
-    link-ok-requires
+    (λ c κs. search needs)
     returns
-    link-ok-requires-2
+    (λ c κs. search needs)
     returns-2
-    link-ok-requires-3
+    (λ c κs. search needs)
     returns-3
     returns-4)

@@ -16,9 +16,6 @@ returns c =
     let past-T : y .state .config .tasks ≤ c .before .before .args .k = rw t (c .if1 .taken) in
     rw (le-ltb _ _ past-T)
 
-line-ok-requires : tie.Need-line-ok-requires
-line-ok-requires c κs = search needs
-
 returns-2 : tie.Need-returns-2
 unfolding sound-running bucket-link
 returns-2 c =
@@ -37,9 +34,6 @@ returns-3 c =
     let line = sym (at-line .before .line-ok .ensures) ∙ not-false _ (at-line .if2 .left) in
     rw (lt-ltb _ _ below-T, line, lt-leb _ _ (c .if3 .taken))
 
-tag-ok-requires : tie.Need-tag-ok-requires
-tag-ok-requires c κs = search needs
-
 returns-4 : tie.Need-returns-4
 unfolding sound-running bucket-link
 returns-4 c =
@@ -50,9 +44,6 @@ returns-4 c =
     let below-T : at-T .before .before .args .k < y .state .config .tasks = rw t (at-T .if1 .left) in
     let line = sym (at-line .before .line-ok .ensures) ∙ not-false _ (at-line .if2 .left) in
     rw (lt-ltb _ _ below-T, line, le-leb _ _ (at-i .if3 .left), sym (c .before .tag-ok .ensures) ∙ not-true _ (c .if4 .taken))
-
-links-ok-requires : tie.Need-links-ok-requires
-links-ok-requires c κs = search needs
 
 returns-5 : tie.Need-returns-5
 unfolding sound-running bucket-link
@@ -66,12 +57,6 @@ returns-5 c =
     let line = sym (at-line .before .line-ok .ensures) ∙ not-false _ (at-line .if2 .left) in
     let tag = sym (at-tag .before .tag-ok .ensures) ∙ not-false _ (at-tag .if4 .left) in
     rw (lt-ltb _ _ below-T, line, le-leb _ _ (at-i .if3 .left), tag, sym (c .before .links-ok .ensures y e h) ∙ not-true _ (c .if5 .taken))
-
-slice-aggregate-all-within : tie.Need-slice-aggregate-all-within
-slice-aggregate-all-within c = search needs
-
-all-within-requires : tie.Need-all-within-requires
-all-within-requires c κs = search needs
 
 returns-6 : tie.Need-returns-6
 unfolding sound-running bucket-link
@@ -93,13 +78,13 @@ running-ok-spec =
     tie.close
     (tie.spec
     returns
-    line-ok-requires
+    (λ c κs. search needs)
     returns-2
     returns-3
-    tag-ok-requires
+    (λ c κs. search needs)
     returns-4
-    links-ok-requires
+    (λ c κs. search needs)
     returns-5
-    slice-aggregate-all-within
-    all-within-requires
+    (λ c. search needs)
+    (λ c κs. search needs)
     returns-6)

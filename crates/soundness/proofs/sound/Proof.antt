@@ -6,12 +6,9 @@ use Rattle.soundness.specs.declared.Checked.{Checked}
 use Rattle.soundness.proofs.sound.Statement.{statement}
 use Rattle.soundness.proofs.sound.Tie as tie
 
-check-requires : tie.Need-check-requires
-check-requires c κs = search needs
-
 returns : tie.Need-returns
 unfolding told
 returns c = ap (λ (d : Checked). d .sound) (c .check .ensures)
 
 pub sound-spec : {M : Type 1} → statement M
-sound-spec = tie.close (tie.spec check-requires returns)
+sound-spec = tie.close (tie.spec (λ c κs. search needs) returns)

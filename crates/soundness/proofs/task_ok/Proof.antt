@@ -5,16 +5,10 @@ use borrow.Author.Needs.{needs}
 use Rattle.soundness.proofs.task_ok.Statement.{statement}
 use Rattle.soundness.proofs.task_ok.Tie as tie
 
-running-ok-requires : tie.Need-running-ok-requires
-running-ok-requires c κs = search needs
-
 returns : tie.Need-returns
 returns c =
     let a = c .before .before .before .args in
     λ y e t h b. c .running-ok .ensures y e t h b ∙ sym (task-runs y (a .k) (a .c) (c .before .if1 .taken))
-
-idle-ok-requires : tie.Need-idle-ok-requires
-idle-ok-requires c κs = search needs
 
 returns-2 : tie.Need-returns-2
 returns-2 c =
@@ -22,4 +16,4 @@ returns-2 c =
     λ y e t h b. c .idle-ok .ensures ∙ sym (task-idle y (a .k) (a .c) (c .before .if1 .left))
 
 pub task-ok-spec : {M : Type 1} → statement M
-task-ok-spec = tie.close (tie.spec running-ok-requires returns idle-ok-requires returns-2)
+task-ok-spec = tie.close (tie.spec (λ c κs. search needs) returns (λ c κs. search needs) returns-2)

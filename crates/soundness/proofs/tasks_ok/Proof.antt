@@ -48,9 +48,6 @@ buckets-of e = ap (λ (z : State). z .buckets) e
 
 -- ---- the tasks below T
 
-cast-n : tie.Need-cast-n Inv-loop μ-loop Inv-loop2 μ-loop2
-cast-n c = search needs
-
 loop-holds : tie.Need-loop-holds Inv-loop μ-loop Inv-loop2 μ-loop2
 loop-holds c = (refl, omega arith, omega arith, λ y e t h b. refl)
 
@@ -62,12 +59,6 @@ array-copy-out-c c = omega arith
 
 cast-task-ok : tie.Need-cast-task-ok Inv-loop μ-loop Inv-loop2 μ-loop2
 cast-task-ok c = omega arith
-
-task-ok-requires : tie.Need-task-ok-requires Inv-loop μ-loop Inv-loop2 μ-loop2
-task-ok-requires c κs = search needs
-
-unsound-requires : tie.Need-unsound-requires Inv-loop μ-loop Inv-loop2 μ-loop2
-unsound-requires c κs = search needs
 
 returns : tie.Need-returns Inv-loop μ-loop Inv-loop2 μ-loop2
 returns c =
@@ -110,9 +101,6 @@ mul-c-2 c = omega arith
 array-copy-out-c-2 : tie.Need-array-copy-out-c-2 Inv-loop μ-loop Inv-loop2 μ-loop2
 array-copy-out-c-2 c = omega arith
 
-unused-ok-requires : tie.Need-unused-ok-requires Inv-loop μ-loop Inv-loop2 μ-loop2
-unused-ok-requires c κs = search needs
-
 add-k-2 : tie.Need-add-k-2 Inv-loop μ-loop Inv-loop2 μ-loop2
 add-k-2 c = omega arith
 
@@ -131,9 +119,6 @@ loop2-again c =
           rw (c .unused-ok .ensures y (loop .k) from-T) (joined ∙ loop .inv .2 y e t h b),
     )
 
-unsound-requires-2 : tie.Need-unsound-requires-2 Inv-loop μ-loop Inv-loop2 μ-loop2
-unsound-requires-2 c κs = search needs
-
 returns-2 : tie.Need-returns-2 Inv-loop μ-loop Inv-loop2 μ-loop2
 returns-2 c =
     let loop = c .before .before .before .loop2 in
@@ -145,9 +130,6 @@ returns-2 c =
     rw none (c .unsound2 .ensures (task-of y (first .args .j)))
 
 -- ---- the record of task j
-
-idle-requires : tie.Need-idle-requires Inv-loop μ-loop Inv-loop2 μ-loop2
-idle-requires c κs = search needs
 
 returns-3 : tie.Need-returns-3 Inv-loop μ-loop Inv-loop2 μ-loop2
 returns-3 c =
@@ -161,12 +143,6 @@ returns-3 c =
     let every = joined-all (loop .all) (sound-tasks y (loop .k) (drop (loop .k) ts)) tested (not-false (loop .all) (at-all .if2 .left)) rest in
     let none = no-such-task y (first .args .j) (ap (λ (z : State). length (z .task)) s ∙ len first) (c .before .if3 .taken) in
     rw (c .idle .ensures) (sym (told-sound every ∙ rw none))
-
-mul-c-3 : tie.Need-mul-c-3 Inv-loop μ-loop Inv-loop2 μ-loop2
-mul-c-3 c = search needs
-
-array-copy-out-c-3 : tie.Need-array-copy-out-c-3 Inv-loop μ-loop Inv-loop2 μ-loop2
-array-copy-out-c-3 c = search needs
 
 returns-4 : tie.Need-returns-4 Inv-loop μ-loop Inv-loop2 μ-loop2
 unfolding task-of idle
@@ -189,13 +165,13 @@ tasks-ok-spec =
     μ-loop
     Inv-loop2
     μ-loop2
-    cast-n
+    (λ c. search needs)
     loop-holds
     mul-c
     array-copy-out-c
     cast-task-ok
-    task-ok-requires
-    unsound-requires
+    (λ c κs. search needs)
+    (λ c κs. search needs)
     returns
     add-k
     loop-less
@@ -203,14 +179,14 @@ tasks-ok-spec =
     loop2-holds
     mul-c-2
     array-copy-out-c-2
-    unused-ok-requires
+    (λ c κs. search needs)
     add-k-2
     loop2-less
     loop2-again
-    unsound-requires-2
+    (λ c κs. search needs)
     returns-2
-    idle-requires
+    (λ c κs. search needs)
     returns-3
-    mul-c-3
-    array-copy-out-c-3
+    (λ c. search needs)
+    (λ c. search needs)
     returns-4)

@@ -4,12 +4,9 @@ use borrow.Author.Needs.{needs}
 use Rattle.soundness.proofs.unsound.Statement.{statement}
 use Rattle.soundness.proofs.unsound.Tie as tie
 
-idle-requires : tie.Need-idle-requires
-idle-requires c κs = search needs
-
 returns : tie.Need-returns
 unfolding told
 returns c = λ x. rw (c .idle .ensures)
 
 pub unsound-spec : {M : Type 1} → statement M
-unsound-spec = tie.close (tie.spec idle-requires returns)
+unsound-spec = tie.close (tie.spec (λ c κs. search needs) returns)

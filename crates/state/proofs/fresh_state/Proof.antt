@@ -4,15 +4,9 @@ use borrow.Author.Needs.{needs}
 use Rattle.state.proofs.fresh_state.Statement.{statement}
 use Rattle.state.proofs.fresh_state.Tie as tie
 
-idle-requires : tie.Need-idle-requires
-idle-requires c κs = search needs
-
-last-task-requires : tie.Need-last-task-requires
-last-task-requires c κs = search needs
-
 returns : tie.Need-returns
 unfolding state-of
 returns c = rw (c .before .idle .ensures, c .last-task .ensures)
 
 pub fresh-state-spec : {M : Type 1} → statement M
-fresh-state-spec = tie.close (tie.spec idle-requires last-task-requires returns)
+fresh-state-spec = tie.close (tie.spec (λ c κs. search needs) (λ c κs. search needs) returns)

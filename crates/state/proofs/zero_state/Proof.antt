@@ -6,14 +6,8 @@ use borrow.Author.Needs.{needs}
 use Rattle.state.proofs.zero_state.Statement.{statement}
 use Rattle.state.proofs.zero_state.Tie as tie
 
-zero-config-requires : tie.Need-zero-config-requires
-zero-config-requires c κs = search needs
-
-fresh-state-requires : tie.Need-fresh-state-requires
-fresh-state-requires c κs = search needs
-
 returns : tie.Need-returns
 returns c = c .fresh-state .ensures ∙ ap (λ (g : Config). state-of g 0 0) (c .before .zero-config .ensures)
 
 pub zero-state-spec : {M : Type 1} → statement M
-zero-state-spec = tie.close (tie.spec zero-config-requires fresh-state-requires returns)
+zero-state-spec = tie.close (tie.spec (λ c κs. search needs) (λ c κs. search needs) returns)

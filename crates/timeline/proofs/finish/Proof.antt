@@ -5,39 +5,12 @@ use borrow.Author.Needs.{needs}
 use Rattle.timeline.proofs.finish.Statement.{statement}
 use Rattle.timeline.proofs.finish.Tie as tie
 
-end-input-requires : tie.Need-end-input-requires
-end-input-requires c κs = search needs
-
-same-length : tie.Need-same-length
-same-length c = search needs
-
-same-length-2 : tie.Need-same-length-2
-same-length-2 c = search needs
-
-same-length-3 : tie.Need-same-length-3
-same-length-3 c = search needs
-
 returns : tie.Need-returns
 returns c =
     let at-end-input = c .before .before .before .before .before .before in
     let at-if1 = at-end-input .before .before .before .before in
     let entry = at-if1 .before .before .before .before .before in
     ends-closed (entry .args .t) _ _ _ (at-end-input .end-input .result) _ _ _ _ (at-if1 .if1 .taken) (at-end-input .end-input .ensures)
-
-slice-aggregate-handle-line : tie.Need-slice-aggregate-handle-line
-slice-aggregate-handle-line c = search needs
-
-handle-line-requires : tie.Need-handle-line-requires
-handle-line-requires c κs = search needs
-
-same-length-4 : tie.Need-same-length-4
-same-length-4 c = search needs
-
-same-length-5 : tie.Need-same-length-5
-same-length-5 c = search needs
-
-same-length-6 : tie.Need-same-length-6
-same-length-6 c = search needs
 
 returns-2 : tie.Need-returns-2
 returns-2 c =
@@ -50,14 +23,14 @@ pub finish-spec : {M : Type 1} → statement M
 finish-spec =
     tie.close
     (tie.spec
-    end-input-requires
-    same-length
-    same-length-2
-    same-length-3
+    (λ c κs. search needs)
+    (λ c. search needs)
+    (λ c. search needs)
+    (λ c. search needs)
     returns
-    slice-aggregate-handle-line
-    handle-line-requires
-    same-length-4
-    same-length-5
-    same-length-6
+    (λ c. search needs)
+    (λ c κs. search needs)
+    (λ c. search needs)
+    (λ c. search needs)
+    (λ c. search needs)
     returns-2)

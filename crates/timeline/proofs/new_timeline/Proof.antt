@@ -6,12 +6,9 @@ use borrow.Author.Needs.{needs}
 use Rattle.timeline.proofs.new_timeline.Statement.{statement}
 use Rattle.timeline.proofs.new_timeline.Tie as tie
 
-new-session-requires : tie.Need-new-session-requires
-new-session-requires c κs = search needs
-
 returns : tie.Need-returns
 unfolding new-timeline
 returns c = ap (λ (s : Session). timeline s 0) (c .new-session .ensures)
 
 pub new-timeline-spec : {M : Type 1} → statement M
-new-timeline-spec = tie.close (tie.spec new-session-requires returns)
+new-timeline-spec = tie.close (tie.spec (λ c κs. search needs) returns)

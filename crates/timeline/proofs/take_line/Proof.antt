@@ -9,21 +9,6 @@ use borrow.Author.Needs.{needs}
 use Rattle.timeline.proofs.take_line.Statement.{statement}
 use Rattle.timeline.proofs.take_line.Tie as tie
 
-room-requires : tie.Need-room-requires
-room-requires c κs = search needs
-
-slice-aggregate-handle-line : tie.Need-slice-aggregate-handle-line
-slice-aggregate-handle-line c = search needs
-
-handle-line-requires : tie.Need-handle-line-requires
-handle-line-requires c κs = search needs
-
-event-line-requires : tie.Need-event-line-requires
-event-line-requires c κs = search needs
-
-front-requires : tie.Need-front-requires
-front-requires c κs = search needs
-
 array-share-prefix-printed : tie.Need-array-share-prefix-printed
 array-share-prefix-printed c =
     let at-handle-line = c .before .before .before .before .before .before .before .before .before .before .before .before in
@@ -41,26 +26,11 @@ slice-aggregate-all-bytes c =
     let within = printed-within (entry .args .t) _ _ _ (h .result) _ _ _ _ (h .ensures) (sym (at-room .room .ensures)) in
     sym (length-take-le (h .result .printed) _ (omega (arith, within, h .kept .1 .1 .1 .1 .0, at-room .room .ensures)))
 
-all-bytes-requires : tie.Need-all-bytes-requires
-all-bytes-requires c κs = search needs
-
-count-after-requires : tie.Need-count-after-requires
-count-after-requires c κs = search needs
-
-taken-requires : tie.Need-taken-requires
-taken-requires c κs = search needs
-
 same-length : tie.Need-same-length
 same-length c =
     let at-front = c .before .before .before .before .before .before .before .before .before in
     let at-handle-line = at-front .before .before .before .before .before .before .before .before .before in
     at-handle-line .handle-line .kept .1 .0
-
-same-length-2 : tie.Need-same-length-2
-same-length-2 c = search needs
-
-same-length-3 : tie.Need-same-length-3
-same-length-3 c = search needs
 
 returns : tie.Need-returns
 returns c =
@@ -81,17 +51,17 @@ pub take-line-spec : {M : Type 1} → statement M
 take-line-spec =
     tie.close
     (tie.spec
-    room-requires
-    slice-aggregate-handle-line
-    handle-line-requires
-    event-line-requires
-    front-requires
+    (λ c κs. search needs)
+    (λ c. search needs)
+    (λ c κs. search needs)
+    (λ c κs. search needs)
+    (λ c κs. search needs)
     array-share-prefix-printed
     slice-aggregate-all-bytes
-    all-bytes-requires
-    count-after-requires
-    taken-requires
+    (λ c κs. search needs)
+    (λ c κs. search needs)
+    (λ c κs. search needs)
     same-length
-    same-length-2
-    same-length-3
+    (λ c. search needs)
+    (λ c. search needs)
     returns)

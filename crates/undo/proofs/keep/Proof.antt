@@ -6,24 +6,6 @@ use Rattle.undo.proofs.Laws.{kept-is}
 use Rattle.undo.proofs.keep.Statement.{statement}
 use Rattle.undo.proofs.keep.Tie as tie
 
-written-node-requires : tie.Need-written-node-requires
-written-node-requires c κs = search needs
-
-cast-node-words : tie.Need-cast-node-words
-cast-node-words c = search needs
-
-node-words-requires : tie.Need-node-words-requires
-node-words-requires c κs = search needs
-
-written-bucket-requires : tie.Need-written-bucket-requires
-written-bucket-requires c κs = search needs
-
-cast-load : tie.Need-cast-load
-cast-load c = search needs
-
-load-requires : tie.Need-load-requires
-load-requires c κs = search needs
-
 returns : tie.Need-returns
 returns c =
     let at-written-bucket = c .before in
@@ -38,10 +20,10 @@ pub keep-spec : {M : Type 1} → statement M
 keep-spec =
     tie.close
     (tie.spec
-    written-node-requires
-    cast-node-words
-    node-words-requires
-    written-bucket-requires
-    cast-load
-    load-requires
+    (λ c κs. search needs)
+    (λ c. search needs)
+    (λ c κs. search needs)
+    (λ c κs. search needs)
+    (λ c. search needs)
+    (λ c κs. search needs)
     returns)

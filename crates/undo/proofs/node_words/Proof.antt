@@ -15,24 +15,6 @@ returns : tie.Need-returns
 unfolding node-words
 returns c = rw (le-ltb _ _ (c .if1 .taken))
 
-mul-at : tie.Need-mul-at
-mul-at c = search needs
-
-mul-first-words : tie.Need-mul-first-words
-mul-first-words c = search needs
-
-sub-first-words : tie.Need-sub-first-words
-sub-first-words c = search needs
-
-part-first-words-start : tie.Need-part-first-words-start
-part-first-words-start c = search needs
-
-part-first-words-end : tie.Need-part-first-words-end
-part-first-words-end c = search needs
-
-first-words-requires : tie.Need-first-words-requires
-first-words-requires c κs = search needs
-
 returns-2 : tie.Need-returns-2
 unfolding node-words
 returns-2 c =
@@ -47,10 +29,10 @@ node-words-spec =
     tie.close
     (tie.spec
     returns
-    mul-at
-    mul-first-words
-    sub-first-words
-    part-first-words-start
-    part-first-words-end
-    first-words-requires
+    (λ c. search needs)
+    (λ c. search needs)
+    (λ c. search needs)
+    (λ c. search needs)
+    (λ c. search needs)
+    (λ c κs. search needs)
     returns-2)

@@ -9,12 +9,6 @@ use Rattle.undo.proofs.Laws.{bucket-at-49, bucket-at-36, bucket-at-52, 
 use Rattle.undo.proofs.written_bucket.Statement.{statement}
 use Rattle.undo.proofs.written_bucket.Tie as tie
 
-free-bucket-of-requires : tie.Need-free-bucket-of-requires
-free-bucket-of-requires c κs = search needs
-
-number-of-requires : tie.Need-number-of-requires
-number-of-requires c κs = search needs
-
 returns : tie.Need-returns
 returns c bs =
     let at-if1 = c .before .before in
@@ -22,26 +16,17 @@ returns c bs =
     c .number-of .ensures ∙ ap (λ (l : ℕ). number l) (c .before .free-bucket-of .ensures bs)
     ∙ sym (bucket-at-49 (machine-of (a .s) (now (a .ns)) bs) (a .c) (at-if1 .if1 .taken))
 
-number-of-requires-2 : tie.Need-number-of-requires-2
-number-of-requires-2 c κs = search needs
-
 returns-2 : tie.Need-returns-2
 returns-2 c bs =
     let at-if2 = c .before in
     let a = at-if2 .before .before .before .args in
     c .number-of2 .ensures ∙ sym (bucket-at-36 (machine-of (a .s) (now (a .ns)) bs) (a .c) (at-if2 .if2 .taken))
 
-number-of-requires-3 : tie.Need-number-of-requires-3
-number-of-requires-3 c κs = search needs
-
 returns-3 : tie.Need-returns-3
 returns-3 c bs =
     let at-if3 = c .before in
     let a = at-if3 .before .before .before .before .args in
     c .number-of3 .ensures ∙ sym (bucket-at-52 (machine-of (a .s) (now (a .ns)) bs) (a .c) (at-if3 .if3 .taken))
-
-number-of-requires-4 : tie.Need-number-of-requires-4
-number-of-requires-4 c κs = search needs
 
 returns-4 : tie.Need-returns-4
 returns-4 c bs =
@@ -56,12 +41,12 @@ pub written-bucket-spec : {M : Type 1} → statement M
 written-bucket-spec =
     tie.close
     (tie.spec
-    free-bucket-of-requires
-    number-of-requires
+    (λ c κs. search needs)
+    (λ c κs. search needs)
     returns
-    number-of-requires-2
+    (λ c κs. search needs)
     returns-2
-    number-of-requires-3
+    (λ c κs. search needs)
     returns-3
-    number-of-requires-4
+    (λ c κs. search needs)
     returns-4)

@@ -9,21 +9,12 @@ use Rattle.undo.proofs.Laws.{node-at-27, node-else}
 use Rattle.undo.proofs.written_node.Statement.{statement}
 use Rattle.undo.proofs.written_node.Tie as tie
 
-free-node-of-requires : tie.Need-free-node-of-requires
-free-node-of-requires c κs = search needs
-
-number-of-requires : tie.Need-number-of-requires
-number-of-requires c κs = search needs
-
 returns : tie.Need-returns
 returns c bs =
     let at-if1 = c .before .before in
     let a = at-if1 .before .before .before .args in
     c .number-of .ensures ∙ ap (λ (l : ℕ). number l) (c .before .free-node-of .ensures bs)
     ∙ sym (node-at-27 (machine-of (a .s) (now (a .ns)) bs) (a .c) (at-if1 .if1 .taken))
-
-number-of-requires-2 : tie.Need-number-of-requires-2
-number-of-requires-2 c κs = search needs
 
 returns-2 : tie.Need-returns-2
 returns-2 c bs =
@@ -32,4 +23,4 @@ returns-2 c bs =
     c .number-of2 .ensures ∙ sym (node-else (machine-of (a .s) (now (a .ns)) bs) (a .c) (at-if1 .if1 .left))
 
 pub written-node-spec : {M : Type 1} → statement M
-written-node-spec = tie.close (tie.spec free-node-of-requires number-of-requires returns number-of-requires-2 returns-2)
+written-node-spec = tie.close (tie.spec (λ c κs. search needs) (λ c κs. search needs) returns (λ c κs. search needs) returns-2)

@@ -5,9 +5,6 @@ use borrow.Author.Needs.{needs}
 use Rattle.yard_answers.proofs.open_number.Statement.{statement}
 use Rattle.yard_answers.proofs.open_number.Tie as tie
 
-add-result : tie.Need-add-result
-add-result c = search needs
-
 returns : tie.Need-returns
 unfolding open-number
 returns c = rw (c .if1 .taken)
@@ -17,4 +14,4 @@ unfolding open-number
 returns-2 c = rw (ne-eqb _ 0 (c .if1 .left))
 
 pub open-number-spec : {M : Type 1} → statement M
-open-number-spec = tie.close (tie.spec add-result returns returns-2)
+open-number-spec = tie.close (tie.spec (λ c. search needs) returns returns-2)

@@ -7,15 +7,6 @@ use borrow.Author.Needs.{needs}
 use Rattle.yard_answers.proofs.out_number.Statement.{statement}
 use Rattle.yard_answers.proofs.out_number.Tie as tie
 
-enum-told : tie.Need-enum-told
-enum-told c = search needs
-
-enum-told-2 : tie.Need-enum-told-2
-enum-told-2 c = search needs
-
-enum-known-o : tie.Need-enum-known-o
-enum-known-o c = search needs
-
 add-result : tie.Need-add-result
 unfolding out-number
 add-result c =
@@ -37,4 +28,4 @@ returns-3 c = rw (c .before .o .given .1)
 
 pub out-number-spec : {M : Type 1} → statement M
 out-number-spec =
-    tie.close (tie.spec enum-told enum-told-2 enum-known-o add-result returns returns-2 returns-3)
+    tie.close (tie.spec (λ c. search needs) (λ c. search needs) (λ c. search needs) add-result returns returns-2 returns-3)

@@ -9,9 +9,6 @@ use borrow.Author.Needs.{needs}
 use Rattle.yard_answers.proofs.put_moved.Statement.{statement}
 use Rattle.yard_answers.proofs.put_moved.Tie as tie
 
-changes-requires : tie.Need-changes-requires
-changes-requires c κs = search needs
-
 put-changes-requires : tie.Need-put-changes-requires
 put-changes-requires c κs =
     let at-if = c .before .before in
@@ -19,9 +16,6 @@ put-changes-requires c κs =
     let entry = at-changes .before .before in
     let moves = sym (at-changes .changes .ensures) ∙ at-if .if1 .taken in
     (fits-long (now (entry .args .w)) (entry .pre), entry .pre, changes-below (entry .args .m .out) (entry .args .k) moves)
-
-same-length : tie.Need-same-length
-same-length c = search needs
 
 returns : tie.Need-returns
 returns c =
@@ -42,4 +36,4 @@ returns-2 c =
 
 pub put-moved-spec : {M : Type 1} → statement M
 put-moved-spec =
-    tie.close (tie.spec changes-requires put-changes-requires same-length returns returns-2)
+    tie.close (tie.spec (λ c κs. search needs) put-changes-requires (λ c. search needs) returns returns-2)

@@ -13,36 +13,6 @@ use borrow.Author.Needs.{needs}
 use Rattle.yard_answers.proofs.put_named.Statement.{statement}
 use Rattle.yard_answers.proofs.put_named.Tie as tie
 
-mul-at : tie.Need-mul-at
-mul-at c = search needs
-
-add-next : tie.Need-add-next
-add-next c = search needs
-
-mul-write-output : tie.Need-mul-write-output
-mul-write-output c = search needs
-
-sub-write-output : tie.Need-sub-write-output
-sub-write-output c = search needs
-
-part-write-output-start : tie.Need-part-write-output-start
-part-write-output-start c = search needs
-
-part-write-output-end : tie.Need-part-write-output-end
-part-write-output-end c = search needs
-
-write-output-requires : tie.Need-write-output-requires
-write-output-requires c κs = search needs
-
-mul-out : tie.Need-mul-out
-mul-out c = search needs
-
-slice-write-out : tie.Need-slice-write-out
-slice-write-out c = search needs
-
-same-length : tie.Need-same-length
-same-length c = search needs
-
 returns : tie.Need-returns
 returns c =
     let at-write = c .before .before in
@@ -59,14 +29,14 @@ pub put-named-spec : {M : Type 1} → statement M
 put-named-spec =
     tie.close
     (tie.spec
-    mul-at
-    add-next
-    mul-write-output
-    sub-write-output
-    part-write-output-start
-    part-write-output-end
-    write-output-requires
-    mul-out
-    slice-write-out
-    same-length
+    (λ c. search needs)
+    (λ c. search needs)
+    (λ c. search needs)
+    (λ c. search needs)
+    (λ c. search needs)
+    (λ c. search needs)
+    (λ c κs. search needs)
+    (λ c. search needs)
+    (λ c. search needs)
+    (λ c. search needs)
     returns)

@@ -6,15 +6,6 @@ use borrow.Author.Needs.{needs}
 use Rattle.yard_answers.proofs.put_output.Statement.{statement}
 use Rattle.yard_answers.proofs.put_output.Tie as tie
 
-out-number-requires : tie.Need-out-number-requires
-out-number-requires c κs = search needs
-
-write-output-requires : tie.Need-write-output-requires
-write-output-requires c κs = search needs
-
-same-length : tie.Need-same-length
-same-length c = search needs
-
 returns : tie.Need-returns
 returns c =
     let at-write = c .before .before in
@@ -35,4 +26,4 @@ returns-2 c =
 
 pub put-output-spec : {M : Type 1} → statement M
 put-output-spec =
-    tie.close (tie.spec out-number-requires write-output-requires same-length returns returns-2)
+    tie.close (tie.spec (λ c κs. search needs) (λ c κs. search needs) (λ c. search needs) returns returns-2)

@@ -11,9 +11,6 @@ use borrow.Author.Needs.{needs}
 use Rattle.yard_answers.proofs.put_turned.Statement.{statement}
 use Rattle.yard_answers.proofs.put_turned.Tie as tie
 
-put-moved-requires : tie.Need-put-moved-requires
-put-moved-requires c κs = search needs
-
 slice-write-w : tie.Need-slice-write-w
 slice-write-w c =
     let at-moved = c .before .before in
@@ -22,9 +19,6 @@ slice-write-w c =
     let same = at-moved .put-moved .kept .0 in
     omega (arith, long, same)
 
-same-length : tie.Need-same-length
-same-length c = search needs
-
 returns : tie.Need-returns
 returns c =
     let at-moved = c .before .before in
@@ -32,4 +26,4 @@ returns c =
     ap (λ (u : List ℕ). set u 8 k) (at-moved .put-moved .ensures) ∙ chosen-words _ k
 
 pub put-turned-spec : {M : Type 1} → statement M
-put-turned-spec = tie.close (tie.spec put-moved-requires slice-write-w same-length returns)
+put-turned-spec = tie.close (tie.spec (λ c κs. search needs) slice-write-w (λ c. search needs) returns)

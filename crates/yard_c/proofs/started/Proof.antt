@@ -22,12 +22,6 @@ module _ (p : tie.Else1) where
   ready-now : Ready state-fits (now (entry .args .w)) (now (entry .args .out)) 4
   ready-now = ready state-fits (now (entry .args .w)) (now (entry .args .out)) 4 _ (p .before .state-fits .ensures) (not-false _ (p .if1 .left))
 
-state-fits-requires : tie.Need-state-fits-requires
-state-fits-requires c κs = search needs
-
-same-length : tie.Need-same-length
-same-length c = search needs
-
 returns : tie.Need-returns
 returns c =
     let at-fits = c .before in
@@ -53,12 +47,6 @@ put-output-requires c κs =
     let same = ap (λ (x : Reply). out-number (x .out)) (at-moved .moved-by-start .ensures .reply) in
     (ready-now past .room, subst (λ (n : ℕ). n ≤ 511) (sym same) small)
 
-same-length-2 : tie.Need-same-length-2
-same-length-2 c = search needs
-
-same-length-3 : tie.Need-same-length-3
-same-length-3 c = search needs
-
 returns-2 : tie.Need-returns-2
 returns-2 c =
     let at-output = c .before .before in
@@ -80,12 +68,12 @@ pub started-spec : {M : Type 1} → statement M
 started-spec =
     tie.close
     (tie.spec
-    state-fits-requires
-    same-length
+    (λ c κs. search needs)
+    (λ c. search needs)
     returns
     moved-by-start-requires
     put-moved-requires
     put-output-requires
-    same-length-2
-    same-length-3
+    (λ c. search needs)
+    (λ c. search needs)
     returns-2)

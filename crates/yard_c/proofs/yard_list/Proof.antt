@@ -14,9 +14,6 @@ use borrow.Author.Needs.{needs}
 use Rattle.yard_c.proofs.yard_list.Statement.{statement}
 use Rattle.yard_c.proofs.yard_list.Tie as tie
 
-state-fits-requires : tie.Need-state-fits-requires
-state-fits-requires c κs = search needs
-
 returns : tie.Need-returns
 returns c =
     let at-fits = c .before in
@@ -31,9 +28,6 @@ state-of-words-requires c κs =
     let entry = at-fits .before .before .before .before .before in
     let fits = sym (at-fits .state-fits .ensures) ∙ not-false _ (at-if .if1 .left) in
     fits-long (now (entry .args .w)) fits
-
-list-requires : tie.Need-list-requires
-list-requires c κs = search needs
 
 listing-number-requires : tie.Need-listing-number-requires
 listing-number-requires c κs =
@@ -73,10 +67,10 @@ pub yard-list-spec : {M : Type 1} → statement M
 yard-list-spec =
     tie.close
     (tie.spec
-    state-fits-requires
+    (λ c κs. search needs)
     returns
     state-of-words-requires
-    list-requires
+    (λ c κs. search needs)
     listing-number-requires
     same-length
     returns-2)

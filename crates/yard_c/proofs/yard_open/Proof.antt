@@ -15,15 +15,6 @@ returns c =
     let entry = c .before .before .before .before in
     not-opened _ (now (entry .args .w)) (now (entry .args .ns)) (now (entry .args .bs)) (c .if1 .taken)
 
-config-requires : tie.Need-config-requires
-config-requires c κs = search needs
-
-open-requires : tie.Need-open-requires
-open-requires c κs = search needs
-
-put-state-requires : tie.Need-put-state-requires
-put-state-requires c κs = search needs
-
 open-number-requires : tie.Need-open-number-requires
 open-number-requires c κs =
     let at-open = c .before .before .before .before .before .before .before .before .before in
@@ -69,9 +60,9 @@ yard-open-spec =
     tie.close
     (tie.spec
     returns
-    config-requires
-    open-requires
-    put-state-requires
+    (λ c κs. search needs)
+    (λ c κs. search needs)
+    (λ c κs. search needs)
     open-number-requires
     same-length
     same-length-2

@@ -16,9 +16,6 @@ use borrow.Author.Needs.{needs}
 use Rattle.yard_c.proofs.yard_show.Statement.{statement}
 use Rattle.yard_c.proofs.yard_show.Tie as tie
 
-state-fits-requires : tie.Need-state-fits-requires
-state-fits-requires c κs = search needs
-
 returns : tie.Need-returns
 returns c =
     let at-fits = c .before in
@@ -39,9 +36,6 @@ state-of-words-requires c κs =
     let out = now (entry .args .out) in
     let ready-now = ready state-fits w out 1 _ (at-fits .state-fits .ensures) (not-false _ (at-if .if1 .left)) in
     fits-long w (ready-now .is-state)
-
-show-requires : tie.Need-show-requires
-show-requires c κs = search needs
 
 returns-2 : tie.Need-returns-2
 returns-2 c =
@@ -112,9 +106,6 @@ cast-result c =
     let most = few .1 in
     search (needs, shown, most)
 
-same-length : tie.Need-same-length
-same-length c = search needs
-
 returns-3 : tie.Need-returns-3
 returns-3 c =
     let at-show = c .before in
@@ -136,14 +127,14 @@ pub yard-show-spec : {M : Type 1} → statement M
 yard-show-spec =
     tie.close
     (tie.spec
-    state-fits-requires
+    (λ c κs. search needs)
     returns
     state-of-words-requires
-    show-requires
+    (λ c κs. search needs)
     returns-2
     mul-out
     add-out
     slice-write-out
     cast-result
-    same-length
+    (λ c. search needs)
     returns-3)

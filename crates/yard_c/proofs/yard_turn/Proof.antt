@@ -82,12 +82,6 @@ module _ (p : tie.After-step) where
 
 -- ---- the needs
 
-state-fits-requires : tie.Need-state-fits-requires
-state-fits-requires c κs = search needs
-
-same-length : tie.Need-same-length
-same-length c = search needs
-
 returns : tie.Need-returns
 returns c =
     let at-fits = c .before in
@@ -98,15 +92,6 @@ returns c =
 
 check-requires : tie.Need-check-requires
 check-requires c κs = ready-now (c .before .before .before) .is-state
-
-same-length-2 : tie.Need-same-length-2
-same-length-2 c = search needs
-
-same-length-3 : tie.Need-same-length-3
-same-length-3 c = search needs
-
-same-length-4 : tie.Need-same-length-4
-same-length-4 c = search needs
 
 returns-2 : tie.Need-returns-2
 returns-2 c =
@@ -121,18 +106,6 @@ state-of-words-requires c κs =
     let a = begun p .args in
     (fits-long (now (a .w)) (ready-now (past-fits p) .is-state), (now (a .ns), now (a .bs), checked p (not-false _ (c .before .if2 .left))))
 
-next-task-requires : tie.Need-next-task-requires
-next-task-requires c κs = search needs
-
-same-length-5 : tie.Need-same-length-5
-same-length-5 c = search needs
-
-same-length-6 : tie.Need-same-length-6
-same-length-6 c = search needs
-
-same-length-7 : tie.Need-same-length-7
-same-length-7 c = search needs
-
 returns-3 : tie.Need-returns-3
 returns-3 c =
     let p = c .before in
@@ -140,9 +113,6 @@ returns-3 c =
     let none = sym (p .next-task .ensures _ _) ∙ c .if3 .taken in
     turn-idle (now (a .w)) (now (a .out)) (now (a .ns)) (now (a .bs)) (ready-now (past-fits (at-check p))) _ (p .before .state-of-words .ensures)
     (nothing-runs (machine p) (is-sound p) none)
-
-sub-k : tie.Need-sub-k
-sub-k c = search needs
 
 known-requires : tie.Need-known-requires
 known-requires c κs = let p = at-check (c .before .before) in fits-long (now (begun p .args .w)) (ready-now (past-fits p) .is-state)
@@ -154,9 +124,6 @@ step-requires c κs =
     let a = begun (at-check p) .args in
     rw (p .before .state-of-words .ensures) (at-known .known .ensures (now (a .ns)) (now (a .bs)) (words-sound p))
 
-uses-turn-requires : tie.Need-uses-turn-requires
-uses-turn-requires c κs = search needs
-
 put-turned-requires : tie.Need-put-turned-requires
 put-turned-requires c κs = ready-there (c .before .before .before .before .before .before .before) .is-state
 
@@ -164,18 +131,6 @@ put-named-requires : tie.Need-put-named-requires
 put-named-requires c κs =
     let room = ready-there (c .before .before .before .before .before .before .before .before .before .before .before) .room in
     omega (arith, room)
-
-same-length-8 : tie.Need-same-length-8
-same-length-8 c = search needs
-
-same-length-9 : tie.Need-same-length-9
-same-length-9 c = search needs
-
-same-length-10 : tie.Need-same-length-10
-same-length-10 c = search needs
-
-same-length-11 : tie.Need-same-length-11
-same-length-11 c = search needs
 
 returns-4 : tie.Need-returns-4
 unfolding with-chosen with-state
@@ -196,18 +151,6 @@ put-named-requires-2 : tie.Need-put-named-requires-2
 put-named-requires-2 c κs =
     let room = ready-there (c .before .before .before .before .before .before .before) .room in
     omega (arith, room)
-
-same-length-12 : tie.Need-same-length-12
-same-length-12 c = search needs
-
-same-length-13 : tie.Need-same-length-13
-same-length-13 c = search needs
-
-same-length-14 : tie.Need-same-length-14
-same-length-14 c = search needs
-
-same-length-15 : tie.Need-same-length-15
-same-length-15 c = search needs
 
 returns-5 : tie.Need-returns-5
 returns-5 c =
@@ -230,34 +173,34 @@ pub yard-turn-spec : {M : Type 1} → statement M
 yard-turn-spec =
     tie.close
     (tie.spec
-    state-fits-requires
-    same-length
+    (λ c κs. search needs)
+    (λ c. search needs)
     returns
     check-requires
-    same-length-2
-    same-length-3
-    same-length-4
+    (λ c. search needs)
+    (λ c. search needs)
+    (λ c. search needs)
     returns-2
     state-of-words-requires
-    next-task-requires
-    same-length-5
-    same-length-6
-    same-length-7
+    (λ c κs. search needs)
+    (λ c. search needs)
+    (λ c. search needs)
+    (λ c. search needs)
     returns-3
-    sub-k
+    (λ c. search needs)
     known-requires
     step-requires
-    uses-turn-requires
+    (λ c κs. search needs)
     put-turned-requires
     put-named-requires
-    same-length-8
-    same-length-9
-    same-length-10
-    same-length-11
+    (λ c. search needs)
+    (λ c. search needs)
+    (λ c. search needs)
+    (λ c. search needs)
     returns-4
     put-named-requires-2
-    same-length-12
-    same-length-13
-    same-length-14
-    same-length-15
+    (λ c. search needs)
+    (λ c. search needs)
+    (λ c. search needs)
+    (λ c. search needs)
     returns-5)

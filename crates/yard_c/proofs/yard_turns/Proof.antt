@@ -35,12 +35,6 @@ machine p z = let a = start (past-fits p) .args in machine-of z (now (a .ns)) (n
 
 -- ---- the needs
 
-state-fits-requires : tie.Need-state-fits-requires
-state-fits-requires c κs = search needs
-
-same-length : tie.Need-same-length
-same-length c = search needs
-
 returns : tie.Need-returns
 returns c =
     let at-fits = c .before in
@@ -50,18 +44,6 @@ returns c =
 state-of-words-requires : tie.Need-state-of-words-requires
 state-of-words-requires c κs = fits-long _ (fits (c .before))
 
-sound-requires : tie.Need-sound-requires
-sound-requires c κs = search needs
-
-same-length-2 : tie.Need-same-length-2
-same-length-2 c = search needs
-
-same-length-3 : tie.Need-same-length-3
-same-length-3 c = search needs
-
-same-length-4 : tie.Need-same-length-4
-same-length-4 c = search needs
-
 returns-2 : tie.Need-returns-2
 returns-2 c =
     let at-sound = c .before in
@@ -70,9 +52,6 @@ returns-2 c =
     let is = ap (λ (z : State). sound (machine at-sound z)) (at-state .state-of-words .ensures) in
     turns-unsound (now (a .w)) (now (a .outs)) (now (a .ns)) (now (a .bs)) (fits (past-fits at-sound))
     (sym is ∙ (sym (at-sound .sound .ensures) ∙ not-true _ (c .if2 .taken)))
-
-turns-room-requires : tie.Need-turns-room-requires
-turns-room-requires c κs = search needs
 
 run-turns-requires : tie.Need-run-turns-requires
 run-turns-requires c κs =
@@ -100,18 +79,6 @@ cast-result c =
     ap (λ (x : Written). x .number) (at-turns .run-turns .ensures) in
     omega (arith, same, most, at-room .turns-room .ensures)
 
-same-length-5 : tie.Need-same-length-5
-same-length-5 c = search needs
-
-same-length-6 : tie.Need-same-length-6
-same-length-6 c = search needs
-
-same-length-7 : tie.Need-same-length-7
-same-length-7 c = search needs
-
-same-length-8 : tie.Need-same-length-8
-same-length-8 c = search needs
-
 returns-3 : tie.Need-returns-3
 returns-3 c =
     let at-put = c .before .before in
@@ -132,21 +99,21 @@ pub yard-turns-spec : {M : Type 1} → statement M
 yard-turns-spec =
     tie.close
     (tie.spec
-    state-fits-requires
-    same-length
+    (λ c κs. search needs)
+    (λ c. search needs)
     returns
     state-of-words-requires
-    sound-requires
-    same-length-2
-    same-length-3
-    same-length-4
+    (λ c κs. search needs)
+    (λ c. search needs)
+    (λ c. search needs)
+    (λ c. search needs)
     returns-2
-    turns-room-requires
+    (λ c κs. search needs)
     run-turns-requires
     put-state-requires
     cast-result
-    same-length-5
-    same-length-6
-    same-length-7
-    same-length-8
+    (λ c. search needs)
+    (λ c. search needs)
+    (λ c. search needs)
+    (λ c. search needs)
     returns-3)

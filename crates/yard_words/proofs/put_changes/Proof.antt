@@ -13,21 +13,6 @@ use Rattle.yard_words.proofs.put_changes.Tie as tie
 same-long : (w : List ℕ) (a b c : ℕ) → length (set (set (set w 5 a) 6 b) 7 c) ≡ length w
 same-long w a b c = length-set (set (set w 5 a) 6 b) 7 c ∙ length-set (set w 5 a) 6 b ∙ length-set w 5 a
 
-slice-write-w : tie.Need-slice-write-w
-slice-write-w c = search needs
-
-slice-write-w-2 : tie.Need-slice-write-w-2
-slice-write-w-2 c = search needs
-
-slice-write-w-3 : tie.Need-slice-write-w-3
-slice-write-w-3 c = search needs
-
-mul-put-task : tie.Need-mul-put-task
-mul-put-task c = search needs
-
-add-put-task : tie.Need-add-put-task
-add-put-task c = search needs
-
 put-task-requires : tie.Need-put-task-requires
 put-task-requires c κs =
     let entry = c .before .before in
@@ -54,11 +39,11 @@ pub put-changes-spec : {M : Type 1} → statement M
 put-changes-spec =
     tie.close
     (tie.spec
-    slice-write-w
-    slice-write-w-2
-    slice-write-w-3
-    mul-put-task
-    add-put-task
+    (λ c. search needs)
+    (λ c. search needs)
+    (λ c. search needs)
+    (λ c. search needs)
+    (λ c. search needs)
     put-task-requires
     same-length
     returns)

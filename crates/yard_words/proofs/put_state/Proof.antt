@@ -18,32 +18,8 @@ Inv-loop w₀ ts k₀ w k = Rest (λ j. words-of-task ts j) (λ j. 9 + 13 * j) 8
 abbrev μ-loop : tie.MeasureT-loop
 μ-loop w₀ ts k₀ w k = 8 - k
 
-put-first-requires : tie.Need-put-first-requires Inv-loop μ-loop
-put-first-requires c κs = search needs
-
 loop-holds : tie.Need-loop-holds Inv-loop μ-loop
 loop-holds c = rest-all _ _ 8 _
-
-mul-put-task : tie.Need-mul-put-task Inv-loop μ-loop
-mul-put-task c = search needs
-
-add-put-task : tie.Need-add-put-task Inv-loop μ-loop
-add-put-task c = search needs
-
-mul-put-task-2 : tie.Need-mul-put-task-2 Inv-loop μ-loop
-mul-put-task-2 c = search needs
-
-array-copy-out-put-task : tie.Need-array-copy-out-put-task Inv-loop μ-loop
-array-copy-out-put-task c = search needs
-
-put-task-requires : tie.Need-put-task-requires Inv-loop μ-loop
-put-task-requires c κs = search needs
-
-add-k : tie.Need-add-k Inv-loop μ-loop
-add-k c = search needs
-
-loop-less : tie.Need-loop-less Inv-loop μ-loop
-loop-less c = search needs
 
 loop-again : tie.Need-loop-again Inv-loop μ-loop
 unfolding idle
@@ -77,15 +53,15 @@ put-state-spec =
     (tie.spec
     Inv-loop
     μ-loop
-    put-first-requires
+    (λ c κs. search needs)
     loop-holds
-    mul-put-task
-    add-put-task
-    mul-put-task-2
-    array-copy-out-put-task
-    put-task-requires
-    add-k
-    loop-less
+    (λ c. search needs)
+    (λ c. search needs)
+    (λ c. search needs)
+    (λ c. search needs)
+    (λ c κs. search needs)
+    (λ c. search needs)
+    (λ c. search needs)
     loop-again
     same-length
     returns)

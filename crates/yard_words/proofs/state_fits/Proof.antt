@@ -16,33 +16,6 @@ returns : tie.Need-returns
 unfolding state-fits
 returns c = rw (ne-eqb _ _ (c .if1 .taken))
 
-task-fits-requires : tie.Need-task-fits-requires
-task-fits-requires c κs = search needs
-
-task-fits-requires-2 : tie.Need-task-fits-requires-2
-task-fits-requires-2 c κs = search needs
-
-task-fits-requires-3 : tie.Need-task-fits-requires-3
-task-fits-requires-3 c κs = search needs
-
-task-fits-requires-4 : tie.Need-task-fits-requires-4
-task-fits-requires-4 c κs = search needs
-
-task-fits-requires-5 : tie.Need-task-fits-requires-5
-task-fits-requires-5 c κs = search needs
-
-task-fits-requires-6 : tie.Need-task-fits-requires-6
-task-fits-requires-6 c κs = search needs
-
-task-fits-requires-7 : tie.Need-task-fits-requires-7
-task-fits-requires-7 c κs = search needs
-
-task-fits-requires-8 : tie.Need-task-fits-requires-8
-task-fits-requires-8 c κs = search needs
-
-shared-slice-read-result : tie.Need-shared-slice-read-result
-shared-slice-read-result c = search needs
-
 returns-2 : tie.Need-returns-2
 unfolding state-fits bit-fits every range
 returns-2 c =
@@ -63,13 +36,13 @@ state-fits-spec =
     tie.close
     (tie.spec
     returns
-    task-fits-requires
-    task-fits-requires-2
-    task-fits-requires-3
-    task-fits-requires-4
-    task-fits-requires-5
-    task-fits-requires-6
-    task-fits-requires-7
-    task-fits-requires-8
-    shared-slice-read-result
+    (λ c κs. search needs)
+    (λ c κs. search needs)
+    (λ c κs. search needs)
+    (λ c κs. search needs)
+    (λ c κs. search needs)
+    (λ c κs. search needs)
+    (λ c κs. search needs)
+    (λ c κs. search needs)
+    (λ c. search needs)
     returns-2)

@@ -6,30 +6,6 @@ use borrow.Author.Needs.{needs}
 use Rattle.yard_words.proofs.tasks_of_words.Statement.{statement}
 use Rattle.yard_words.proofs.tasks_of_words.Tie as tie
 
-task-at-requires : tie.Need-task-at-requires
-task-at-requires c κs = search needs
-
-task-at-requires-2 : tie.Need-task-at-requires-2
-task-at-requires-2 c κs = search needs
-
-task-at-requires-3 : tie.Need-task-at-requires-3
-task-at-requires-3 c κs = search needs
-
-task-at-requires-4 : tie.Need-task-at-requires-4
-task-at-requires-4 c κs = search needs
-
-task-at-requires-5 : tie.Need-task-at-requires-5
-task-at-requires-5 c κs = search needs
-
-task-at-requires-6 : tie.Need-task-at-requires-6
-task-at-requires-6 c κs = search needs
-
-task-at-requires-7 : tie.Need-task-at-requires-7
-task-at-requires-7 c κs = search needs
-
-task-at-requires-8 : tie.Need-task-at-requires-8
-task-at-requires-8 c κs = search needs
-
 returns : tie.Need-returns
 unfolding tasks-of-words range
 returns c =
@@ -48,12 +24,12 @@ pub tasks-of-words-spec : {M : Type 1} → statement M
 tasks-of-words-spec =
     tie.close
     (tie.spec
-    task-at-requires
-    task-at-requires-2
-    task-at-requires-3
-    task-at-requires-4
-    task-at-requires-5
-    task-at-requires-6
-    task-at-requires-7
-    task-at-requires-8
+    (λ c κs. search needs)
+    (λ c κs. search needs)
+    (λ c κs. search needs)
+    (λ c κs. search needs)
+    (λ c κs. search needs)
+    (λ c κs. search needs)
+    (λ c κs. search needs)
+    (λ c κs. search needs)
     returns)

@@ -33,24 +33,9 @@ has c = found-at _ _ _ _ (c .before .position .ensures .0) (c .stands-at .ensure
 absent : (c : tie.Else2) → found (tagOf (c .before)) (tagsOf (c .before)) ≡ false
 absent c = has (c .before) ∙ c .if2 .left
 
-element-copy-out-flag : tie.Need-element-copy-out-flag
-element-copy-out-flag c = search needs
-
-answered-requires : tie.Need-answered-requires
-answered-requires c κs = search needs
-
 returns : tie.Need-returns
 unfolding added
 returns c = rw (eq-eqb _ _ (c .before .if1 .taken)) (c .answered .ensures)
-
-position-requires : tie.Need-position-requires
-position-requires c κs = search needs
-
-stands-at-requires : tie.Need-stands-at-requires
-stands-at-requires c κs = search needs
-
-answered-requires-2 : tie.Need-answered-requires-2
-answered-requires-2 c κs = search needs
 
 returns-2 : tie.Need-returns-2
 unfolding added
@@ -59,12 +44,6 @@ returns-2 c =
     let changeable = found? .before .before .if1 .left in
     rw (ne-eqb _ _ changeable, has found? ∙ c .before .if2 .taken) (c .answered2 .ensures)
 
-count-requires : tie.Need-count-requires
-count-requires c κs = search needs
-
-answered-requires-3 : tie.Need-answered-requires-3
-answered-requires-3 c κs = search needs
-
 returns-3 : tie.Need-returns-3
 unfolding added
 returns-3 c =
@@ -72,18 +51,12 @@ returns-3 c =
     let changeable = counted .before .before .before .before .if1 .left in
     rw (ne-eqb _ _ changeable, absent (counted .before), le-leb 64 _ (rw (counted .count .ensures .0) at (c .before .if3 .taken))) (c .answered3 .ensures)
 
-cast-put : tie.Need-cast-put
-cast-put c = search needs
-
 put-requires : tie.Need-put-requires
 put-requires c κs =
     let missed = c .before .before .before .before in
     let met = missed .before in
     let r = rank-le (tagOf met) (tagsOf met) in
     (len (met .before .before .before .before), omega arith, omega arith, omega arith, met .before .position .ensures .0, absent missed)
-
-answered-requires-4 : tie.Need-answered-requires-4
-answered-requires-4 c κs = search needs
 
 returns-4 : tie.Need-returns-4
 unfolding added
@@ -97,17 +70,17 @@ pub add-spec : {M : Type 1} → statement M
 add-spec =
     tie.close
     (tie.spec
-    element-copy-out-flag
-    answered-requires
+    (λ c. search needs)
+    (λ c κs. search needs)
     returns
-    position-requires
-    stands-at-requires
-    answered-requires-2
+    (λ c κs. search needs)
+    (λ c κs. search needs)
+    (λ c κs. search needs)
     returns-2
-    count-requires
-    answered-requires-3
+    (λ c κs. search needs)
+    (λ c κs. search needs)
     returns-3
-    cast-put
+    (λ c. search needs)
     put-requires
-    answered-requires-4
+    (λ c κs. search needs)
     returns-4)

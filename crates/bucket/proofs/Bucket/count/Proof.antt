@@ -9,12 +9,6 @@ use Rattle.bucket.proofs.Bucket.count.Tie as tie
 len : (c : tie.Start) → length (c .args .t1 .words) ≡ 66
 len c = search needs
 
-element-copy-out-n : tie.Need-element-copy-out-n
-element-copy-out-n c = search needs
-
-cast-result : tie.Need-cast-result
-cast-result c = search needs
-
 returns : tie.Need-returns
 returns c = let e = len (c .before .before) in (simp (length-take, length-drop) (omega arith), omega arith)
 
@@ -22,4 +16,4 @@ returns-2 : tie.Need-returns-2
 returns-2 c = let e = len (c .before .before) in (simp (length-take, length-drop) (omega arith), omega arith)
 
 pub count-spec : {M : Type 1} → statement M
-count-spec = tie.close (tie.spec element-copy-out-n cast-result returns returns-2)
+count-spec = tie.close (tie.spec (λ c. search needs) (λ c. search needs) returns returns-2)

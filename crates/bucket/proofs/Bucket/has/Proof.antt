@@ -5,14 +5,8 @@ use borrow.Author.Needs.{needs}
 use Rattle.bucket.proofs.Bucket.has.Statement.{statement}
 use Rattle.bucket.proofs.Bucket.has.Tie as tie
 
-position-requires : tie.Need-position-requires
-position-requires c κs = search needs
-
-stands-at-requires : tie.Need-stands-at-requires
-stands-at-requires c κs = search needs
-
 returns : tie.Need-returns
 returns c = sym (found-at _ _ _ _ (c .before .position .ensures .0) (c .stands-at .ensures))
 
 pub has-spec : {M : Type 1} → statement M
-has-spec = tie.close (tie.spec position-requires stands-at-requires returns)
+has-spec = tie.close (tie.spec (λ c κs. search needs) (λ c κs. search needs) returns)

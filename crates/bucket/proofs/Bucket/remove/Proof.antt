@@ -33,27 +33,9 @@ has c = found-at _ _ _ _ (c .before .position .ensures .0) (c .stands-at .ensure
 present : (c : tie.Then2) → found (tagOf (c .before)) (tagsOf (c .before)) ≡ true
 present c = has (c .before) ∙ c .if2 .taken
 
-element-copy-out-flag : tie.Need-element-copy-out-flag
-element-copy-out-flag c = search needs
-
-answered-requires : tie.Need-answered-requires
-answered-requires c κs = search needs
-
 returns : tie.Need-returns
 unfolding removed
 returns c = rw (eq-eqb _ _ (c .before .if1 .taken)) (c .answered .ensures)
-
-position-requires : tie.Need-position-requires
-position-requires c κs = search needs
-
-stands-at-requires : tie.Need-stands-at-requires
-stands-at-requires c κs = search needs
-
-count-requires : tie.Need-count-requires
-count-requires c κs = search needs
-
-cast-cut : tie.Need-cast-cut
-cast-cut c = search needs
 
 cut-requires : tie.Need-cut-requires
 cut-requires c κs =
@@ -62,18 +44,12 @@ cut-requires c κs =
     let r = rank-below (tagOf met) (tagsOf met) (present there) in
     (len (met .before .before .before .before), omega arith, omega arith, omega arith, met .before .position .ensures .0, present there)
 
-answered-requires-2 : tie.Need-answered-requires-2
-answered-requires-2 c κs = search needs
-
 returns-2 : tie.Need-returns-2
 unfolding removed
 returns-2 c =
     let there = c .before .before .before .before .before in
     let changeable = there .before .before .before .if1 .left in
     rw (ne-eqb _ _ changeable, present there) (c .answered2 .ensures ∙ ap yes (c .before .cut .ensures))
-
-answered-requires-3 : tie.Need-answered-requires-3
-answered-requires-3 c κs = search needs
 
 returns-3 : tie.Need-returns-3
 unfolding removed
@@ -86,15 +62,15 @@ pub remove-spec : {M : Type 1} → statement M
 remove-spec =
     tie.close
     (tie.spec
-    element-copy-out-flag
-    answered-requires
+    (λ c. search needs)
+    (λ c κs. search needs)
     returns
-    position-requires
-    stands-at-requires
-    count-requires
-    cast-cut
+    (λ c κs. search needs)
+    (λ c κs. search needs)
+    (λ c κs. search needs)
+    (λ c. search needs)
     cut-requires
-    answered-requires-2
+    (λ c κs. search needs)
     returns-2
-    answered-requires-3
+    (λ c κs. search needs)
     returns-3)

@@ -10,26 +10,11 @@ use borrow.Author.Needs.{needs}
 use Rattle.bucket.proofs.Bucket.stands_at.Statement.{statement}
 use Rattle.bucket.proofs.Bucket.stands_at.Tie as tie
 
-count-requires : tie.Need-count-requires
-count-requires c κs = search needs
-
-cast-n : tie.Need-cast-n
-cast-n c = search needs
-
 returns : tie.Need-returns
 unfolding stands-at
 returns c =
     let h : length (tags-in (c .before .before .args .self .words)) ≤ c .before .before .args .p = omega arith in
     rw (le-ltb _ _ h)
-
-add-result : tie.Need-add-result
-add-result c = search needs
-
-mul-result : tie.Need-mul-result
-mul-result c = search needs
-
-array-read-result : tie.Need-array-read-result
-array-read-result c = search needs
 
 returns-2 : tie.Need-returns-2
 unfolding stands-at
@@ -41,4 +26,4 @@ returns-2 c =
 
 pub stands-at-spec : {M : Type 1} → statement M
 stands-at-spec =
-    tie.close (tie.spec count-requires cast-n returns add-result mul-result array-read-result returns-2)
+    tie.close (tie.spec (λ c κs. search needs) (λ c. search needs) returns (λ c. search needs) (λ c. search needs) (λ c. search needs) returns-2)

@@ -14,9 +14,6 @@ use borrow.Author.Needs.{needs}
 use Rattle.coop_calls.proofs.has_member.line113.Statement.{statement}
 use Rattle.coop_calls.proofs.has_member.line113.Tie as tie
 
-refused-requires : tie.Need-refused-requires
-refused-requires c κs = search needs
-
 returns : tie.Need-returns
 unfolding member find-line all-lines line-113 tags-of
 returns c =
@@ -27,24 +24,6 @@ returns c =
     let y = machine-of (a .s) vs in
     let at = through y (a .k) (a .c) 113 (start .pre .0) refl refl in
     rw (at, empty-o y (a .k) (a .c) _ (at-if1 .if1 .taken)) (c .refused .ensures vs)
-
-sub-j : tie.Need-sub-j
-sub-j c = search needs
-
-op-word-requires : tie.Need-op-word-requires
-op-word-requires c κs = search needs
-
-op-number-requires : tie.Need-op-number-requires
-op-number-requires c κs = search needs
-
-operation-requires : tie.Need-operation-requires
-operation-requires c κs = search needs
-
-yes-no-requires : tie.Need-yes-no-requires
-yes-no-requires c κs = search needs
-
-end-requires : tie.Need-end-requires
-end-requires c κs = search needs
 
 returns-2 : tie.Need-returns-2
 unfolding member find-line all-lines line-113 tags-of
@@ -72,12 +51,6 @@ has-requires c κs =
     let o = at-if1 .if1 .left in
     start .pre .1 .o-tagged (omega arith)
 
-yes-no-requires-2 : tie.Need-yes-no-requires-2
-yes-no-requires-2 c κs = search needs
-
-end-requires-2 : tie.Need-end-requires-2
-end-requires-2 c κs = search needs
-
 returns-3 : tie.Need-returns-3
 unfolding member find-line all-lines line-113 tags-of
 returns-3 c =
@@ -103,16 +76,16 @@ pub line113-spec : {M : Type 1} → statement M
 line113-spec =
     tie.close
     (tie.spec
-    refused-requires
+    (λ c κs. search needs)
     returns
-    sub-j
-    op-word-requires
-    op-number-requires
-    operation-requires
-    yes-no-requires
-    end-requires
+    (λ c. search needs)
+    (λ c κs. search needs)
+    (λ c κs. search needs)
+    (λ c κs. search needs)
+    (λ c κs. search needs)
+    (λ c κs. search needs)
     returns-2
     has-requires
-    yes-no-requires-2
-    end-requires-2
+    (λ c κs. search needs)
+    (λ c κs. search needs)
     returns-3)

@@ -6,9 +6,6 @@ use borrow.Author.Needs.{needs}
 use Rattle.coop_calls.proofs.has_member.step.Statement.{statement}
 use Rattle.coop_calls.proofs.has_member.step.Tie as tie
 
-line112-requires : tie.Need-line112-requires
-line112-requires c κs = search needs
-
 returns : tie.Need-returns
 returns c = c .line112 .ensures (now (c .before .before .before .before .args .vs))
 
@@ -24,4 +21,4 @@ returns-2 : tie.Need-returns-2
 returns-2 c = c .line113 .ensures
 
 pub step-spec : {M : Type 1} → statement M
-step-spec = tie.close (tie.spec line112-requires returns line113-requires returns-2)
+step-spec = tie.close (tie.spec (λ c κs. search needs) returns line113-requires returns-2)

@@ -8,12 +8,6 @@ use borrow.Author.Needs.{needs}
 use Rattle.coop_calls.proofs.invoke.line101.Statement.{statement}
 use Rattle.coop_calls.proofs.invoke.line101.Tie as tie
 
-own-done-requires : tie.Need-own-done-requires
-own-done-requires c κs = search needs
-
-go-line-requires : tie.Need-go-line-requires
-go-line-requires c κs = search needs
-
 returns : tie.Need-returns
 unfolding member find-line all-lines line-101
 returns c =
@@ -25,9 +19,6 @@ returns c =
     let at = plain y (a .k) (a .c) 101 (start .pre) refl in
     let done = sym (at-own-done .own-done .ensures vs) ∙ c .before .if1 .taken in
     rw (at, done) (c .go-line .ensures vs)
-
-go-with-requires : tie.Need-go-with-requires
-go-with-requires c κs = search needs
 
 returns-2 : tie.Need-returns-2
 unfolding member find-line all-lines line-101
@@ -42,4 +33,4 @@ returns-2 c =
     rw (at, not-done) (c .go-with .ensures vs)
 
 pub line101-spec : {M : Type 1} → statement M
-line101-spec = tie.close (tie.spec own-done-requires go-line-requires returns go-with-requires returns-2)
+line101-spec = tie.close (tie.spec (λ c κs. search needs) (λ c κs. search needs) returns (λ c κs. search needs) returns-2)

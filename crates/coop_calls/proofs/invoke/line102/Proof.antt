@@ -14,9 +14,6 @@ use borrow.Author.Needs.{needs}
 use Rattle.coop_calls.proofs.invoke.line102.Statement.{statement}
 use Rattle.coop_calls.proofs.invoke.line102.Tie as tie
 
-refused-requires : tie.Need-refused-requires
-refused-requires c κs = search needs
-
 returns : tie.Need-returns
 unfolding member find-line all-lines line-102
 returns c =
@@ -27,18 +24,6 @@ returns c =
     let y = machine-of (a .s) vs in
     let at = through y (a .k) (a .c) 102 (start .pre .0) refl refl in
     rw (at, empty-o y (a .k) (a .c) _ (at-if1 .if1 .taken)) (c .refused .ensures vs)
-
-add-cas-op : tie.Need-add-cas-op
-add-cas-op c = search needs
-
-cas-op-requires : tie.Need-cas-op-requires
-cas-op-requires c κs = search needs
-
-go-help-requires : tie.Need-go-help-requires
-go-help-requires c κs = search needs
-
-same-length : tie.Need-same-length
-same-length c = search needs
 
 returns-2 : tie.Need-returns-2
 unfolding member find-line all-lines line-102 accept apply-all apply with-versions
@@ -55,12 +40,6 @@ returns-2 c =
     let words = at-cas-op .cas-op .ensures .1 ∙ if-true _ _ _ (at-if2 .if2 .taken) in
     rw (at, filled-o y (a .k) (a .c) _ (at-if1 .if1 .left), had)
     (c .go-help .ensures _ ∙ ap (λ (l : List ℕ). accept (machine-of (a .s) l) (a .k) (a .c .own) (moves (to-help 103 (a .c)))) words)
-
-go-line-requires : tie.Need-go-line-requires
-go-line-requires c κs = search needs
-
-same-length-2 : tie.Need-same-length-2
-same-length-2 c = search needs
 
 returns-3 : tie.Need-returns-3
 unfolding member find-line all-lines line-102
@@ -82,13 +61,13 @@ pub line102-spec : {M : Type 1} → statement M
 line102-spec =
     tie.close
     (tie.spec
-    refused-requires
+    (λ c κs. search needs)
     returns
-    add-cas-op
-    cas-op-requires
-    go-help-requires
-    same-length
+    (λ c. search needs)
+    (λ c κs. search needs)
+    (λ c κs. search needs)
+    (λ c. search needs)
     returns-2
-    go-line-requires
-    same-length-2
+    (λ c κs. search needs)
+    (λ c. search needs)
     returns-3)

@@ -13,12 +13,6 @@ use borrow.Author.Needs.{needs}
 use Rattle.coop_calls.proofs.invoke.line107.Statement.{statement}
 use Rattle.coop_calls.proofs.invoke.line107.Tie as tie
 
-own-done-requires : tie.Need-own-done-requires
-own-done-requires c κs = search needs
-
-end-true-requires : tie.Need-end-true-requires
-end-true-requires c κs = search needs
-
 returns : tie.Need-returns
 unfolding member find-line all-lines line-107
 returns c =
@@ -31,9 +25,6 @@ returns c =
     let d = sym (at-own-done .own-done .ensures vs) ∙ at-if1 .if1 .taken in
     let e = ap (accept y (a .k) (a .c .own)) (if-true (own-done y (a .c)) (returns-true (a .c) []) (answers No) d) in
     c .end-true .ensures vs ∙ sym (plain y (a .k) (a .c) 107 (start .pre) refl ∙ e)
-
-end-requires : tie.Need-end-requires
-end-requires c κs = search needs
 
 returns-2 : tie.Need-returns-2
 unfolding member find-line all-lines line-107
@@ -50,4 +41,4 @@ returns-2 c =
 
 pub line107-spec : {M : Type 1} → statement M
 line107-spec =
-    tie.close (tie.spec own-done-requires end-true-requires returns end-requires returns-2)
+    tie.close (tie.spec (λ c κs. search needs) (λ c κs. search needs) returns (λ c κs. search needs) returns-2)

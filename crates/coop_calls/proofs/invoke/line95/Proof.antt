@@ -9,15 +9,6 @@ use borrow.Author.Needs.{needs}
 use Rattle.coop_calls.proofs.invoke.line95.Statement.{statement}
 use Rattle.coop_calls.proofs.invoke.line95.Tie as tie
 
-frozen-requires : tie.Need-frozen-requires
-frozen-requires c κs = search needs
-
-own-done-requires : tie.Need-own-done-requires
-own-done-requires c κs = search needs
-
-choose-requires : tie.Need-choose-requires
-choose-requires c κs = search needs
-
 returns : tie.Need-returns
 unfolding member find-line all-lines line-95
 returns c =
@@ -30,4 +21,4 @@ returns c =
     ∙ rw (at-frozen .frozen .ensures, at-own-done .own-done .ensures vs) (sym (plain (machine-of (a .s) vs) (a .k) (a .c) 95 (start .pre) refl))
 
 pub line95-spec : {M : Type 1} → statement M
-line95-spec = tie.close (tie.spec frozen-requires own-done-requires choose-requires returns)
+line95-spec = tie.close (tie.spec (λ c κs. search needs) (λ c κs. search needs) (λ c κs. search needs) returns)

@@ -8,9 +8,6 @@ use borrow.Author.Needs.{needs}
 use Rattle.coop_calls.proofs.invoke.line96.Statement.{statement}
 use Rattle.coop_calls.proofs.invoke.line96.Tie as tie
 
-choose-requires : tie.Need-choose-requires
-choose-requires c κs = search needs
-
 returns : tie.Need-returns
 unfolding member find-line all-lines line-96
 returns c =
@@ -19,4 +16,4 @@ returns c =
     λ vs. c .choose .ensures vs ∙ sym (plain (machine-of (a .s) vs) (a .k) (a .c) 96 (start .pre) refl)
 
 pub line96-spec : {M : Type 1} → statement M
-line96-spec = tie.close (tie.spec choose-requires returns)
+line96-spec = tie.close (tie.spec (λ c κs. search needs) returns)

@@ -6,49 +6,22 @@ use borrow.Author.Needs.{needs}
 use Rattle.coop_calls.proofs.invoke.step.Statement.{statement}
 use Rattle.coop_calls.proofs.invoke.step.Tie as tie
 
-line95-requires : tie.Need-line95-requires
-line95-requires c κs = search needs
-
-same-length : tie.Need-same-length
-same-length c = search needs
-
 returns : tie.Need-returns
 returns c = c .line95 .ensures
-
-line96-requires : tie.Need-line96-requires
-line96-requires c κs = search needs
 
 returns-2 : tie.Need-returns-2
 returns-2 c = c .line96 .ensures (now (c .before .before .before .before .args .vs))
 
-line99-requires : tie.Need-line99-requires
-line99-requires c κs = search needs
-
 returns-3 : tie.Need-returns-3
 returns-3 c = c .line99 .ensures (now (c .before .before .before .before .before .args .vs))
 
-line100-requires : tie.Need-line100-requires
-line100-requires c κs = search needs
-
-same-length-2 : tie.Need-same-length-2
-same-length-2 c = search needs
-
 returns-4 : tie.Need-returns-4
 returns-4 c = c .line100 .ensures
-
-line101-requires : tie.Need-line101-requires
-line101-requires c κs = search needs
 
 returns-5 : tie.Need-returns-5
 returns-5 c =
     let at-if1 = c .before .before .before .before .before in
     c .line101 .ensures (now (at-if1 .before .before .args .vs))
-
-line102-requires : tie.Need-line102-requires
-line102-requires c κs = search needs
-
-same-length-3 : tie.Need-same-length-3
-same-length-3 c = search needs
 
 returns-6 : tie.Need-returns-6
 returns-6 c = c .before .before .line102 .ensures
@@ -80,20 +53,20 @@ pub step-spec : {M : Type 1} → statement M
 step-spec =
     tie.close
     (tie.spec
-    line95-requires
-    same-length
+    (λ c κs. search needs)
+    (λ c. search needs)
     returns
-    line96-requires
+    (λ c κs. search needs)
     returns-2
-    line99-requires
+    (λ c κs. search needs)
     returns-3
-    line100-requires
-    same-length-2
+    (λ c κs. search needs)
+    (λ c. search needs)
     returns-4
-    line101-requires
+    (λ c κs. search needs)
     returns-5
-    line102-requires
-    same-length-3
+    (λ c κs. search needs)
+    (λ c. search needs)
     returns-6
     line107-requires
     returns-7)

@@ -9,12 +9,6 @@ use borrow.Author.Needs.{needs}
 use Rattle.coop_helpers.proofs.do_freeze.line120.Statement.{statement}
 use Rattle.coop_helpers.proofs.do_freeze.line120.Tie as tie
 
-frozen-requires : tie.Need-frozen-requires
-frozen-requires c κs = search needs
-
-choose-requires : tie.Need-choose-requires
-choose-requires c κs = search needs
-
 returns : tie.Need-returns
 unfolding member find-line all-lines line-120
 returns c =
@@ -25,4 +19,4 @@ returns c =
     c .choose .ensures vs ∙ rw (at-frozen .frozen .ensures) (sym (plain (machine-of (a .s) vs) (a .k) (a .c) 120 (start .pre) refl))
 
 pub line120-spec : {M : Type 1} → statement M
-line120-spec = tie.close (tie.spec frozen-requires choose-requires returns)
+line120-spec = tie.close (tie.spec (λ c κs. search needs) (λ c κs. search needs) returns)

@@ -8,9 +8,6 @@ use borrow.Author.Needs.{needs}
 use Rattle.coop_helpers.proofs.do_freeze.line121.Statement.{statement}
 use Rattle.coop_helpers.proofs.do_freeze.line121.Tie as tie
 
-read-node-requires : tie.Need-read-node-requires
-read-node-requires c κs = search needs
-
 returns : tie.Need-returns
 unfolding member find-line all-lines line-121
 returns c =
@@ -19,4 +16,4 @@ returns c =
     λ vs. c .read-node .ensures vs ∙ sym (plain (machine-of (a .s) vs) (a .k) (a .c) 121 (start .pre .0) refl)
 
 pub line121-spec : {M : Type 1} → statement M
-line121-spec = tie.close (tie.spec read-node-requires returns)
+line121-spec = tie.close (tie.spec (λ c κs. search needs) returns)

@@ -9,9 +9,6 @@ use borrow.Author.Needs.{needs}
 use Rattle.coop_helpers.proofs.do_freeze.line122.Statement.{statement}
 use Rattle.coop_helpers.proofs.do_freeze.line122.Tie as tie
 
-test-op-requires : tie.Need-test-op-requires
-test-op-requires c κs = search needs
-
 returns : tie.Need-returns
 unfolding member find-line all-lines line-122
 returns c =
@@ -21,4 +18,4 @@ returns c =
     c .test-op .ensures ∙ sym (through (machine-of (a .s) vs) (a .k) (a .c) 122 (start .pre) refl refl)
 
 pub line122-spec : {M : Type 1} → statement M
-line122-spec = tie.close (tie.spec test-op-requires returns)
+line122-spec = tie.close (tie.spec (λ c κs. search needs) returns)

@@ -8,12 +8,6 @@ use borrow.Author.Needs.{needs}
 use Rattle.coop_helpers.proofs.do_freeze.line127.Statement.{statement}
 use Rattle.coop_helpers.proofs.do_freeze.line127.Tie as tie
 
-is-invoke-requires : tie.Need-is-invoke-requires
-is-invoke-requires c κs = search needs
-
-go-line-requires : tie.Need-go-line-requires
-go-line-requires c κs = search needs
-
 returns : tie.Need-returns
 unfolding member find-line all-lines line-127
 returns c =
@@ -23,9 +17,6 @@ returns c =
     λ vs.
     let at = plain (machine-of (a .s) vs) (a .k) (a .c) 127 (start .pre) refl in
     rw (at, sym (at-if1 .before .is-invoke .ensures) ∙ at-if1 .if1 .taken) (c .go-line .ensures vs)
-
-end-requires : tie.Need-end-requires
-end-requires c κs = search needs
 
 returns-2 : tie.Need-returns-2
 unfolding member find-line all-lines line-127
@@ -38,4 +29,4 @@ returns-2 c =
     rw (at, sym (at-if1 .before .is-invoke .ensures) ∙ at-if1 .if1 .left) (c .end .ensures vs)
 
 pub line127-spec : {M : Type 1} → statement M
-line127-spec = tie.close (tie.spec is-invoke-requires go-line-requires returns end-requires returns-2)
+line127-spec = tie.close (tie.spec (λ c κs. search needs) (λ c κs. search needs) returns (λ c κs. search needs) returns-2)

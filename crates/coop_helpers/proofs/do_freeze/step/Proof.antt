@@ -6,35 +6,14 @@ use borrow.Author.Needs.{needs}
 use Rattle.coop_helpers.proofs.do_freeze.step.Statement.{statement}
 use Rattle.coop_helpers.proofs.do_freeze.step.Tie as tie
 
-line120-requires : tie.Need-line120-requires
-line120-requires c κs = search needs
-
-same-length : tie.Need-same-length
-same-length c = search needs
-
 returns : tie.Need-returns
 returns c = c .line120 .ensures
-
-line121-requires : tie.Need-line121-requires
-line121-requires c κs = search needs
 
 returns-2 : tie.Need-returns-2
 returns-2 c = c .line121 .ensures (now (c .before .before .before .before .args .vs))
 
-line122-requires : tie.Need-line122-requires
-line122-requires c κs = search needs
-
-same-length-2 : tie.Need-same-length-2
-same-length-2 c = search needs
-
 returns-3 : tie.Need-returns-3
 returns-3 c = c .line122 .ensures
-
-line123-requires : tie.Need-line123-requires
-line123-requires c κs = search needs
-
-same-length-3 : tie.Need-same-length-3
-same-length-3 c = search needs
 
 returns-4 : tie.Need-returns-4
 returns-4 c = c .before .before .line123 .ensures
@@ -62,16 +41,16 @@ pub step-spec : {M : Type 1} → statement M
 step-spec =
     tie.close
     (tie.spec
-    line120-requires
-    same-length
+    (λ c κs. search needs)
+    (λ c. search needs)
     returns
-    line121-requires
+    (λ c κs. search needs)
     returns-2
-    line122-requires
-    same-length-2
+    (λ c κs. search needs)
+    (λ c. search needs)
     returns-3
-    line123-requires
-    same-length-3
+    (λ c κs. search needs)
+    (λ c. search needs)
     returns-4
     line127-requires
     returns-5)

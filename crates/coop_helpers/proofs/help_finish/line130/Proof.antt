@@ -10,9 +10,6 @@ use borrow.Author.Needs.{needs}
 use Rattle.coop_helpers.proofs.help_finish.line130.Statement.{statement}
 use Rattle.coop_helpers.proofs.help_finish.line130.Tie as tie
 
-refused-requires : tie.Need-refused-requires
-refused-requires c κs = search needs
-
 returns : tie.Need-returns
 unfolding member find-line all-lines line-130
 returns c =
@@ -23,18 +20,6 @@ returns c =
     let y = machine-of (a .s) vs in
     let at = through y (a .k) (a .c) 130 (start .pre) refl refl in
     rw (at, empty-o y (a .k) (a .c) _ (at-if1 .if1 .taken)) (c .refused .ensures vs)
-
-sub-op-word : tie.Need-sub-op-word
-sub-op-word c = search needs
-
-op-word-requires : tie.Need-op-word-requires
-op-word-requires c κs = search needs
-
-sub-x : tie.Need-sub-x
-sub-x c = search needs
-
-go-requires : tie.Need-go-requires
-go-requires c κs = search needs
 
 returns-2 : tie.Need-returns-2
 unfolding member find-line all-lines line-130 to-finish
@@ -47,9 +32,6 @@ returns-2 c =
     let y = machine-of (a .s) vs in
     let at = through y (a .k) (a .c) 130 (start .pre) refl refl in
     rw (at, filled-o y (a .k) (a .c) _ (at-if1 .if1 .left), ← at-op-word .op-word .ensures (a .s), le-leb _ _ (c .before .if2 .taken)) (c .go .ensures vs)
-
-return-to-requires : tie.Need-return-to-requires
-return-to-requires c κs = search needs
 
 returns-3 : tie.Need-returns-3
 unfolding member find-line all-lines line-130
@@ -67,12 +49,12 @@ pub line130-spec : {M : Type 1} → statement M
 line130-spec =
     tie.close
     (tie.spec
-    refused-requires
+    (λ c κs. search needs)
     returns
-    sub-op-word
-    op-word-requires
-    sub-x
-    go-requires
+    (λ c. search needs)
+    (λ c κs. search needs)
+    (λ c. search needs)
+    (λ c κs. search needs)
     returns-2
-    return-to-requires
+    (λ c κs. search needs)
     returns-3)

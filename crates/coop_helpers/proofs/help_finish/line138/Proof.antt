@@ -16,12 +16,6 @@ use borrow.Author.Needs.{needs}
 use Rattle.coop_helpers.proofs.help_finish.line138.Statement.{statement}
 use Rattle.coop_helpers.proofs.help_finish.line138.Tie as tie
 
-both-filled-requires : tie.Need-both-filled-requires
-both-filled-requires c κs = search needs
-
-refused-requires : tie.Need-refused-requires
-refused-requires c κs = search needs
-
 returns : tie.Need-returns
 unfolding member find-line all-lines line-138 tags-of
 returns c =
@@ -34,15 +28,6 @@ returns c =
     let at = helping y (a .k) (a .c) 138 (start .pre .0) refl refl in
     rw (at, empty-both y (a .k) (a .c) _ missing) (c .refused .ensures vs)
 
-number-of-requires : tie.Need-number-of-requires
-number-of-requires c κs = search needs
-
-number-of-requires-2 : tie.Need-number-of-requires-2
-number-of-requires-2 c κs = search needs
-
-operation-requires : tie.Need-operation-requires
-operation-requires c κs = search needs
-
 responds-requires : tie.Need-responds-requires
 responds-requires c κs =
     let at-number-of = c .before .before in
@@ -50,12 +35,6 @@ responds-requires c κs =
     let start = at-if1 .before .before .before in
     let both = sym (at-if1 .before .both-filled .ensures) ∙ not-false _ (at-if1 .if1 .left) in
     rw (at-number-of .number-of .ensures) (start .pre .1 .o-tagged (above (start .args .c .o) _ both))
-
-set-resp-requires : tie.Need-set-resp-requires
-set-resp-requires c κs = search needs
-
-go-with-requires : tie.Need-go-with-requires
-go-with-requires c κs = search needs
 
 returns-2 : tie.Need-returns-2
 unfolding member find-line all-lines line-138 tags-of accept apply-all
@@ -87,13 +66,13 @@ pub line138-spec : {M : Type 1} → statement M
 line138-spec =
     tie.close
     (tie.spec
-    both-filled-requires
-    refused-requires
+    (λ c κs. search needs)
+    (λ c κs. search needs)
     returns
-    number-of-requires
-    number-of-requires-2
-    operation-requires
+    (λ c κs. search needs)
+    (λ c κs. search needs)
+    (λ c κs. search needs)
     responds-requires
-    set-resp-requires
-    go-with-requires
+    (λ c κs. search needs)
+    (λ c κs. search needs)
     returns-2)

@@ -11,9 +11,6 @@ use borrow.Author.Needs.{needs}
 use Rattle.coop_helpers.proofs.help_finish.line139.Statement.{statement}
 use Rattle.coop_helpers.proofs.help_finish.line139.Tie as tie
 
-refused-requires : tie.Need-refused-requires
-refused-requires c κs = search needs
-
 returns : tie.Need-returns
 unfolding member find-line all-lines line-139
 returns c =
@@ -22,15 +19,6 @@ returns c =
     let a = start .args in
     λ vs.
     rw (empty-helped (machine-of (a .s) vs) (a .k) (a .c) 139 (start .pre) refl refl (at-if1 .if1 .taken)) (c .refused .ensures vs)
-
-number-of-requires : tie.Need-number-of-requires
-number-of-requires c κs = search needs
-
-set-done-requires : tie.Need-set-done-requires
-set-done-requires c κs = search needs
-
-go-with-requires : tie.Need-go-with-requires
-go-with-requires c κs = search needs
 
 returns-2 : tie.Need-returns-2
 unfolding member find-line all-lines line-139 accept apply-all
@@ -50,9 +38,9 @@ pub line139-spec : {M : Type 1} → statement M
 line139-spec =
     tie.close
     (tie.spec
-    refused-requires
+    (λ c κs. search needs)
     returns
-    number-of-requires
-    set-done-requires
-    go-with-requires
+    (λ c κs. search needs)
+    (λ c κs. search needs)
+    (λ c κs. search needs)
     returns-2)

@@ -65,12 +65,6 @@ makes p =
     p .made-of .ensures ∙ ap (λ (j : ℕ). made (at-operation .operation .result) (tags vs j)) (at-o .number-of .ensures)
     ∙ ap (λ (q : Operation). made q (set-of p)) operation
 
-both-filled-requires : tie.Need-both-filled-requires
-both-filled-requires c κs = search needs
-
-refused-requires : tie.Need-refused-requires
-refused-requires c κs = search needs
-
 returns : tie.Need-returns
 returns c =
     let at-if1 = c .before in
@@ -79,12 +73,6 @@ returns c =
     let vs = now (a .vs) in
     let missing = sym (at-if1 .before .both-filled .ensures) ∙ not-true _ (at-if1 .if1 .taken) in
     c .refused .ensures vs ∙ sym (empty-140 (machine-of (a .s) vs) (a .k) (a .c) (start .pre .0) missing)
-
-number-of-requires : tie.Need-number-of-requires
-number-of-requires c κs = search needs
-
-return-to-requires : tie.Need-return-to-requires
-return-to-requires c κs = search needs
 
 returns-2 : tie.Need-returns-2
 returns-2 c =
@@ -95,24 +83,12 @@ returns-2 c =
     let passed = ne-eqb _ _ (λ e. at-if2 .if2 .taken (e ∙ sym (at-if2 .before .before .number-of .ensures))) in
     c .return-to .ensures (y .versions) ∙ sym (passed-140 y (start .args .k) (start .args .c) (start .pre .0) (both at-if1) passed)
 
-number-of-requires-2 : tie.Need-number-of-requires-2
-number-of-requires-2 c κs = search needs
-
-operation-requires : tie.Need-operation-requires
-operation-requires c κs = search needs
-
 made-of-requires : tie.Need-made-of-requires
 made-of-requires c κs =
     let at-if2 = c .before .before .before in
     let at-if1 = first-test at-if2 in
     let start = start-of at-if1 in
     rw (at-if2 .before .before .number-of .ensures) (start .pre .1 .o-tagged (above (start .args .c .o) _ (both at-if1)))
-
-refused-requires-2 : tie.Need-refused-requires-2
-refused-requires-2 c κs = search needs
-
-same-length : tie.Need-same-length
-same-length c = search needs
 
 returns-3 : tie.Need-returns-3
 returns-3 c =
@@ -123,15 +99,6 @@ returns-3 c =
     let y = machine at-if1 in
     let full = made-full (helped at-made-of) (set-of at-made-of) (sym (ap (λ (d : Made). d .full) (makes at-made-of)) ∙ c .before .if3 .taken) in
     c .refused2 .ensures (y .versions) ∙ sym (full-140 y (start .args .k) (start .args .c) (start .pre .0) (both at-if1) (has-o at-if2) full)
-
-free-version-requires : tie.Need-free-version-requires
-free-version-requires c κs = search needs
-
-refused-requires-3 : tie.Need-refused-requires-3
-refused-requires-3 c κs = search needs
-
-same-length-2 : tie.Need-same-length-2
-same-length-2 c = search needs
 
 returns-4 : tie.Need-returns-4
 returns-4 c =
@@ -147,9 +114,6 @@ returns-4 c =
     let why = held-140 y (start .args .k) (start .args .c) (start .pre .0) (both at-if1) (has-o at-if2) (fits .room) none in
     c .refused3 .ensures (y .versions) ∙ sym why
 
-sub-install : tie.Need-sub-install
-sub-install c = search needs
-
 install-requires : tie.Need-install-requires
 install-requires c κs =
     let at-if4 = c .before .before in
@@ -162,12 +126,6 @@ install-requires c κs =
     let taken = taken-number y (omega arith) last (λ e. at-if4 .if4 .left (link ∙ e)) .0 in
     let long = ready .pool-length in
     omega (arith, link, taken, long)
-
-return-to-requires-2 : tie.Need-return-to-requires-2
-return-to-requires-2 c κs = search needs
-
-same-length-3 : tie.Need-same-length-3
-same-length-3 c = search needs
 
 returns-5 : tie.Need-returns-5
 returns-5 c =
@@ -195,24 +153,24 @@ pub line140-spec : {M : Type 1} → statement M
 line140-spec =
     tie.close
     (tie.spec
-    both-filled-requires
-    refused-requires
+    (λ c κs. search needs)
+    (λ c κs. search needs)
     returns
-    number-of-requires
-    return-to-requires
+    (λ c κs. search needs)
+    (λ c κs. search needs)
     returns-2
-    number-of-requires-2
-    operation-requires
+    (λ c κs. search needs)
+    (λ c κs. search needs)
     made-of-requires
-    refused-requires-2
-    same-length
+    (λ c κs. search needs)
+    (λ c. search needs)
     returns-3
-    free-version-requires
-    refused-requires-3
-    same-length-2
+    (λ c κs. search needs)
+    (λ c κs. search needs)
+    (λ c. search needs)
     returns-4
-    sub-install
+    (λ c. search needs)
     install-requires
-    return-to-requires-2
-    same-length-3
+    (λ c κs. search needs)
+    (λ c. search needs)
     returns-5)

@@ -6,32 +6,14 @@ use borrow.Author.Needs.{needs}
 use Rattle.coop_helpers.proofs.help_finish.step.Statement.{statement}
 use Rattle.coop_helpers.proofs.help_finish.step.Tie as tie
 
-line129-requires : tie.Need-line129-requires
-line129-requires c κs = search needs
-
 returns : tie.Need-returns
 returns c = c .line129 .ensures (now (c .before .before .before .args .vs))
-
-line130-requires : tie.Need-line130-requires
-line130-requires c κs = search needs
-
-same-length : tie.Need-same-length
-same-length c = search needs
 
 returns-2 : tie.Need-returns-2
 returns-2 c = c .line130 .ensures
 
-line138-requires : tie.Need-line138-requires
-line138-requires c κs = search needs
-
-same-length-2 : tie.Need-same-length-2
-same-length-2 c = search needs
-
 returns-3 : tie.Need-returns-3
 returns-3 c = c .line138 .ensures
-
-line139-requires : tie.Need-line139-requires
-line139-requires c κs = search needs
 
 returns-4 : tie.Need-returns-4
 returns-4 c =
@@ -53,9 +35,6 @@ line140-requires c κs =
     let not-139 = not-first line 139 _ not-138 (at-if4 .if4 .left) in
     (last-line line 140 not-139, start .pre .0)
 
-same-length-3 : tie.Need-same-length-3
-same-length-3 c = search needs
-
 returns-5 : tie.Need-returns-5
 returns-5 c = c .before .before .line140 .ensures
 
@@ -63,16 +42,16 @@ pub step-spec : {M : Type 1} → statement M
 step-spec =
     tie.close
     (tie.spec
-    line129-requires
+    (λ c κs. search needs)
     returns
-    line130-requires
-    same-length
+    (λ c κs. search needs)
+    (λ c. search needs)
     returns-2
-    line138-requires
-    same-length-2
+    (λ c κs. search needs)
+    (λ c. search needs)
     returns-3
-    line139-requires
+    (λ c κs. search needs)
     returns-4
     line140-requires
-    same-length-3
+    (λ c. search needs)
     returns-5)

@@ -8,24 +8,6 @@ use borrow.Author.Needs.{needs}
 use Rattle.coop_pool.proofs.taking.free_version.Statement.{statement}
 use Rattle.coop_pool.proofs.taking.free_version.Tie as tie
 
-slice-aggregate-mark : tie.Need-slice-aggregate-mark
-slice-aggregate-mark c = search needs
-
-add-mark : tie.Need-add-mark
-add-mark c = search needs
-
-mark-requires : tie.Need-mark-requires
-mark-requires c κs = search needs
-
-slice-aggregate-mark-tasks : tie.Need-slice-aggregate-mark-tasks
-slice-aggregate-mark-tasks c = search needs
-
-mark-tasks-requires : tie.Need-mark-tasks-requires
-mark-tasks-requires c κs = search needs
-
-slice-aggregate-first-unmarked : tie.Need-slice-aggregate-first-unmarked
-slice-aggregate-first-unmarked c = search needs
-
 first-unmarked-requires : tie.Need-first-unmarked-requires
 first-unmarked-requires c κs =
     let at-mark-tasks = c .before .before in
@@ -45,11 +27,11 @@ pub free-version-spec : {M : Type 1} → statement M
 free-version-spec =
     tie.close
     (tie.spec
-    slice-aggregate-mark
-    add-mark
-    mark-requires
-    slice-aggregate-mark-tasks
-    mark-tasks-requires
-    slice-aggregate-first-unmarked
+    (λ c. search needs)
+    (λ c. search needs)
+    (λ c κs. search needs)
+    (λ c. search needs)
+    (λ c κs. search needs)
+    (λ c. search needs)
     first-unmarked-requires
     returns)

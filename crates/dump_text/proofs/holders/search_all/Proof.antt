@@ -37,9 +37,6 @@ loop-less c = omega arith
 loop-again : tie.Need-loop-again Inv-loop μ-loop
 loop-again c = omega arith
 
-same-length : tie.Need-same-length Inv-loop μ-loop
-same-length c = search needs
-
 returns : tie.Need-returns Inv-loop μ-loop
 returns c = tt
 
@@ -57,5 +54,5 @@ search-all-spec =
     add-k
     loop-less
     loop-again
-    same-length
+    (λ c. search needs)
     returns)

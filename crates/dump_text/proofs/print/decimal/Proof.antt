@@ -4,12 +4,6 @@ use borrow.Author.Needs.{needs}
 use Rattle.dump_text.proofs.print.decimal.Statement.{statement}
 use Rattle.dump_text.proofs.print.decimal.Tie as tie
 
-number-requires : tie.Need-number-requires
-number-requires c κs = search needs
-
-same-length : tie.Need-same-length
-same-length c = search needs
-
 returns : tie.Need-returns
 returns c =
     let at-number = c .before .before in
@@ -17,4 +11,4 @@ returns c =
     append-on-within _ _ _ _ _ (entry .pre) (at-number .number .ensures)
 
 pub decimal-spec : {M : Type 1} → statement M
-decimal-spec = tie.close (tie.spec number-requires same-length returns)
+decimal-spec = tie.close (tie.spec (λ c κs. search needs) (λ c. search needs) returns)

@@ -4,12 +4,6 @@ use borrow.Author.Needs.{needs}
 use Rattle.dump_text.proofs.print.text.Statement.{statement}
 use Rattle.dump_text.proofs.print.text.Tie as tie
 
-all-bytes-requires : tie.Need-all-bytes-requires
-all-bytes-requires c κs = search needs
-
-same-length : tie.Need-same-length
-same-length c = search needs
-
 returns : tie.Need-returns
 returns c =
     let at-all-bytes = c .before .before in
@@ -17,4 +11,4 @@ returns c =
     append-on-within _ _ _ _ _ (entry .pre) (at-all-bytes .all-bytes .ensures)
 
 pub text-spec : {M : Type 1} → statement M
-text-spec = tie.close (tie.spec all-bytes-requires same-length returns)
+text-spec = tie.close (tie.spec (λ c κs. search needs) (λ c. search needs) returns)

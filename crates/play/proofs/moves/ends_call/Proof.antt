@@ -10,15 +10,6 @@ returns : tie.Need-returns
 unfolding ends-of
 returns c = rw (ne-eqb _ _ (c .if1 .taken))
 
-enum-told : tie.Need-enum-told
-enum-told c = search needs
-
-enum-told-2 : tie.Need-enum-told-2
-enum-told-2 c = search needs
-
-enum-told-3 : tie.Need-enum-told-3
-enum-told-3 c = search needs
-
 returns-2 : tie.Need-returns-2
 unfolding ends-of ended
 returns-2 c = rw (eq-eqb _ _ (c .before .before .if1 .left), c .enum-told .given .1)
@@ -32,4 +23,4 @@ unfolding ends-of ended
 returns-4 c = rw (eq-eqb _ _ (c .before .before .if1 .left), c .enum-told3 .given .1)
 
 pub ends-call-spec : {M : Type 1} → statement M
-ends-call-spec = tie.close (tie.spec returns enum-told enum-told-2 enum-told-3 returns-2 returns-3 returns-4)
+ends-call-spec = tie.close (tie.spec returns (λ c. search needs) (λ c. search needs) (λ c. search needs) returns-2 returns-3 returns-4)

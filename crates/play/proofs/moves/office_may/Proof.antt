@@ -6,27 +6,6 @@ use Rattle.game.specs.Game.{office-may}
 use Rattle.play.proofs.moves.office_may.Statement.{statement}
 use Rattle.play.proofs.moves.office_may.Tie as tie
 
-enum-told : tie.Need-enum-told
-enum-told c = search needs
-
-runs-requires : tie.Need-runs-requires
-runs-requires c κs = search needs
-
-enum-told-2 : tie.Need-enum-told-2
-enum-told-2 c = search needs
-
-runs-requires-2 : tie.Need-runs-requires-2
-runs-requires-2 c κs = search needs
-
-enum-told-3 : tie.Need-enum-told-3
-enum-told-3 c = search needs
-
-runs-requires-3 : tie.Need-runs-requires-3
-runs-requires-3 c κs = search needs
-
-enum-told-4 : tie.Need-enum-told-4
-enum-told-4 c = search needs
-
 returns : tie.Need-returns
 unfolding office-may
 returns c ns bs = rw (c .before .enum-told .given .1) (c .runs .ensures ns bs)
@@ -46,4 +25,15 @@ returns-4 c ns bs = rw (c .enum-told4 .given .1)
 pub office-may-spec : {M : Type 1} → statement M
 office-may-spec =
     tie.close
-    (tie.spec enum-told runs-requires enum-told-2 runs-requires-2 enum-told-3 runs-requires-3 enum-told-4 returns returns-2 returns-3 returns-4)
+    (tie.spec
+    (λ c. search needs)
+    (λ c κs. search needs)
+    (λ c. search needs)
+    (λ c κs. search needs)
+    (λ c. search needs)
+    (λ c κs. search needs)
+    (λ c. search needs)
+    returns
+    returns-2
+    returns-3
+    returns-4)

@@ -6,12 +6,6 @@ use Rattle.play.proofs.MovesMade.{by-start}
 use Rattle.play.proofs.moves.start_resize.Statement.{statement}
 use Rattle.play.proofs.moves.start_resize.Tie as tie
 
-start-requires : tie.Need-start-requires
-start-requires c κs = search needs
-
-write-nothing-requires : tie.Need-write-nothing-requires
-write-nothing-requires c κs = search needs
-
 returns : tie.Need-returns
 returns c =
     let at-start = c .before .before in
@@ -20,4 +14,4 @@ returns c =
     (at-start .start .ensures) (c .write-nothing .ensures)
 
 pub start-resize-spec : {M : Type 1} → statement M
-start-resize-spec = tie.close (tie.spec start-requires write-nothing-requires returns)
+start-resize-spec = tie.close (tie.spec (λ c κs. search needs) (λ c κs. search needs) returns)

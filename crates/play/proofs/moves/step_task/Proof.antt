@@ -6,27 +6,6 @@ use Rattle.play.proofs.MovesMade.{by-step}
 use Rattle.play.proofs.moves.step_task.Statement.{statement}
 use Rattle.play.proofs.moves.step_task.Tie as tie
 
-mul-c : tie.Need-mul-c
-mul-c c = search needs
-
-element-copy-out-c : tie.Need-element-copy-out-c
-element-copy-out-c c = search needs
-
-keep-requires : tie.Need-keep-requires
-keep-requires c κs = search needs
-
-step-requires : tie.Need-step-requires
-step-requires c κs = search needs
-
-ends-call-requires : tie.Need-ends-call-requires
-ends-call-requires c κs = search needs
-
-same-length : tie.Need-same-length
-same-length c = search needs
-
-same-length-2 : tie.Need-same-length-2
-same-length-2 c = search needs
-
 returns : tie.Need-returns
 unfolding task-of idle
 returns c =
@@ -41,4 +20,12 @@ returns c =
 pub step-task-spec : {M : Type 1} → statement M
 step-task-spec =
     tie.close
-    (tie.spec mul-c element-copy-out-c keep-requires step-requires ends-call-requires same-length same-length-2 returns)
+    (tie.spec
+    (λ c. search needs)
+    (λ c. search needs)
+    (λ c κs. search needs)
+    (λ c κs. search needs)
+    (λ c κs. search needs)
+    (λ c. search needs)
+    (λ c. search needs)
+    returns)

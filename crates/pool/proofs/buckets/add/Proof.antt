@@ -10,18 +10,6 @@ use borrow.Author.Needs.{needs}
 use Rattle.pool.proofs.buckets.add.Statement.{statement}
 use Rattle.pool.proofs.buckets.add.Tie as tie
 
-front-requires : tie.Need-front-requires
-front-requires c κs = search needs
-
-add-requires : tie.Need-add-requires
-add-requires c κs = search needs
-
-store-requires : tie.Need-store-requires
-store-requires c κs = search needs
-
-same-length : tie.Need-same-length
-same-length c = search needs
-
 returns : tie.Need-returns
 returns c =
     let stored = c .before .before in
@@ -32,4 +20,4 @@ returns c =
     (ap answer-of e, stored .store .ensures ∙ ap (λ (d : Changed). overwrite (now (a .part)) 0 (d .bucket .words)) e)
 
 pub add-spec : {M : Type 1} → statement M
-add-spec = tie.close (tie.spec front-requires add-requires store-requires same-length returns)
+add-spec = tie.close (tie.spec (λ c κs. search needs) (λ c κs. search needs) (λ c κs. search needs) (λ c. search needs) returns)

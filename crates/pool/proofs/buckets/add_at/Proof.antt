@@ -18,26 +18,8 @@ returns c =
     let past = c .if1 .taken in
     (sym (add-past p (a .k) past (a .tag)), sym (store-past p (a .k) past (added (bucket-at p (a .k)) (a .tag) .bucket)))
 
-mul-at : tie.Need-mul-at
-mul-at c = search needs
-
-mul-add : tie.Need-mul-add
-mul-add c = search needs
-
-sub-add : tie.Need-sub-add
-sub-add c = search needs
-
-part-add-start : tie.Need-part-add-start
-part-add-start c = search needs
-
-part-add-end : tie.Need-part-add-end
-part-add-end c = search needs
-
 add-requires : tie.Need-add-requires
 add-requires c κs = let a = c .before .before .before .args in lent-room (now (a .pool)) (a .k) (omega arith)
-
-same-length : tie.Need-same-length
-same-length c = search needs
 
 returns-2 : tie.Need-returns-2
 returns-2 c =
@@ -54,11 +36,11 @@ add-at-spec =
     tie.close
     (tie.spec
     returns
-    mul-at
-    mul-add
-    sub-add
-    part-add-start
-    part-add-end
+    (λ c. search needs)
+    (λ c. search needs)
+    (λ c. search needs)
+    (λ c. search needs)
+    (λ c. search needs)
     add-requires
-    same-length
+    (λ c. search needs)
     returns-2)

@@ -8,18 +8,6 @@ use borrow.Author.Needs.{needs}
 use Rattle.pool.proofs.buckets.freeze.Statement.{statement}
 use Rattle.pool.proofs.buckets.freeze.Tie as tie
 
-front-requires : tie.Need-front-requires
-front-requires c κs = search needs
-
-freeze-requires : tie.Need-freeze-requires
-freeze-requires c κs = search needs
-
-store-requires : tie.Need-store-requires
-store-requires c κs = search needs
-
-same-length : tie.Need-same-length
-same-length c = search needs
-
 returns : tie.Need-returns
 returns c =
     let at-front = c .before .before .before .before .before in
@@ -29,4 +17,4 @@ returns c =
 
 pub freeze-spec : {M : Type 1} → statement M
 freeze-spec =
-    tie.close (tie.spec front-requires freeze-requires store-requires same-length returns)
+    tie.close (tie.spec (λ c κs. search needs) (λ c κs. search needs) (λ c κs. search needs) (λ c. search needs) returns)

@@ -17,26 +17,8 @@ returns c =
     let p = now (a .pool) in
     sym (store-past p (a .k) (c .if1 .taken) (frozen-of (bucket-at p (a .k))))
 
-mul-at : tie.Need-mul-at
-mul-at c = search needs
-
-mul-freeze : tie.Need-mul-freeze
-mul-freeze c = search needs
-
-sub-freeze : tie.Need-sub-freeze
-sub-freeze c = search needs
-
-part-freeze-start : tie.Need-part-freeze-start
-part-freeze-start c = search needs
-
-part-freeze-end : tie.Need-part-freeze-end
-part-freeze-end c = search needs
-
 freeze-requires : tie.Need-freeze-requires
 freeze-requires c κs = let a = c .before .before .before .args in lent-room (now (a .pool)) (a .k) (omega arith)
-
-same-length : tie.Need-same-length
-same-length c = search needs
 
 returns-2 : tie.Need-returns-2
 returns-2 c =
@@ -51,11 +33,11 @@ freeze-at-spec =
     tie.close
     (tie.spec
     returns
-    mul-at
-    mul-freeze
-    sub-freeze
-    part-freeze-start
-    part-freeze-end
+    (λ c. search needs)
+    (λ c. search needs)
+    (λ c. search needs)
+    (λ c. search needs)
+    (λ c. search needs)
     freeze-requires
-    same-length
+    (λ c. search needs)
     returns-2)

@@ -6,15 +6,9 @@ use borrow.Author.Needs.{needs}
 use Rattle.pool.proofs.buckets.has_at.Statement.{statement}
 use Rattle.pool.proofs.buckets.has_at.Tie as tie
 
-load-requires : tie.Need-load-requires
-load-requires c κs = search needs
-
-has-requires : tie.Need-has-requires
-has-requires c κs = search needs
-
 returns : tie.Need-returns
 returns c =
     c .has .ensures ∙ ap (λ (b : Bucket). found (c .before .before .before .args .tag) (tags-in (b .words))) (c .before .load .ensures)
 
 pub has-at-spec : {M : Type 1} → statement M
-has-at-spec = tie.close (tie.spec load-requires has-requires returns)
+has-at-spec = tie.close (tie.spec (λ c κs. search needs) (λ c κs. search needs) returns)

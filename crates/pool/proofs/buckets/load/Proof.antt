@@ -14,21 +14,6 @@ use Rattle.pool.proofs.buckets.load.Tie as tie
 returns : tie.Need-returns
 returns c = sym (bucket-past (now (c .before .before .args .pool)) (c .before .before .args .k) (c .if1 .taken))
 
-mul-at : tie.Need-mul-at
-mul-at c = search needs
-
-mul-front : tie.Need-mul-front
-mul-front c = search needs
-
-sub-front : tie.Need-sub-front
-sub-front c = search needs
-
-part-front-start : tie.Need-part-front-start
-part-front-start c = search needs
-
-part-front-end : tie.Need-part-front-end
-part-front-end c = search needs
-
 front-requires : tie.Need-front-requires
 front-requires c κs =
     rw (
@@ -48,10 +33,10 @@ load-spec =
     tie.close
     (tie.spec
     returns
-    mul-at
-    mul-front
-    sub-front
-    part-front-start
-    part-front-end
+    (λ c. search needs)
+    (λ c. search needs)
+    (λ c. search needs)
+    (λ c. search needs)
+    (λ c. search needs)
     front-requires
     returns-2)

@@ -18,26 +18,8 @@ returns c =
     let past = c .if1 .taken in
     (sym (remove-past p (a .k) past (a .tag)), sym (store-past p (a .k) past (removed (bucket-at p (a .k)) (a .tag) .bucket)))
 
-mul-at : tie.Need-mul-at
-mul-at c = search needs
-
-mul-remove : tie.Need-mul-remove
-mul-remove c = search needs
-
-sub-remove : tie.Need-sub-remove
-sub-remove c = search needs
-
-part-remove-start : tie.Need-part-remove-start
-part-remove-start c = search needs
-
-part-remove-end : tie.Need-part-remove-end
-part-remove-end c = search needs
-
 remove-requires : tie.Need-remove-requires
 remove-requires c κs = let a = c .before .before .before .args in lent-room (now (a .pool)) (a .k) (omega arith)
-
-same-length : tie.Need-same-length
-same-length c = search needs
 
 returns-2 : tie.Need-returns-2
 returns-2 c =
@@ -54,11 +36,11 @@ remove-at-spec =
     tie.close
     (tie.spec
     returns
-    mul-at
-    mul-remove
-    sub-remove
-    part-remove-start
-    part-remove-end
+    (λ c. search needs)
+    (λ c. search needs)
+    (λ c. search needs)
+    (λ c. search needs)
+    (λ c. search needs)
     remove-requires
-    same-length
+    (λ c. search needs)
     returns-2)

@@ -13,26 +13,8 @@ returns : tie.Need-returns
 returns c =
     sym (store-past (now (c .before .before .args .pool)) (c .before .before .args .k) (c .if1 .taken) (c .before .before .args .b))
 
-mul-at : tie.Need-mul-at
-mul-at c = search needs
-
-mul-store : tie.Need-mul-store
-mul-store c = search needs
-
-sub-store : tie.Need-sub-store
-sub-store c = search needs
-
-part-store-start : tie.Need-part-store-start
-part-store-start c = search needs
-
-part-store-end : tie.Need-part-store-end
-part-store-end c = search needs
-
 store-requires : tie.Need-store-requires
 store-requires c κs = let a = c .before .before .before .args in lent-room (now (a .pool)) (a .k) (omega arith)
-
-same-length : tie.Need-same-length
-same-length c = search needs
 
 returns-2 : tie.Need-returns-2
 returns-2 c =
@@ -47,11 +29,11 @@ store-at-spec =
     tie.close
     (tie.spec
     returns
-    mul-at
-    mul-store
-    sub-store
-    part-store-start
-    part-store-end
+    (λ c. search needs)
+    (λ c. search needs)
+    (λ c. search needs)
+    (λ c. search needs)
+    (λ c. search needs)
     store-requires
-    same-length
+    (λ c. search needs)
     returns-2)

@@ -4,24 +4,6 @@ use borrow.Author.Needs.{needs}
 use Rattle.timeline.proofs.rows.column.Statement.{statement}
 use Rattle.timeline.proofs.rows.column.Tie as tie
 
-mark-requires : tie.Need-mark-requires
-mark-requires c κs = search needs
-
-stands-first-requires : tie.Need-stands-first-requires
-stands-first-requires c κs = search needs
-
-stands-second-requires : tie.Need-stands-second-requires
-stands-second-requires c κs = search needs
-
-slice-aggregate-all-bytes : tie.Need-slice-aggregate-all-bytes
-slice-aggregate-all-bytes c = search needs
-
-all-bytes-requires : tie.Need-all-bytes-requires
-all-bytes-requires c κs = search needs
-
-same-length : tie.Need-same-length
-same-length c = search needs
-
 returns : tie.Need-returns
 unfolding column
 returns c =
@@ -35,10 +17,10 @@ pub column-spec : {M : Type 1} → statement M
 column-spec =
     tie.close
     (tie.spec
-    mark-requires
-    stands-first-requires
-    stands-second-requires
-    slice-aggregate-all-bytes
-    all-bytes-requires
-    same-length
+    (λ c κs. search needs)
+    (λ c κs. search needs)
+    (λ c κs. search needs)
+    (λ c. search needs)
+    (λ c κs. search needs)
+    (λ c. search needs)
     returns)

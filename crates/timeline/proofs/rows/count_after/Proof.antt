@@ -5,12 +5,6 @@ use borrow.Author.Needs.{needs}
 use Rattle.timeline.proofs.rows.count_after.Statement.{statement}
 use Rattle.timeline.proofs.rows.count_after.Tie as tie
 
-reads-events-requires : tie.Need-reads-events-requires
-reads-events-requires c κs = search needs
-
-counted-requires : tie.Need-counted-requires
-counted-requires c κs = search needs
-
 returns : tie.Need-returns
 unfolding count-after
 returns c =
@@ -25,4 +19,4 @@ returns-2 c =
     rw (sym (at-reads-events .reads-events .ensures) ∙ c .if1 .left)
 
 pub count-after-spec : {M : Type 1} → statement M
-count-after-spec = tie.close (tie.spec reads-events-requires counted-requires returns returns-2)
+count-after-spec = tie.close (tie.spec (λ c κs. search needs) (λ c κs. search needs) returns returns-2)

@@ -4,21 +4,6 @@ use borrow.Author.Needs.{needs}
 use Rattle.timeline.proofs.rows.counted.Statement.{statement}
 use Rattle.timeline.proofs.rows.counted.Tie as tie
 
-enum-told : tie.Need-enum-told
-enum-told c = search needs
-
-one-more-requires : tie.Need-one-more-requires
-one-more-requires c κs = search needs
-
-enum-told-2 : tie.Need-enum-told-2
-enum-told-2 c = search needs
-
-one-more-requires-2 : tie.Need-one-more-requires-2
-one-more-requires-2 c κs = search needs
-
-enum-told-3 : tie.Need-enum-told-3
-enum-told-3 c = search needs
-
 returns : tie.Need-returns
 unfolding counted
 returns c =
@@ -39,11 +24,11 @@ pub counted-spec : {M : Type 1} → statement M
 counted-spec =
     tie.close
     (tie.spec
-    enum-told
-    one-more-requires
-    enum-told-2
-    one-more-requires-2
-    enum-told-3
+    (λ c. search needs)
+    (λ c κs. search needs)
+    (λ c. search needs)
+    (λ c κs. search needs)
+    (λ c. search needs)
     returns
     returns-2
     returns-3)

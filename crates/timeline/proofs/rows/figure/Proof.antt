@@ -9,15 +9,9 @@ returns : tie.Need-returns
 unfolding figure
 returns c = rw (eq-eqb _ _ (c .if1 .taken))
 
-cast-result : tie.Need-cast-result
-cast-result c = search needs
-
-add-result : tie.Need-add-result
-add-result c = search needs
-
 returns-2 : tie.Need-returns-2
 unfolding figure
 returns-2 c = rw (ne-eqb _ _ (c .if1 .left))
 
 pub figure-spec : {M : Type 1} → statement M
-figure-spec = tie.close (tie.spec returns cast-result add-result returns-2)
+figure-spec = tie.close (tie.spec returns (λ c. search needs) (λ c. search needs) returns-2)

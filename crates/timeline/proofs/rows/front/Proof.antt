@@ -8,21 +8,6 @@ use borrow.Author.Needs.{needs}
 use Rattle.timeline.proofs.rows.front.Statement.{statement}
 use Rattle.timeline.proofs.rows.front.Tie as tie
 
-reads-events-requires : tie.Need-reads-events-requires
-reads-events-requires c κs = search needs
-
-reads-events-requires-2 : tie.Need-reads-events-requires-2
-reads-events-requires-2 c κs = search needs
-
-heading-of-requires : tie.Need-heading-of-requires
-heading-of-requires c κs = search needs
-
-columns-of-requires : tie.Need-columns-of-requires
-columns-of-requires c κs = search needs
-
-same-length : tie.Need-same-length
-same-length c = search needs
-
 returns : tie.Need-returns
 unfolding front
 returns c =
@@ -44,10 +29,10 @@ pub front-spec : {M : Type 1} → statement M
 front-spec =
     tie.close
     (tie.spec
-    reads-events-requires
-    reads-events-requires-2
-    heading-of-requires
-    columns-of-requires
-    same-length
+    (λ c κs. search needs)
+    (λ c κs. search needs)
+    (λ c κs. search needs)
+    (λ c κs. search needs)
+    (λ c. search needs)
     returns
     returns-2)

@@ -6,24 +6,6 @@ use borrow.Author.Needs.{needs}
 use Rattle.timeline.proofs.rows.heading.Statement.{statement}
 use Rattle.timeline.proofs.rows.heading.Tie as tie
 
-slice-aggregate-all-bytes : tie.Need-slice-aggregate-all-bytes
-slice-aggregate-all-bytes c = search needs
-
-all-bytes-requires : tie.Need-all-bytes-requires
-all-bytes-requires c κs = search needs
-
-task-names-requires : tie.Need-task-names-requires
-task-names-requires c κs = search needs
-
-slice-aggregate-all-bytes-2 : tie.Need-slice-aggregate-all-bytes-2
-slice-aggregate-all-bytes-2 c = search needs
-
-all-bytes-requires-2 : tie.Need-all-bytes-requires-2
-all-bytes-requires-2 c κs = search needs
-
-same-length : tie.Need-same-length
-same-length c = search needs
-
 returns : tie.Need-returns
 unfolding heading
 returns c =
@@ -38,10 +20,10 @@ pub heading-spec : {M : Type 1} → statement M
 heading-spec =
     tie.close
     (tie.spec
-    slice-aggregate-all-bytes
-    all-bytes-requires
-    task-names-requires
-    slice-aggregate-all-bytes-2
-    all-bytes-requires-2
-    same-length
+    (λ c. search needs)
+    (λ c κs. search needs)
+    (λ c κs. search needs)
+    (λ c. search needs)
+    (λ c κs. search needs)
+    (λ c. search needs)
     returns)

@@ -10,12 +10,6 @@ returns : tie.Need-returns
 unfolding heading-of append
 returns c = rw (c .if1 .taken)
 
-heading-requires : tie.Need-heading-requires
-heading-requires c κs = search needs
-
-same-length : tie.Need-same-length
-same-length c = search needs
-
 returns-2 : tie.Need-returns-2
 unfolding heading-of
 returns-2 c =
@@ -24,4 +18,4 @@ returns-2 c =
     rw (at-if1 .if1 .left) (at-heading .heading .ensures)
 
 pub heading-of-spec : {M : Type 1} → statement M
-heading-of-spec = tie.close (tie.spec returns heading-requires same-length returns-2)
+heading-of-spec = tie.close (tie.spec returns (λ c κs. search needs) (λ c. search needs) returns-2)

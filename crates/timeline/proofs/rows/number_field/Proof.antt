@@ -4,33 +4,6 @@ use borrow.Author.Needs.{needs}
 use Rattle.timeline.proofs.rows.number_field.Statement.{statement}
 use Rattle.timeline.proofs.rows.number_field.Tie as tie
 
-figure-requires : tie.Need-figure-requires
-figure-requires c κs = search needs
-
-figure-requires-2 : tie.Need-figure-requires-2
-figure-requires-2 c κs = search needs
-
-figure-requires-3 : tie.Need-figure-requires-3
-figure-requires-3 c κs = search needs
-
-figure-requires-4 : tie.Need-figure-requires-4
-figure-requires-4 c κs = search needs
-
-figure-requires-5 : tie.Need-figure-requires-5
-figure-requires-5 c κs = search needs
-
-figure-requires-6 : tie.Need-figure-requires-6
-figure-requires-6 c κs = search needs
-
-slice-aggregate-all-bytes : tie.Need-slice-aggregate-all-bytes
-slice-aggregate-all-bytes c = search needs
-
-all-bytes-requires : tie.Need-all-bytes-requires
-all-bytes-requires c κs = search needs
-
-same-length : tie.Need-same-length
-same-length c = search needs
-
 returns : tie.Need-returns
 unfolding number-field
 returns c =
@@ -54,13 +27,13 @@ pub number-field-spec : {M : Type 1} → statement M
 number-field-spec =
     tie.close
     (tie.spec
-    figure-requires
-    figure-requires-2
-    figure-requires-3
-    figure-requires-4
-    figure-requires-5
-    figure-requires-6
-    slice-aggregate-all-bytes
-    all-bytes-requires
-    same-length
+    (λ c κs. search needs)
+    (λ c κs. search needs)
+    (λ c κs. search needs)
+    (λ c κs. search needs)
+    (λ c κs. search needs)
+    (λ c κs. search needs)
+    (λ c. search needs)
+    (λ c κs. search needs)
+    (λ c. search needs)
     returns)

@@ -6,15 +6,6 @@ use borrow.Author.Needs.{needs}
 use Rattle.timeline.proofs.rows.row_columns.Statement.{statement}
 use Rattle.timeline.proofs.rows.row_columns.Tie as tie
 
-number-field-requires : tie.Need-number-field-requires
-number-field-requires c κs = search needs
-
-task-columns-requires : tie.Need-task-columns-requires
-task-columns-requires c κs = search needs
-
-same-length : tie.Need-same-length
-same-length c = search needs
-
 returns : tie.Need-returns
 unfolding row-columns
 returns c =
@@ -27,4 +18,4 @@ returns c =
 
 pub row-columns-spec : {M : Type 1} → statement M
 row-columns-spec =
-    tie.close (tie.spec number-field-requires task-columns-requires same-length returns)
+    tie.close (tie.spec (λ c κs. search needs) (λ c κs. search needs) (λ c. search needs) returns)

@@ -24,35 +24,17 @@ abbrev μ-loop : tie.MeasureT-loop
 eight : (c : tie.Start Inv-loop μ-loop) → length (c .args .t5 .task) ≡ 8
 eight c = search (needs, length-mapped)
 
-shown-requires : tie.Need-shown-requires Inv-loop μ-loop
-shown-requires c κs = search needs
-
 loop-holds : tie.Need-loop-holds Inv-loop μ-loop
 loop-holds c =
     let entry = c .before .before in
     let a = entry .args in
     (columns-from (a .tasks) (a .k) (a .t5 .task) _ _ (c .shown .ensures), refl)
 
-cast-c : tie.Need-cast-c Inv-loop μ-loop
-cast-c c = search needs
-
-mul-c : tie.Need-mul-c Inv-loop μ-loop
-mul-c c = search needs
-
 element-copy-out-c : tie.Need-element-copy-out-c Inv-loop μ-loop
 element-copy-out-c c =
     let at-shown = c .before .before in
     let entry = at-shown .before .before in
     omega (arith, c .loop-test .taken, at-shown .shown .ensures, eight entry)
-
-column-requires : tie.Need-column-requires Inv-loop μ-loop
-column-requires c κs = search needs
-
-add-j : tie.Need-add-j Inv-loop μ-loop
-add-j c = search needs
-
-loop-less : tie.Need-loop-less Inv-loop μ-loop
-loop-less c = search needs
 
 loop-again : tie.Need-loop-again Inv-loop μ-loop
 unfolding idle
@@ -89,14 +71,14 @@ task-columns-spec =
     (tie.spec
     Inv-loop
     μ-loop
-    shown-requires
+    (λ c κs. search needs)
     loop-holds
-    cast-c
-    mul-c
+    (λ c. search needs)
+    (λ c. search needs)
     element-copy-out-c
-    column-requires
-    add-j
-    loop-less
+    (λ c κs. search needs)
+    (λ c. search needs)
+    (λ c. search needs)
     loop-again
     same-length
     returns)

@@ -17,22 +17,10 @@ Inv-loop buf₀ at tasks most to₀ j₀ buf to j =
 abbrev μ-loop : tie.MeasureT-loop
 μ-loop buf₀ at tasks most to₀ j₀ buf to j = most - j
 
-shown-requires : tie.Need-shown-requires Inv-loop μ-loop
-shown-requires c κs = search needs
-
 loop-holds : tie.Need-loop-holds Inv-loop μ-loop
 loop-holds c =
     let entry = c .before .before in
     (names-from (entry .args .tasks) _ _ (c .shown .ensures), refl)
-
-task-name-requires : tie.Need-task-name-requires Inv-loop μ-loop
-task-name-requires c κs = search needs
-
-add-j : tie.Need-add-j Inv-loop μ-loop
-add-j c = search needs
-
-loop-less : tie.Need-loop-less Inv-loop μ-loop
-loop-less c = search needs
 
 loop-again : tie.Need-loop-again Inv-loop μ-loop
 loop-again c =
@@ -63,11 +51,11 @@ task-names-spec =
     (tie.spec
     Inv-loop
     μ-loop
-    shown-requires
+    (λ c κs. search needs)
     loop-holds
-    task-name-requires
-    add-j
-    loop-less
+    (λ c κs. search needs)
+    (λ c. search needs)
+    (λ c. search needs)
     loop-again
     same-length
     returns)
