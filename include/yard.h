@@ -14,7 +14,7 @@
  *     out      the answer's words, as many as each function says
  *   How many records: with T tasks, YARD_ENOUGH_NODES(T) and YARD_ENOUGH_BUCKETS(T) are never all in use, so that no step is refused with 7. With the
  *   state that is 35,844 bytes for one task, 54,068 for two, 72,292 for three, 90,516 for four. Every call but yard_open and schedule_run first reads all
- *   of both pools, to see that nothing is spoilt: that is nearly all that a step costs (README, Speed). So lend no more than you need; yard_run and
+ *   of both pools, to see that nothing is spoilt: that is nearly all that a step costs (docs/SPEED.md). So lend no more than you need; yard_run and
  *   yard_turns do it once for many events or turns.
  *   A length is a uint64_t on every target and not a size_t: the proof is of 64-bit lengths, and the code for a 32-bit board takes them so.
  *   A pointer is aligned as a uint32_t and points to that many words. No two slices of a call overlap. Only a slice of length 0 may be null (it is
@@ -38,8 +38,8 @@
  *   with 8 changes no word of the state and the pools either, and the next turn goes to the same task: leave the loop.
  *
  * STACK
- *   The most bytes seen on x86-64 (examples/c/stack.c; README has boards): yard_open 888, yard_start_.. 1,400, yard_show 1,768, yard_step 4,952, yard_list
- *   5,256, yard_turn 5,288, yard_run 6,024, schedule_run 7,144, yard_turns 7,176. Up to 7,688 on a Cortex-M0. No function recurses.
+ *   The most bytes seen on x86-64 (examples/c/stack.c; docs/SPEED.md has boards): yard_start_.. 548, yard_open 888, yard_show 1,220, yard_step 4,968,
+ *   yard_list 5,320, yard_turn 5,352, yard_run 6,024, schedule_run 7,144, yard_turns 7,192. Up to 7,712 on a Cortex-M0. No function recurses.
  *
  * THE STATE'S WORDS (docs/FITTERS.md says what they mean)
  *   0 tasks   1 version   2 tag 0 withdrawn, 0 or 1   3 node records   4 bucket records   5 head   6 node last taken   7 bucket last taken
