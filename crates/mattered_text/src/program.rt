@@ -45,7 +45,7 @@ fn take_given(t: Standing, q: Input, events: &mut [u32]) -> Standing
 
 // What is printed for an input: standard input if `reads`, else the bytes of the room. One line of at most 28 bytes (`answer-short`). Reads until the
 // input ends, or a line fixes the answer.
-pub fn text(reads: bool, room: &mut [u8], events: &mut [u32], out: &mut [u8]) -> Text
+fn text(reads: bool, room: &mut [u8], events: &mut [u32], out: &mut [u8]) -> Text
     requires { ⌜ (1024 ≤ length (now events)) × (28 ≤ length (now out)) ⌝ }
     ensures { λ r. ⌜ Prints mattered-answer reads (now (room .entry)) (r .input) (take (r .len) (now (out .exit))) ⌝ }
     ensures { λ r. ⌜ r .len ≤ length (now (out .exit)) ⌝ }

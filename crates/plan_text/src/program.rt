@@ -8,7 +8,7 @@ use stdio::output::Text;
 
 // What is printed for an input: standard input if `reads`, else the bytes of the room. It has at most 3,448 bytes (`answer-bound`), and is printed once the
 // input ends or a line is outside the grammar.
-pub fn text(reads: bool, room: &mut [u8], out: &mut [u8]) -> Text
+fn text(reads: bool, room: &mut [u8], out: &mut [u8]) -> Text
     requires { ⌜ 3448 ≤ length (now out) ⌝ }
     ensures { λ r. ⌜ Prints plan-transcript reads (now (room .entry)) (r .input) (take (r .len) (now (out .exit))) ⌝ }
     ensures { λ r. ⌜ r .len ≤ length (now (out .exit)) ⌝ }

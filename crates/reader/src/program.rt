@@ -227,7 +227,7 @@ fn print(buf: &mut [u8], v: Verdict) -> usize
 }
 
 // What is printed for an input: standard input if `reads`, else the bytes of the room.
-pub fn text(reads: bool, room: &mut [u8], ns: &mut [u32], bs: &mut [u32], out: &mut [u8]) -> Text
+fn text(reads: bool, room: &mut [u8], ns: &mut [u32], bs: &mut [u32], out: &mut [u8]) -> Text
     requires { ⌜ (2176 ≤ length (now ns)) × (13200 ≤ length (now bs)) × (32 ≤ length (now out)) ⌝ }
     ensures { λ t. ⌜ Prints verify-output reads (now (room .entry)) (t .input) (take (t .len) (now (out .exit))) ⌝ }
     ensures { λ t. ⌜ t .len ≤ length (now (out .exit)) ⌝ }

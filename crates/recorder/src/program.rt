@@ -96,7 +96,7 @@ fn finish(g: Reading, ns: &mut [u32], bs: &mut [u32], out: &mut [u8]) -> Text
 
 // What is written for an input: standard input if `reads`, else the bytes of the room. The room for the output holds all that one read can have
 // written, and the end.
-pub fn text(reads: bool, room: &mut [u8], ns: &mut [u32], bs: &mut [u32], out: &mut [u8]) -> Text
+fn text(reads: bool, room: &mut [u8], ns: &mut [u32], bs: &mut [u32], out: &mut [u8]) -> Text
     requires { ⌜ (2176 ≤ length (now ns)) × (13200 ≤ length (now bs)) × (longest-pair * length (now room) + longest-last ≤ length (now out)) ⌝ }
     ensures { λ t. ⌜ Prints recorder-output reads (now (room .entry)) (t .input) (take (t .len) (now (out .exit))) ⌝ }
     ensures { λ t. ⌜ t .len ≤ length (now (out .exit)) ⌝ }

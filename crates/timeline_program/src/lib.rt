@@ -102,7 +102,7 @@ fn finish(
 }
 
 // What is printed for an input: standard input if `reads`, else the bytes of the room.
-pub fn text(reads: bool, room: &mut [u8], ns: &mut [u32], bs: &mut [u32], out: &mut [u8]) -> Text
+fn text(reads: bool, room: &mut [u8], ns: &mut [u32], bs: &mut [u32], out: &mut [u8]) -> Text
     requires { ⌜ longest-rows * length (now room) + longest-end ≤ length (now out) ⌝ }
     ensures { λ r. ⌜ Prints (timeline-over (now (ns .entry)) (now (bs .entry))) reads (now (room .entry)) (r .input) (take (r .len) (now (out .exit))) ⌝ }
     ensures { λ r. ⌜ r .len ≤ length (now (out .exit)) ⌝ }
