@@ -1,7 +1,7 @@
 /* The cooperative bucket for C: a set of 32-bit tags that up to eight tasks change by helping one another (Figure 6 of Liu, Zhang and Spear), moved one
  * line at a time.
  *
- * Link libcoop_c.a (`rt staticlib coop_c` writes target/staticlib/libcoop_c.a), and for coop_schedule_run libcoop_schedule.a, beside it or alone. They
+ * Link libcoop_c.a (`programs/library coop_c` writes target/staticlib/libcoop_c.a), and for coop_schedule_run libcoop_schedule.a, beside it or alone. They
  * need memcpy and memset, allocate nothing, keep no state of their own, do not recurse and always return. Every function is total: any numbers and any
  * words are allowed, and each answers as is said here. Each is proved equal to its definition (crates/coop_c/specs/Calls.antt, for the schedule
  * crates/coop_schedule/specs/Encoding.antt). Nothing checks this header against the source.
@@ -30,8 +30,8 @@
  *   one of another length, and answered so; coop_schedule_run takes no events, no outputs). The caller may copy or store the words between calls and go on
  *   with the copy, but what it changes is spoilt memory: it is either refused with 8 or taken for what it then is.
  *   One call at a time: calls for the same words from an interrupt or another thread must wait for each other.
- *   Stack, measured on x86-64 over 300,000 calls (examples/c/coop_stack.c): coop_schedule_run 13,592 bytes, coop_step 12,776, coop_open 5,896,
- *   coop_start_.. 5,432, coop_show 3,032.
+ *   Stack, measured on x86-64 over 300,000 calls (examples/c/coop_stack.c): coop_step 21,224 bytes, coop_schedule_run 21,016,
+ *   coop_start_.. 7,080, coop_open 5,384, coop_show 3,800.
  *
  * WHAT A FUNCTION GIVES
  *   A number below COOP_REFUSED, or COOP_REFUSED and a refusal's number:

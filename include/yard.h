@@ -1,6 +1,6 @@
 /* The yard set for C: a resizable hash set of 32-bit tags, shared by up to eight tasks that are moved one line at a time.
  *
- * Link libyard_c.a (`rt staticlib yard_c` writes target/staticlib/libyard_c.a, examples/firmware/build one for a board), and for schedule_run
+ * Link libyard_c.a (`programs/library yard_c` writes target/staticlib/libyard_c.a, examples/firmware/build one for a board), and for schedule_run
  * libschedule_c.a, beside it or alone. They need memcpy and memset, on a 32-bit board also 64-bit division, allocate nothing and keep no state of their
  * own, and their functions always return. Every function is total: any numbers and any words are allowed, and each answers as is said here. Each is proved
  * equal to its definition (crates/c_calls/specs: Calls, Runs; crates/schedule_c/specs: Whole). examples/firmware/build compares the parameters declared
@@ -38,8 +38,8 @@
  *   with 8 changes no word of the state and the pools either, and the next turn goes to the same task: leave the loop.
  *
  * STACK
- *   The most bytes seen on x86-64 (examples/c/stack.c; docs/SPEED.md has boards): yard_start_.. 548, yard_open 888, yard_show 1,220, yard_step 4,968,
- *   yard_list 5,320, yard_turn 5,352, yard_run 6,024, schedule_run 7,144, yard_turns 7,192. Up to 7,712 on a Cortex-M0. No function recurses.
+ *   The most bytes seen on x86-64 (examples/c/stack.c; docs/SPEED.md has boards): yard_start_.. 576, yard_show 1,232, yard_open 4,232, yard_step 5,448,
+ *   yard_turn 5,864, yard_list 6,104, yard_run 6,520, yard_turns 7,704, schedule_run 8,216. Up to 8,328 on a Cortex-M0. No function recurses.
  *
  * THE STATE'S WORDS (docs/FITTERS.md says what they mean)
  *   0 tasks   1 version   2 tag 0 withdrawn, 0 or 1   3 node records   4 bucket records   5 head   6 node last taken   7 bucket last taken

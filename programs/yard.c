@@ -1,11 +1,11 @@
-/* yard: the programs as one command, with their exit statuses: `yard COMMAND [FILE]`, or `yardCOMMAND [FILE]` by a link to it. programs/build makes it.
-   Each program is a function of the proved library, which reads standard input, writes standard output and standard error and gives the status; here
-   are only the arguments, the file and the texts of help. Nothing is allocated. */
+/* yard: the programs as one command, with their exit statuses: `yard COMMAND [FILE]`, or `yardCOMMAND [FILE]` by a link to it. programs/build makes it, and
+   beside it yard-program, the proved Rattle program of the crate yard, which reads standard input, writes standard output and standard error and ends with
+   the status; here are only the arguments, the file and the texts of help. Nothing is allocated. */
 #define _XOPEN_SOURCE 700
 #include <errno.h>
 #include <fcntl.h>
+#include <limits.h>
 #include <signal.h>
-#include <stdint.h>
 #include <string.h>
 #include <sys/stat.h>
 #include <unistd.h>
@@ -16,35 +16,27 @@
 #define YARD_VERSION "unknown"
 #endif
 
-int32_t yardrun(void);
-int32_t yarddump(void);
-int32_t yardtimeline(void);
-int32_t yardrecord(void);
-int32_t yardverify(void);
-int32_t yardnotes(void);
-int32_t yardplan(void);
-int32_t yardgame(void);
-int32_t yardmattered(void);
+/* lies in the folder of this one */
+#define PROGRAM "yard-program"
 
-/* docs/FITTERS.md has all four; 1 and 2 are given by the library alone */
+/* docs/FITTERS.md has all four; 1 and 2 are given by the program alone */
 enum { YES = 0, TROUBLE = 3 };
 
 struct command {
     const char *name;
-    int32_t (*run)(void);
     const char *help;
 };
 
 static const struct command commands[] = {
-    { "run", yardrun, HELP_RUN },
-    { "dump", yarddump, HELP_DUMP },
-    { "timeline", yardtimeline, HELP_TIMELINE },
-    { "record", yardrecord, HELP_RECORD },
-    { "verify", yardverify, HELP_VERIFY },
-    { "notes", yardnotes, HELP_NOTES },
-    { "plan", yardplan, HELP_PLAN },
-    { "game", yardgame, HELP_GAME },
-    { "mattered", yardmattered, HELP_MATTERED },
+    { "run", HELP_RUN },
+    { "dump", HELP_DUMP },
+    { "timeline", HELP_TIMELINE },
+    { "record", HELP_RECORD },
+    { "verify", HELP_VERIFY },
+    { "notes", HELP_NOTES },
+    { "plan", HELP_PLAN },
+    { "game", HELP_GAME },
+    { "mattered", HELP_MATTERED },
 };
 
 /* Writes a whole text; 0 if a write failed. */
@@ -128,12 +120,9 @@ static int take_input(const char *file)
     return 0;
 }
 
-static int run_file(const struct command *c, const char *file)
+/* Says what is wrong with a file for a command; gives the status. */
+static int trouble(const struct command *c, const char *file, int wrong)
 {
-    int wrong = take_input(file);
-
-    if (wrong == 0)
-        return c->run();
     put(2, "yard ");
     put(2, c->name);
     put(2, ": ");
@@ -144,11 +133,60 @@ static int run_file(const struct command *c, const char *file)
     return TROUBLE;
 }
 
+/* Puts in the place of a closed descriptor one that fails, so that nothing which the program opens comes to stand there. */
+static void hold(int fd, int mode)
+{
+    if (fcntl(fd, F_GETFD) < 0)
+        open("/dev/null", mode);
+}
+
+/* The program's path, next to this one's: 0, or what was wrong. */
+static int program_path(char *path, size_t size)
+{
+    ssize_t n = readlink("/proc/self/exe", path, size);
+    char *slash;
+
+    if (n < 0)
+        return errno;
+    if ((size_t)n == size)
+        return ENAMETOOLONG;
+    path[n] = 0;
+    slash = strrchr(path, '/');
+    if (slash == NULL || (size_t)(slash + 1 - path) + sizeof PROGRAM > size)
+        return ENAMETOOLONG;
+    memcpy(slash + 1, PROGRAM, sizeof PROGRAM);
+    return 0;
+}
+
+/* Runs a command over standard input: the program takes this one's place. Gives a status only where it cannot be started. */
+static int run(const struct command *c)
+{
+    static char path[PATH_MAX];
+    char *const arguments[] = { "yard", (char *)c->name, NULL };
+    char *const environment[] = { NULL };
+    int wrong = program_path(path, sizeof path);
+
+    if (wrong != 0)
+        return trouble(c, PROGRAM, wrong);
+    hold(0, O_WRONLY);
+    hold(1, O_RDONLY);
+    hold(2, O_RDONLY);
+    execve(path, arguments, environment);
+    return trouble(c, path, errno);
+}
+
+static int run_file(const struct command *c, const char *file)
+{
+    int wrong = take_input(file);
+
+    return wrong == 0 ? run(c) : trouble(c, file, wrong);
+}
+
 /* A command with the arguments after its name. */
 static int run_command(const struct command *c, int count, char **arguments)
 {
     if (count == 0)
-        return c->run();
+        return run(c);
     if (count > 1)
         return misused(c);
     if (strcmp(arguments[0], "--help") == 0)
@@ -182,11 +220,11 @@ int main(int argc, char **argv)
     const struct command *c = argc > 0 ? linked(argv[0]) : NULL;
 
     /* A write to a pipe that nobody reads, or past the largest size of a file, is then a write that fails, with a line on standard error and a status, and
-       not the end of the program by a signal. No handler is installed for any signal: so the system itself goes on with a read or a write during which
-       the program was stopped and continued, and none is given back as interrupted. */
+       not the end of the program by a signal: what is passed over here stays so in the program that takes this one's place. No handler is installed for any
+       signal: so the system itself goes on with a read or a write during which the program was stopped and continued, and none is given back as interrupted. */
     signal(SIGPIPE, SIG_IGN);
     signal(SIGXFSZ, SIG_IGN);
     if (argc < 2)
-        return c == NULL ? misused(NULL) : c->run();
+        return c == NULL ? misused(NULL) : run(c);
     return c == NULL ? run_yard(argc - 1, argv + 1) : run_command(c, argc - 1, argv + 1);
 }

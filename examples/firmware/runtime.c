@@ -63,6 +63,7 @@ void __aeabi_memcpy4(void *to, const void *from, size_t bytes) { memcpy(to, from
 void __aeabi_memcpy8(void *to, const void *from, size_t bytes) { memcpy(to, from, bytes); }
 void __aeabi_memclr(void *to, size_t bytes) { memset(to, 0, bytes); }
 void __aeabi_memclr4(void *to, size_t bytes) { memset(to, 0, bytes); }
+void __aeabi_memclr8(void *to, size_t bytes) { memset(to, 0, bytes); }
 void __aeabi_memset(void *to, size_t bytes, int byte) { memset(to, byte, bytes); }
 
 /* quotient in r0 and r1, rest in r2 and r3 */

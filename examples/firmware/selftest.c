@@ -71,7 +71,7 @@ static void call(void)
 #ifdef BOARD
 #include "board.h"
 
-enum { STACK = 2048 };
+enum { STACK = 4096 };
 static const char *const names[FUNCTIONS] = {"", "yard_open", "yard_start_..", "yard_step", "yard_turn", "yard_list", "yard_show",
                                              "yard_run", "yard_turns", "schedule_run"};
 static uint32_t stack[STACK] __attribute__((aligned(16)));

@@ -1,5 +1,5 @@
 -- Paper 02, U11, its first promise, as a type: "For T tasks, 2T + 2 nodes and 32 × (2T + 2) + 4T buckets always suffice: opened with at
--- least these, no schedule meets refusal 7." Proved in Theorems; Examples has schedules that do meet it. Assumes nothing.
+-- least these, no schedule meets refusal 7." Proved in proofs/Theorems; Examples has schedules that do meet it. Assumes nothing.
 use Rattle.std.specs.Prelude.{ℕ, ◌+◌, ◌*◌, ◌≤◌, ◌≡◌, List, [], ◌∷◌, length}
 use Rattle.spec.specs.declared.Config.{Config}
 use Rattle.spec.specs.declared.Output.{Output}

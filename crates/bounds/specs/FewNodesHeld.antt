@@ -1,14 +1,13 @@
 -- Few nodes are held: the head, its predecessor, and two of each running task, its t and its new node or else its s. At line 27 the
 -- task that wants a node has only its t. So with every node held there are fewer than 2T + 2. Assumes nothing.
-use Rattle.std.specs.Prelude.{◌≡◌, refl, ◌⊎◌, Bool, false, ◌||◌, ℕ, zero, suc, ◌*◌, ◌-◌, ◌≤◌, ◌<◌, eqb, length}
+use Rattle.std.specs.Prelude.{◌≡◌, refl, ◌⊎◌, Bool, false, ◌||◌, ℕ, zero, suc, ◌*◌, ◌-◌, ◌≤◌, ◌<◌, eqb, length, if◌then◌else◌}
 use Rattle.std.proofs.Common.{sym, ap, ◌∙◌, inl, inr, arith, eq-eqb, ne_eqb, length-append}
 use Rattle.std.proofs.Math.Bool.{true}
 use mathlib.Core.List.{List, [], ◌∷◌, ◌++◌}
 use Rattle.std.proofs.Math.Decide.{ℕ_discrete}
 use Rattle.spec.specs.declared.Task.{Task}
-use Rattle.spec.specs.Lists.{if◌then◌else◌, member, remove_tag}
+use Rattle.spec.specs.Lists.{member, remove_tag}
 use Rattle.spec.specs.Machine.{Machine, task_of}
-use Rattle.spec.specs.Sound.{node_count}
 use Rattle.spec.specs.Words.{link, filled, pred}
 use Rattle.laws.specs.Tests.{tf, or_l, or_r}
 use Rattle.laws.specs.Lists.{member_cons, member_here, member_there, member_append}
@@ -149,7 +148,7 @@ module _ (y : Machine) (f : SoundFacts y) (chains : ShortChains y) where
       go (ends_at_t j r q) = task_listed j r (link k) (lists_t (task_of y j) k (sym q ∙ e))
 
   -- at line 27 a task has only its t: one of its two is none
-  one_spare : (p : ℕ) → (task_of y p).running ≡ true → (task_of y p).line ≡ 27 → member 0 (node_list y) ≡ true
+  pub one_spare : (p : ℕ) → (task_of y p).running ≡ true → (task_of y p).line ≡ 27 → member 0 (node_list y) ≡ true
   unfolding task_nodes
   one_spare p r e =
       let n = (chains.each p r).no_new (λ q. omega arith) in
@@ -163,8 +162,3 @@ module _ (y : Machine) (f : SoundFacts y) (chains : ShortChains y) where
       go : (k : ℕ) → k < suc n → Dec (k ≡ 0) → member k l ≡ true
       go k lt (yes q) = rw q z
       go k lt (no d) = let e : link (k - 1) ≡ k = omega arith in rw e at (g (k - 1) (omega arith))
-
-  pub nodes_below : (p : ℕ) → (task_of y p).running ≡ true → (task_of y p).line ≡ 27 → ((k : ℕ) → k < node_count y → HeldNode y k)
-      → node_count y < enough_nodes y.state.config.tasks
-  nodes_below p r e all =
-      rw (node_list_length y) at (covers_with_0 (node_count y) (node_list y) (one_spare p r e) (λ k lt. node_listed (all k lt)))

@@ -2,7 +2,7 @@
 -- s of a running task are the head or have none; a new node has t for its predecessor. So a chain leads to no node that is not
 -- already the head, its predecessor, or some task's own. Here: the definition, and the lines that leave head and predecessors as
 -- they are. Assumes nothing.
-use Rattle.std.specs.Prelude.{◌≡◌, ◌⊎◌, Bool, true, false, ◌||◌, List, ℕ, ◌+◌, ◌*◌, eqb}
+use Rattle.std.specs.Prelude.{◌≡◌, ◌⊎◌, Bool, true, false, ◌||◌, List, ℕ, ◌+◌, ◌*◌, eqb, if◌then◌else◌}
 use Rattle.std.proofs.Math.Path.{refl}
 use Rattle.std.proofs.Common.{sym, ◌∙◌, arith}
 use Rattle.std.proofs.Math.Logic.{inl, inr}
@@ -11,7 +11,7 @@ use Rattle.std.proofs.Math.Dec.{ltb}
 use Rattle.spec.specs.declared.Task.{Task}
 use Rattle.spec.specs.declared.Answer.{Answer}
 use Rattle.spec.specs.declared.Answer.TheVariants.{Yes, No, Full, Done, Lost, Limit}
-use Rattle.spec.specs.Lists.{if◌then◌else◌, member}
+use Rattle.spec.specs.Lists.{member}
 use Rattle.spec.specs.Machine.{Machine, task_of, with_line, with_i, with_t, with_s, with_b, with_m, with_n, with_new_bucket, without_places}
 use Rattle.spec.specs.Machine.{with_state, with_buckets, with_last_bucket, state_last_bucket}
 use Rattle.spec.specs.Sound.{resizes}

@@ -28,7 +28,7 @@ use Rattle.laws.specs.SoundFacts.{SoundFacts}
 use Rattle.laws.specs.Soundness.{sound_facts, run_of}
 use Rattle.laws.specs.AfterWrites.{after_task, after_place, after_pred, after_node, apply_task}
 use Rattle.laws.specs.Held.{HeldNode, the_head, as_t, as_s, before}
-use Rattle.laws.specs.Taking.{some_node}
+use Rattle.laws.proofs.Taking.{some_node}
 use Rattle.laws.specs.StepRefusals.{StepSound, step_sound_facts, not_all_held}
 use Rattle.laws.specs.EntriesKeep.{StartOutcome, StepOutcome, start_no_task, start_running, start_withdrawn, start_accepted, start_outcome, step_no_task}
 use Rattle.laws.specs.EntriesKeep.{step_idle}
@@ -38,7 +38,7 @@ use Rattle.model.specs.Positions.{at_17, at_18, Update, at_32, at_33, at_36, Res
 use Rattle.model.specs.Positions.{resize}
 use Rattle.model.specs.Runs.{Configuration, Reachable}
 use Rattle.model.specs.PositionFacts.{PositionFacts}
-use Rattle.model.specs.Linearization.{invariant}
+use Rattle.model.proofs.Linearization.{invariant}
 use Rattle.linear.specs.KnownNodes.{named}
 use Rattle.linear.specs.Matches.{Matches, fill_line}
 use Rattle.laws.specs.StepAt.{through_t, step_table, effect_at, does_at}

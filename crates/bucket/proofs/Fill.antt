@@ -1,5 +1,6 @@
 -- What adding a tag makes of a changeable bucket, and of how many tags it has.
 -- Assumes nothing.
+use Rattle.std.specs.Prelude.{if◌then◌else◌}
 use mathlib.Core.Path.{◌≡◌, refl, sym, ap, subst}
 use mathlib.Core.List.{List, [], ◌∷◌}
 use mathlib.Core.Bool.{Bool, true, false}
@@ -11,7 +12,7 @@ use lib.Dec.{leb, ltb, eqb}
 use lib.ListN.{length, take, drop, length-take, length-drop, length-append}
 use denote.Enum.Declared.{tag_of}
 use types.Run.{OneOf}
-use Rattle.spec.specs.Lists.{if◌then◌else◌, add_tag}
+use Rattle.spec.specs.Lists.{add_tag}
 use Rattle.spec.specs.Words.{bucket_of}
 use Rattle.bucket.specs.declared.Bucket.{Bucket}
 use Rattle.bucket.specs.declared.Changed.{Changed}

@@ -1,5 +1,6 @@
 -- Laws of what the search finds.
 -- Assumes nothing.
+use Rattle.std.specs.Prelude.{if◌then◌else◌}
 use mathlib.Core.Path.{◌≡◌, refl, sym, ◌∙◌}
 use mathlib.Core.List.{List, [], ◌∷◌}
 use mathlib.Core.Bool.{Bool, true, false, false≢true}
@@ -9,7 +10,7 @@ use borrow.Author.Tests.{eq-eqb, ne_eqb, le-ltb, ltb-true, ltb-false, eqb-true, 
 use lib.Dec.{ltb, eqb}
 use lib.ListN.{length, get_or}
 use Rattle.laws.specs.Tests.{and_left, and_right}
-use Rattle.spec.specs.Lists.{if◌then◌else◌, member, ascending, add_tag}
+use Rattle.spec.specs.Lists.{member, ascending, add_tag}
 use Rattle.laws.specs.Ascending.{ascending_tail}
 use Rattle.bucket_words.proofs.Laws.{found_past, found_here, found_none}
 use Rattle.bucket.specs.Bucket.{rank, stands_at, found}

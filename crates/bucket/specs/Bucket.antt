@@ -1,7 +1,7 @@
 -- A bucket by value: what add, remove and freeze make of its 66 words, for any words.
 -- Assumes nothing.
-use Rattle.std.specs.Prelude.{List, ℕ, length, get_or, set, leb, eqb}
-use Rattle.spec.specs.Lists.{if◌then◌else◌, add_tag, remove_tag}
+use Rattle.std.specs.Prelude.{List, ℕ, length, get_or, set, leb, eqb, if◌then◌else◌}
+use Rattle.spec.specs.Lists.{add_tag, remove_tag}
 use Rattle.spec.specs.Words.{bucket_of}
 use Rattle.bucket.specs.declared.Bucket.{Bucket}
 use Rattle.bucket.specs.declared.Changed.{Changed}

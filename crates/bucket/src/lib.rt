@@ -1,5 +1,7 @@
 // A bucket of at most 64 tags, by value: 66 words. Its methods take it by value and hand back the next bucket with the answer.
 // Every contract holds for any words: what a bucket says of its tags, `tags_in` of specs/, is defined for all of them.
+#![tactic(auto)]
+
 ghost use Rattle.std.specs.Prelude.{◌≡◌, true, ◌≤◌, length, ltb};
 ghost use Rattle.spec.specs.Lists.{filter, ascending};
 ghost use Rattle.spec.specs.Words.{bucket_of};
@@ -15,13 +17,13 @@ pub const MOST_TAGS: usize = 64;
 
 const MOST_COUNT: u32 = MOST_TAGS as u32;
 
-#[derive(Drop)]
+#[derive(Clone, Copy)]
 pub struct Bucket {
     pub words: [u32; WORDS],
 }
 
 // What a bucket answers.
-#[derive(Drop)]
+#[derive(Clone, Copy)]
 pub enum Response {
     Yes,
     No,
@@ -30,7 +32,7 @@ pub enum Response {
 }
 
 // The next bucket, the answer, and how many tags the next bucket holds.
-#[derive(Drop)]
+#[derive(Clone, Copy)]
 pub struct Changed {
     pub bucket: Bucket,
     pub answer: Response,

@@ -1,7 +1,7 @@
 -- What split and union make of the tags of one bucket or two, for any words. Assumes nothing.
-use Rattle.std.specs.Prelude.{ℕ, length, leb, eqb}
+use Rattle.std.specs.Prelude.{ℕ, length, leb, eqb, if◌then◌else◌}
 use Rattle.spec.specs.declared.Config.{Config}
-use Rattle.spec.specs.Lists.{if◌then◌else◌, filter, union}
+use Rattle.spec.specs.Lists.{filter, union}
 use Rattle.spec.specs.Words.{bucket_of}
 use Rattle.spec.specs.Listed.{slot}
 use Rattle.bucket.specs.declared.Bucket.{Bucket}

@@ -1,6 +1,5 @@
 -- One walk through two ascending lists of tags: the tag that is next in both, and whether it stands first in each of them. Assumes nothing.
-use Rattle.std.specs.Prelude.{ℕ, List, [], ◌∷◌, ltb, eqb}
-use Rattle.spec.specs.Lists.{if◌then◌else◌}
+use Rattle.std.specs.Prelude.{ℕ, List, [], ◌∷◌, ltb, eqb, if◌then◌else◌}
 use Rattle.bucket_copies.specs.declared.Taken.{Taken}
 
 abbrev pub taken : ℕ → ℕ → ℕ → Taken

@@ -1,5 +1,7 @@
 // The two ways in which line 49 makes a bucket: the tags of one bucket that belong to a place, and the tags of two buckets. Every
 // contract holds for any words, but for `union`, which needs tags that ascend, as they do in sound memory.
+#![tactic(auto)]
+
 ghost use Rattle.std.specs.Prelude.{◌≡◌, true, ◌+◌, ◌≤◌, ◌<◌, length, drop};
 ghost use Rattle.spec.specs.Lists.{ascending};
 ghost use Rattle.bucket.specs.Bucket.{tags_in};
@@ -32,7 +34,7 @@ pub fn split(m: Bucket, g: Config, size: u32, i: u32) -> Bucket
 }
 
 // A tag of a walk through two buckets, and by how many tags the walk goes on in each of them, one or none.
-#[derive(Drop)]
+#[derive(Clone, Copy)]
 pub struct Taken {
     pub tag: u32,
     pub first: usize,

@@ -1,7 +1,6 @@
 -- A bucket's 66 words: the tags that they have, and what the search makes of them, for any words.
 -- Assumes nothing.
-use Rattle.std.specs.Prelude.{List, [], ◌∷◌, Bool, ◌&&◌, ℕ, suc, length, get_or, take, drop, ltb, eqb}
-use Rattle.spec.specs.Lists.{if◌then◌else◌}
+use Rattle.std.specs.Prelude.{List, [], ◌∷◌, Bool, ◌&&◌, ℕ, suc, length, get_or, take, drop, ltb, eqb, if◌then◌else◌}
 
 -- the tags of a bucket's own 66 words: `tags ws 0` of the pool that they are by themselves
 abbrev pub tags_in : List ℕ → List ℕ

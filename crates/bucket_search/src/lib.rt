@@ -1,5 +1,7 @@
 // The search for a tag among the 66 words of a bucket. Its contract holds for any words: what they say of tags, `tags_in` of specs/, is
 // defined for all of them.
+#![tactic(auto)]
+
 ghost use Rattle.std.specs.Prelude.{◌≡◌, true, ◌≤◌, length, ltb};
 ghost use Rattle.spec.specs.Lists.{filter, ascending};
 ghost use Rattle.bucket_search.specs.Tags.{rank, tags_in};

@@ -1,4 +1,6 @@
 // The 66 words of a bucket with a tag more and with a tag less, copied into fresh words.
+#![tactic(auto)]
+
 ghost use Rattle.std.specs.Prelude.{◌≡◌, true, false, ◌+◌, ◌≤◌, ◌<◌, length, drop};
 ghost use Rattle.std.proofs.Math.Seq.{paste};
 ghost use Rattle.spec.specs.Lists.{add_tag, remove_tag};

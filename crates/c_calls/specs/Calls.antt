@@ -1,10 +1,9 @@
 -- One call at a time for C: what each call gives and leaves in the words lent to it, by the entries' own definitions. The state is 113 words
 -- (`state_words`); words that no state has are spoilt memory, and so is a slice of another length for the state or for an answer: 8, and nothing
 -- changed. Assumes nothing.
-use Rattle.std.specs.Prelude.{ℕ, ◌+◌, ◌*◌, not, ◌&&◌, List, [], ◌∷◌, eqb, length}
+use Rattle.std.specs.Prelude.{ℕ, ◌+◌, ◌*◌, not, ◌&&◌, List, [], ◌∷◌, eqb, length, if◌then◌else◌}
 use Rattle.spec.specs.declared.Call.{Call}
 use Rattle.spec.specs.declared.Config.{Config}
-use Rattle.spec.specs.Lists.{if◌then◌else◌}
 use Rattle.spec.specs.Machine.{Machine, machine_of}
 use Rattle.spec.specs.Entries.{opening, Reply, start, step, list, show}
 use Rattle.turns.specs.Turn.{turn}

@@ -1,7 +1,7 @@
 -- Many events or turns in one call for C, on a set that is open: memory is tested once for them all. OneByOne of yard_c has that each gives what the calls
 -- for its events or turns give one by one. Assumes nothing.
-use Rattle.std.specs.Prelude.{ℕ, ◌/◌, min, not, ◌&&◌, List, length}
-use Rattle.spec.specs.Lists.{if◌then◌else◌, concat_map}
+use Rattle.std.specs.Prelude.{ℕ, ◌/◌, min, not, ◌&&◌, List, length, if◌then◌else◌}
+use Rattle.spec.specs.Lists.{concat_map}
 use Rattle.spec.specs.Numbers.{output_words}
 use Rattle.spec.specs.Words.{overwrite}
 use Rattle.spec.specs.Sound.{sound}

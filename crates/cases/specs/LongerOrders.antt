@@ -1,13 +1,13 @@
 -- Examples for the types of demand 3 (Linearizable) with three and four calls: real time between any two of an order, each call once with
 -- every field its own, an answer in the middle, the plain set at 64 and past it, what is listed, and no refusal 8. Assumes nothing.
-use Rattle.std.specs.Prelude.{ℕ, ◌+◌, ◌≡◌, refl, List, [], ◌∷◌, Bool, true, false, eqb}
+use Rattle.std.specs.Prelude.{ℕ, ◌+◌, ◌≡◌, refl, List, [], ◌∷◌, Bool, true, false, eqb, if◌then◌else◌}
 use Rattle.std.proofs.Common.{ap, arith}
 use Rattle.spec.specs.declared.Answer.{Answer}
 use Rattle.spec.specs.declared.Answer.TheVariants.{Yes, No, Full, Done, Lost, Limit}
 use Rattle.spec.specs.declared.Call.{Call}
 use Rattle.spec.specs.declared.Call.TheVariants.{Insert, Remove, Contains, Grow, Shrink}
 use Rattle.spec.specs.declared.Output.TheVariants.{At, Refuse}
-use Rattle.spec.specs.Lists.{if◌then◌else◌, member, add_tag, remove_tag, range}
+use Rattle.spec.specs.Lists.{member, add_tag, remove_tag, range}
 use Rattle.spec.specs.Numbers.{answer_number}
 use Rattle.spec.specs.Plain.{insert_answer, inserted, plain_insert, plain_remove, plain_contains, plain}
 use Rattle.spec.specs.History.{Ended}

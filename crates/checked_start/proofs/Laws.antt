@@ -1,5 +1,6 @@
 -- Laws of start and step, a case each.
 -- Assumes nothing.
+use Rattle.std.specs.Prelude.{if◌then◌else◌}
 use mathlib.Core.Path.{◌≡◌, refl, sym, ap, ◌∙◌}
 use mathlib.Core.Bool.{Bool, true, false, not}
 use Prim.Native.Nat.{ℕ, ◌<◌, ◌≤◌}
@@ -8,7 +9,6 @@ use borrow.Author.Tests.{le-ltb, lt-ltb}
 use Rattle.laws.specs.SoundFacts.{RunFacts}
 use Rattle.laws.specs.Soundness.{sound_facts, run_of}
 use Rattle.laws.specs.Tests.{if_true, if_false}
-use Rattle.spec.specs.Lists.{if◌then◌else◌}
 use Rattle.spec.specs.Machine.{Machine, idle, task_of, set_task}
 use Rattle.spec.specs.declared.Call.{Call}
 use Rattle.spec.specs.declared.Task.{Task}

@@ -1,4 +1,6 @@
 // A start of memory that has been checked: what it refuses, and what it changes of the state.
+#![tactic(auto)]
+
 ghost use Rattle.std.specs.Prelude.{◌≡◌, List, ℕ};
 ghost use Rattle.spec.specs.Sound.{sound};
 ghost use Rattle.spec.specs.Entries.{withdrawn, start};

@@ -1,4 +1,6 @@
 // A step of memory that has been checked: what it refuses, and the procedure that the task's line belongs to.
+#![tactic(auto)]
+
 ghost use Rattle.std.specs.Prelude.{◌≡◌};
 ghost use Rattle.spec.specs.Entries.{step};
 ghost use Rattle.spec.specs.Machine.{machine_of};

@@ -1,6 +1,8 @@
 // Drives the proved set and the second implementation with the same calls, and compares every output, the state and every word of
 // both pools and of what is listed and shown. Standard input is a script; printed are its text, what came out of each of its calls, then counts by
 // kind of output of random schedules, so that a reader sees that each line, answer and refusal was met.
+#![tactic(auto)]
+
 mod both;
 mod draw;
 mod first;

@@ -1,4 +1,6 @@
 // The entries start and step of the cooperative bucket, with the state by value and the words of its versions lent.
+#![tactic(auto)]
+
 ghost use Rattle.std.specs.Prelude.{◌≡◌};
 ghost use Rattle.coop_spec.specs.Machine.{machine_of};
 ghost use Rattle.coop_spec.specs.Entries.{start, step};

@@ -1,8 +1,7 @@
 -- One call at a time for C: what each call gives and leaves in the words lent to it, by the entries' own definitions. The state is 397 words
 -- (`state_words`); words that no state has are spoilt memory, and so is a slice of another length for the state or for an answer: 8, and nothing
 -- changed. Assumes nothing.
-use Rattle.std.specs.Prelude.{ℕ, ◌+◌, ◌*◌, not, ◌&&◌, List, [], ◌∷◌, ltb, eqb, length}
-use Rattle.spec.specs.Lists.{if◌then◌else◌}
+use Rattle.std.specs.Prelude.{ℕ, ◌+◌, ◌*◌, not, ◌&&◌, List, [], ◌∷◌, ltb, eqb, length, if◌then◌else◌}
 use Rattle.yard_answers.specs.Answers.{refusing, open_number}
 use Rattle.coop_spec.specs.declared.Call.{Call}
 use Rattle.coop_spec.specs.Machine.{Machine, machine_of}

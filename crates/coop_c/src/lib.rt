@@ -1,5 +1,7 @@
 // The cooperative bucket for C: one call at a time over words that the caller lends: the state's 397 words, the versions, and the answer's words.
 // include/coop.h has the layout and the numbers, specs/Calls what each call gives and leaves.
+#![tactic(auto)]
+
 ghost use Rattle.std.specs.Prelude.{◌≡◌, [], ◌≤◌, length};
 ghost use Rattle.coop_spec.specs.declared.Call.TheVariants.{InvokeInsert, InvokeRemove, Freeze, HasMember, GetResponse};
 ghost use Rattle.coop_spec.specs.Machine.{machine_of};
@@ -14,8 +16,7 @@ const SPOILT: u32 = 264;
 // ---- opening
 
 // Opens the bucket on a pool of versions and writes the state's words.
-#[unsafe(no_mangle)]
-pub extern "C" fn coop_open(tasks: u32, w: &mut [u32], vs: &mut [u32]) -> u32
+pub fn coop_open(tasks: u32, w: &mut [u32], vs: &mut [u32]) -> u32
     ensures { called result w.new vs.new [] ≡ c_open tasks w.old vs.old }
 {
     if w.len() != coop_c_words::STATE_WORDS {
@@ -73,8 +74,7 @@ fn started(w: &mut [u32], k: u32, call: Call, op: u32, tag: u32, vs: &[u32], out
 }
 
 // Starts an invoke of an operation that inserts a tag; and so on: a function for each call, so that there is no bad call.
-#[unsafe(no_mangle)]
-pub extern "C" fn coop_start_insert(
+pub fn coop_start_insert(
     w: &mut [u32],
     k: u32,
     op: u32,
@@ -88,8 +88,7 @@ pub extern "C" fn coop_start_insert(
     started(w, k, Call::InvokeInsert, op, tag, vs, out)
 }
 
-#[unsafe(no_mangle)]
-pub extern "C" fn coop_start_remove(
+pub fn coop_start_remove(
     w: &mut [u32],
     k: u32,
     op: u32,
@@ -103,36 +102,21 @@ pub extern "C" fn coop_start_remove(
     started(w, k, Call::InvokeRemove, op, tag, vs, out)
 }
 
-#[unsafe(no_mangle)]
-pub extern "C" fn coop_start_freeze(w: &mut [u32], k: u32, vs: &[u32], out: &mut [u32]) -> u32
+pub fn coop_start_freeze(w: &mut [u32], k: u32, vs: &[u32], out: &mut [u32]) -> u32
     ensures { called result w.new vs.now out.new
         ≡ c_start Freeze w.old k 0 0 vs.now out.old }
 {
     started(w, k, Call::Freeze, 0, 0, vs, out)
 }
 
-#[unsafe(no_mangle)]
-pub extern "C" fn coop_start_member(
-    w: &mut [u32],
-    k: u32,
-    tag: u32,
-    vs: &[u32],
-    out: &mut [u32],
-) -> u32
+pub fn coop_start_member(w: &mut [u32], k: u32, tag: u32, vs: &[u32], out: &mut [u32]) -> u32
     ensures { called result w.new vs.now out.new
         ≡ c_start HasMember w.old k 0 tag vs.now out.old }
 {
     started(w, k, Call::HasMember, 0, tag, vs, out)
 }
 
-#[unsafe(no_mangle)]
-pub extern "C" fn coop_start_response(
-    w: &mut [u32],
-    k: u32,
-    op: u32,
-    vs: &[u32],
-    out: &mut [u32],
-) -> u32
+pub fn coop_start_response(w: &mut [u32], k: u32, op: u32, vs: &[u32], out: &mut [u32]) -> u32
     ensures { called result w.new vs.now out.new
         ≡ c_start GetResponse w.old k op 0 vs.now out.old }
 {
@@ -140,8 +124,7 @@ pub extern "C" fn coop_start_response(
 }
 
 // Steps a task by one line.
-#[unsafe(no_mangle)]
-pub extern "C" fn coop_step(w: &mut [u32], k: u32, vs: &mut [u32], out: &mut [u32]) -> u32
+pub fn coop_step(w: &mut [u32], k: u32, vs: &mut [u32], out: &mut [u32]) -> u32
     ensures { called result w.new vs.new out.new
         ≡ c_step w.old k vs.old out.old }
 {
@@ -173,8 +156,7 @@ fn tags_shown(s: State, k: u32, vs: &[u32]) -> u32
 }
 
 // How many tags version k has, and where the first of them stands.
-#[unsafe(no_mangle)]
-pub extern "C" fn coop_show(w: &[u32], k: u32, vs: &[u32], out: &mut [u32]) -> u32
+pub fn coop_show(w: &[u32], k: u32, vs: &[u32], out: &mut [u32]) -> u32
     ensures { called result w.now vs.now out.new
         ≡ c_show w.now k vs.now out.old }
 {

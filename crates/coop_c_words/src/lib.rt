@@ -1,5 +1,7 @@
 // The cooperative bucket's state as words lent by a caller outside Rattle, and back: include/coop.h has the order, specs/StateWords of coop_state_words the
 // definitions.
+#![tactic(auto)]
+
 ghost use Rattle.std.specs.Prelude.{◌≡◌, ◌+◌, ◌≤◌, length};
 ghost use Rattle.spec.specs.Words.{overwrite};
 ghost use Rattle.coop_state_words.specs.StateWords.{operation_words, task_words, first_words, operations_words, tasks_words, state_words};

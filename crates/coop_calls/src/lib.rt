@@ -1,5 +1,7 @@
 // The lines of the four calls of Figure 6, INVOKE, FREEZE, HASMEMBER and GETRESPONSE: a function for each line. `invoke` and
 // `has_member` have one that goes by the task's line.
+#![tactic(auto)]
+
 pub mod has_member;
 pub mod invoke;
 

@@ -35,10 +35,12 @@ one_ended = refl
 -- the only ended call is that one
 pub in_one : {A : Type 0} {d e : A} → In d (e ∷ []) → d ≡ e
 in_one here = refl
+in_one (there x) = elim x [ ]
 
 in_two : {A : Type 0} {d e f : A} → In d (e ∷ f ∷ []) → (e ≡ d) ⊎ (f ≡ d)
 in_two here = inl refl
 in_two (there here) = inr refl
+in_two (there (there x)) = elim x [ ]
 
 in_none : {A : Type 0} {d : A} → In d [] → ⊥
 in_none = elim [ ]

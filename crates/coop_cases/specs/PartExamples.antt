@@ -1,9 +1,9 @@
 -- Examples for the parts of request U10's claim, each by itself: real time over three calls, each call once, what the atomic bucket answers,
 -- an operation that takes effect twice, refusals, a version with 65 tags, and operations past 63. The claim of a whole schedule is in
 -- OrderExamples. Assumes nothing.
-use Rattle.std.specs.Prelude.{ℕ, ◌≤◌, ◌≡◌, refl, List, [], ◌∷◌, ◌++◌, map, Bool, true, false, ◌||◌, eqb, replicate}
+use Rattle.std.specs.Prelude.{ℕ, ◌≤◌, ◌≡◌, refl, List, [], ◌∷◌, ◌++◌, map, Bool, true, false, ◌||◌, eqb, replicate, if◌then◌else◌}
 use Rattle.std.proofs.Common.{arith}
-use Rattle.spec.specs.Lists.{if◌then◌else◌, range}
+use Rattle.spec.specs.Lists.{range}
 use Rattle.coop_spec.specs.declared.Answer.TheVariants.{Yes}
 use Rattle.coop_spec.specs.declared.Call.TheVariants.{InvokeInsert, InvokeRemove}
 use Rattle.coop_spec.specs.declared.Output.TheVariants.{At, End, Refuse}
@@ -17,7 +17,7 @@ use Rattle.coop_spec.specs.History.{Occurrence, Ended, history}
 use Rattle.coop_spec.specs.Linearizable.{In, here, there, Timely, EachOnce, Answers, NoneTwice, AtMostOnce, Never, Suffices, enough_versions, No65thTag}
 use Rattle.coop_spec.specs.Everything.{everything}
 use Rattle.coop_spec.specs.Rows.{calling, stepping}
-use Rattle.coop_spec.specs.LineRows.{task, frz, has}
+use Rattle.coop_spec.specs.LineRows.{task, frz}
 use Rattle.coop_spec.specs.ToldRows.{ended_call, called}
 use Rattle.coop_cases.specs.SpoiltRows.{base}
 use Rattle.coop_cases.specs.OrderExamples.{not_both, in_one}
@@ -55,6 +55,7 @@ out_of_time_behind t =
 in_two : {A : Type 0} (P : A → Type 0) {d e f : A} → In d (e ∷ f ∷ []) → P e → P f → P d
 in_two P here p q = p
 in_two P (there here) p q = q
+in_two P (there (there x)) p q = elim x [ ]
 
 pub in_time : Timely two_ended (earlier ∷ later ∷ runs ∷ [])
 unfolding two_ended

@@ -1,4 +1,5 @@
 -- Line 140 takes a version: what it holds, and that HELPFINISH returns after it has been put in. Assumes nothing.
+use Rattle.std.specs.Prelude.{if◌then◌else◌}
 use mathlib.Core.Path.{◌≡◌, refl}
 use mathlib.Core.List.{List, [], ◌∷◌}
 use mathlib.Core.Bool.{Bool, true, false}
@@ -6,7 +7,6 @@ use Prim.Native.Nat.{ℕ}
 use lib.Dec.{ltb, eqb}
 use lib.ListN.{length}
 use Rattle.laws.specs.Tests.{tf}
-use Rattle.spec.specs.Lists.{if◌then◌else◌}
 use Rattle.spec.specs.Words.{bucket_of}
 use Rattle.coop_spec.specs.declared.Operation.{Operation}
 use Rattle.coop_spec.specs.declared.Task.{Task}

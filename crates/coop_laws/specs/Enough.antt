@@ -1,13 +1,13 @@
 -- How many versions always suffice: one more than there are tasks, and no fewer. A step that is refused with 7 finds each version to be the
 -- o of a task (Seven), and no event changes T or the number of versions (Fixed). With T versions a schedule meets 7: each task but one
 -- names a version that the bucket had, one after the other, and the one left stands at line 140. Assumes nothing.
-use Rattle.std.specs.Prelude.{◌*◌, ◌+◌, ◌-◌, ◌/◌, ◌<◌, ◌≤◌, suc, zero, ℕ, Bool, false, not, true, List, [], ◌∷◌, ◌++◌, ◌↔◌, ◌≡◌, refl, eqb, length, replicate}
+use Rattle.std.specs.Prelude.{◌*◌, ◌+◌, ◌-◌, ◌/◌, ◌<◌, ◌≤◌, suc, zero, ℕ, Bool, false, not, true, List, [], ◌∷◌, ◌++◌, ◌≡◌, refl, eqb, length, replicate, if◌then◌else◌}
 use Rattle.std.proofs.Common.{inl, inr, ◌∙◌, ap, arith, eqb-true}
 use Rattle.std.proofs.Math.Decide.{dec_le}
 use Rattle.std.proofs.Math.Nat.{mul-div_cancel_left}
 use Rattle.std.proofs.lemmas.List.{length-replicate}
 use Rattle.spec.specs.Entries.{pool_fits}
-use Rattle.spec.specs.Lists.{if◌then◌else◌, every, member, range}
+use Rattle.spec.specs.Lists.{every, member, range}
 use Rattle.spec.specs.Sound.{within}
 use Rattle.laws.specs.Lists.{every_head, every_tail, member_cons, no_member, range_has}
 use Rattle.laws.specs.Tests.{tf}
@@ -115,7 +115,3 @@ least t v low high s = go (dec_le (t + 1) v)
         let whole : length pool / 66 ≡ t = ap (λ (n : ℕ). n / 66) (length-replicate (66 * t) 7) ∙ mul-div_cancel_left t (omega arith) in
         absurd (not_never (schedule t pool (crowded t)).outs (every_member meets_7 (range 1 8) t each_meets_7 (range_has t 1 8 low (omega arith)))
         (s pool (crowded t) (rw whole (omega arith))))
-
--- of T tasks, v versions always suffice exactly if there are more of them than tasks
-pub suffices_iff : (t v : ℕ) → 1 ≤ t → t ≤ 8 → Suffices t v ↔ (enough_versions t ≤ v)
-suffices_iff t v low high = (least t v low high, λ le ws es enough. suffices t ws es (omega arith))

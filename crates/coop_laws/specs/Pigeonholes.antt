@@ -1,8 +1,8 @@
 -- As many different numbers below a bound are no more than the bound. Assumes nothing.
-use Rattle.std.specs.Prelude.{◌<◌, ◌≤◌, suc, zero, ℕ, ◌||◌, false, true, List, [], ◌∷◌, ◌⊎◌, ◌≡◌, refl, eqb, ltb, length}
+use Rattle.std.specs.Prelude.{◌<◌, ◌≤◌, suc, zero, ℕ, ◌||◌, false, true, List, [], ◌∷◌, ◌⊎◌, ◌≡◌, refl, eqb, ltb, length, if◌then◌else◌}
 use Rattle.std.proofs.Common.{inl, inr, ◌∙◌, ap, sym, arith, eq-eqb, eqb-true}
 use Rattle.std.proofs.Math.Decide.{ℕ_discrete}
-use Rattle.spec.specs.Lists.{add_tag, if◌then◌else◌, member}
+use Rattle.spec.specs.Lists.{add_tag, member}
 use Rattle.laws.specs.Ascending.{Rising, member_add, rising_add}
 use Rattle.laws.specs.Lists.{no_member}
 use Rattle.laws.specs.SameTags.{part_length}

@@ -1,12 +1,11 @@
 -- "Refusals 4 to 8 in their meaning there": each is given exactly under its condition, and a refused start or step changes nothing. Of any
 -- memory, sound or not. Assumes nothing.
-use Rattle.std.specs.Prelude.{◌+◌, ◌/◌, ◌<◌, ◌≤◌, min, ℕ, Bool, ◌||◌, true, List, ◌↔◌, ◌⊎◌, ◌≡◌, refl, eqb, ltb, length}
+use Rattle.std.specs.Prelude.{◌+◌, ◌/◌, ◌<◌, ◌≤◌, min, ℕ, Bool, ◌||◌, true, List, ◌↔◌, ◌⊎◌, ◌≡◌, refl, eqb, ltb, length, if◌then◌else◌}
 use Rattle.std.proofs.Math.Bool.{false, not}
 use Rattle.std.proofs.Math.Logic.{inl, inr}
 use Rattle.std.proofs.Common.{sym, arith}
 use borrow.Author.Tests.{eq-eqb, eqb-true, le-ltb, lt-ltb, ltb-false, ltb-true, not-false, not-true}
 use Rattle.spec.specs.Entries.{pool_fits}
-use Rattle.spec.specs.Lists.{if◌then◌else◌}
 use Rattle.spec.specs.Sound.{within}
 use Rattle.laws.specs.Tests.{and_i, and_left, and_right, bool?, choose, or_e, or_l, or_r, tf}
 use Rattle.coop_spec.specs.Entries.{Opened, Reply, accept, finish, fits_type, fresh_machine, may_start, not_opened, opening, refuse}

@@ -1,6 +1,6 @@
 -- One event of a schedule, accepted or refused, is one transition of the model, and is not refused with 8. Assumes nothing.
 use Prim.Native.Nat.{◌<◌, suc, ℕ}
-use Rattle.std.specs.Prelude.{Bool, ◌||◌, false, true, List, ltb}
+use Rattle.std.specs.Prelude.{Bool, ◌||◌, false, true, List, ltb, if◌then◌else◌}
 use Rattle.std.proofs.Math.Bool.{not}
 use Rattle.std.proofs.Common.{inr, ◌∙◌, subst, le_refl}
 use Rattle.std.proofs.Math.Path.{◌≡◌, ap, refl, sym}
@@ -8,7 +8,6 @@ use Rattle.std.proofs.Math.Decide.{ℕ_discrete}
 use native.Mathlib.Omega.{arith}
 use borrow.Author.Tests.{eq-eqb, ltb-true, ne_eqb, not-false, not-true}
 use Rattle.std.proofs.Math.Dec.{eqb}
-use Rattle.spec.specs.Lists.{if◌then◌else◌}
 use Rattle.laws.specs.Tests.{At, choose, hit, miss, or_none, tf}
 use Rattle.coop_spec.specs.Atomic.{AtomicCall, Operations, changed}
 use Rattle.coop_spec.specs.Entries.{Reply, accept, fixing, may_start, refuse, start, started, step, step_running}
@@ -27,7 +26,7 @@ use Rattle.coop_model.specs.Heap.{op}
 use Rattle.coop_model.specs.Invariant.{Invariant, not_running}
 use Rattle.coop_linear.specs.EveryLine.{does}
 use Rattle.coop_linear.specs.LineOutcomes.{Does}
-use Rattle.coop_model.specs.Linearization.{invariant}
+use Rattle.coop_model.proofs.Linearization.{invariant}
 use Rattle.coop_model.specs.Positions.{call_at, no_call, runs}
 use Rattle.coop_model.specs.Runs.{Configuration, Reachable, after_end, after_refusal, after_start, moved, refused}
 use Rattle.coop_linear.specs.Simulates.{Simulates, fit, sound_now, step_sound}

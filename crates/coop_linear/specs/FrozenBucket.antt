@@ -23,7 +23,7 @@ use Rattle.coop_spec.specs.declared.Output.TheVariants as Outs
 use Rattle.coop_laws.specs.Fixed.{Agrees, agrees_before, agrees_itself}
 use Rattle.coop_model.specs.Heap.{Heap, bottom, nil}
 use Rattle.coop_model.specs.HeapInvariant.{bottom_not_op, nil_not_bottom}
-use Rattle.coop_model.specs.Linearization.{invariant}
+use Rattle.coop_model.proofs.Linearization.{invariant}
 use Rattle.coop_model.specs.PositionFacts.{PositionFacts}
 use Rattle.coop_model.specs.Positions.{Position, at127, freezer, running}
 use Rattle.coop_linear.specs.Events.{Before, StepView, event_next, line_done, step_refused, step_view}

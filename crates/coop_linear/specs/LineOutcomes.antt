@@ -1,13 +1,13 @@
 -- Each line does in the words what it does in the model: its effect on the image of a position is one of the model's outcomes.
 -- Assumes nothing.
-use Rattle.std.specs.Prelude.{◌+◌, ◌-◌, ℕ, Bool, ◌&&◌, List, [], ◌∷◌, ◌⊎◌, ◌≡◌, leb}
+use Rattle.std.specs.Prelude.{◌+◌, ◌-◌, ℕ, Bool, ◌&&◌, List, [], ◌∷◌, ◌⊎◌, ◌≡◌, leb, if◌then◌else◌}
 use Rattle.std.proofs.Math.Bool.{false, not, true}
 use Rattle.std.proofs.Common.{inl, inr, ◌∙◌, ap, sym}
 use Rattle.std.proofs.Math.Path.{refl, subst}
 use native.Mathlib.Omega.{arith}
 use borrow.Author.Tests.{eqb-false, eqb-true, not-false, not-true}
 use Rattle.std.proofs.Math.Dec.{eqb}
-use Rattle.spec.specs.Lists.{if◌then◌else◌, member}
+use Rattle.spec.specs.Lists.{member}
 use Rattle.spec.specs.Words.{filled, link, number}
 use Rattle.laws.specs.Links.{filled_true}
 use Rattle.laws.specs.Tests.{and_left, and_none, and_right, bool?, choose, tf}

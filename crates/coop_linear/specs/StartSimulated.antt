@@ -1,12 +1,11 @@
 -- An accepted start of the words is a start of the model, and the words go on simulating it. Assumes nothing.
-use Rattle.std.specs.Prelude.{◌*◌, ◌<◌, ◌≤◌, ℕ, Bool, false, ltb, length}
+use Rattle.std.specs.Prelude.{◌*◌, ◌<◌, ◌≤◌, ℕ, Bool, false, ltb, length, if◌then◌else◌}
 use Rattle.std.proofs.Math.Bool.{true}
 use mathlib.Core.List.{List}
 use Rattle.std.proofs.Common.{inl, ◌∙◌, le_refl, arith, ltb-true}
 use Rattle.std.proofs.Math.Path.{◌≡◌, ap, refl, subst, sym}
 use Rattle.std.proofs.Math.Dec.{eqb}
 use Rattle.std.proofs.Math.ListN.{get_or, length-set}
-use Rattle.spec.specs.Lists.{if◌then◌else◌}
 use Rattle.laws.specs.Tests.{and_left, and_right, at_hit, hit, miss}
 use Rattle.coop_spec.specs.Atomic.{Operations, changed, get_response, invoke, invoked}
 use Rattle.coop_spec.specs.Entries.{fixing, may_start, started}

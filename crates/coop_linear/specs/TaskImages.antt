@@ -1,8 +1,7 @@
 -- A task's record as the image of its position; `slot` says in which record of the pool a version is. Assumes nothing.
-use Rattle.std.specs.Prelude.{ℕ, false, true}
+use Rattle.std.specs.Prelude.{ℕ, false, true, if◌then◌else◌}
 use Rattle.std.proofs.Math.Path.{◌≡◌, refl}
 use Rattle.std.proofs.Common.{ap, arith}
-use Rattle.spec.specs.Lists.{if◌then◌else◌}
 use Rattle.spec.specs.Words.{link}
 use Rattle.laws.specs.Tests.{tf}
 use Rattle.coop_spec.specs.Atomic.{AtomicCall, Operations, freeze, get_response, has_member, invoke}

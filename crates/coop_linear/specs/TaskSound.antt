@@ -1,10 +1,10 @@
 -- The image of a position that a call reaches is a sound record, and its line goes through no empty place. Assumes nothing.
-use Rattle.std.specs.Prelude.{◌<◌, ◌≤◌, ℕ, Bool, ◌&&◌, ◌||◌, false, not, ◌≡◌, eqb, ltb}
+use Rattle.std.specs.Prelude.{◌<◌, ◌≤◌, ℕ, Bool, ◌&&◌, ◌||◌, false, not, ◌≡◌, eqb, ltb, if◌then◌else◌}
 use Rattle.std.proofs.Math.Bool.{true}
 use Rattle.std.proofs.Math.Path.{refl}
 use Rattle.std.proofs.Common.{arith}
 use borrow.Author.Tests.{eq-eqb, eqb-false, eqb-true, le-leb, lt-ltb, ne_eqb}
-use Rattle.spec.specs.Lists.{every, if◌then◌else◌, member}
+use Rattle.spec.specs.Lists.{every, member}
 use Rattle.spec.specs.Words.{filled, link, number}
 use Rattle.laws.specs.Tests.{and6_i, and_i, or_r}
 use Rattle.coop_spec.specs.Atomic.{AtomicCall, Operations, freeze, get_response, has_member, invoke}

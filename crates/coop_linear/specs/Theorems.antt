@@ -22,7 +22,7 @@ use Rattle.coop_spec.specs.Schedule.{Event, schedule}
 use Rattle.coop_spec.specs.Sound.{sound}
 use Rattle.coop_spec.specs.declared.Task.{Task}
 use Rattle.coop_linear.specs.Events.{Before}
-use Rattle.coop_model.specs.Linearization.{invariant}
+use Rattle.coop_model.proofs.Linearization.{invariant}
 use Rattle.coop_model.specs.Positions.{call_at, runs}
 use Rattle.coop_linear.specs.Schedules.{same_machine, schedule_simulated, types_at_end}
 use Rattle.coop_linear.specs.Simulates.{no_65th, sound_now}

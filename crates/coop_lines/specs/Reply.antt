@@ -1,7 +1,6 @@
 -- What a line gives back, as the definitions' reply; what the lines ask of a sound machine and a running task; and the lines of one
 -- shape. Assumes nothing.
-use Rattle.std.specs.Prelude.{ℕ, ◌*◌, ◌≤◌, ◌<◌, ◌≡◌, List, ◌&&◌, length}
-use Rattle.spec.specs.Lists.{if◌then◌else◌}
+use Rattle.std.specs.Prelude.{ℕ, ◌*◌, ◌≤◌, ◌<◌, ◌≡◌, List, ◌&&◌, length, if◌then◌else◌}
 use Rattle.spec.specs.Words.{number, filled}
 use Rattle.coop_spec.specs.declared.State.{State}
 use Rattle.coop_spec.specs.declared.Task.{Task}

@@ -1,8 +1,9 @@
 // What the lines of Figure 6 share. One step is one line: `coop_calls` and `coop_helpers` have a function for each line, in the figure's
 // order. A line takes the state by value, the task's number and record, and the words that it reads or writes, and gives the answer with
 // the state after it, after a refusal too: what `step_running` of the definitions gives for a task that stands there.
-ghost use Rattle.std.specs.Prelude.{◌≡◌, List, [], ◌&&◌, ℕ, ◌+◌, ◌*◌, ◌<◌, min, set};
-ghost use Rattle.spec.specs.Lists.{if◌then◌else◌};
+#![tactic(auto)]
+
+ghost use Rattle.std.specs.Prelude.{◌≡◌, List, [], ◌&&◌, ℕ, ◌+◌, ◌*◌, ◌<◌, min, set, if◌then◌else◌};
 ghost use Rattle.spec.specs.Words.{link, number, filled};
 ghost use Rattle.coop_spec.specs.Machine.{machine_of, to_line, to_line_with, to_help};
 ghost use Rattle.coop_spec.specs.Lines.{yes_no, frozen, no_op, own_done, moves, answers, returns_true, returns};
@@ -12,7 +13,7 @@ ghost use Rattle.coop_lines.specs.Reply.{reply_of, tested};
 use coop_spec::{Answer, Output, State, Task};
 
 // What a step or a start answers, and the state after it.
-#[derive(Drop)]
+#[derive(Clone, Copy)]
 pub struct Stepped {
     pub out: Output,
     pub state: State,

@@ -12,6 +12,4 @@ pub mod PositionFacts
 pub mod Steps
 pub mod Ends
 pub mod Invariant
-pub mod TakesEffect
-pub mod CallEnds
 pub mod Linearization

@@ -14,7 +14,7 @@ use Rattle.coop_model.specs.Lines.{l122_op, l123_lost, l127, l129, l130_106, l13
 use Rattle.coop_model.specs.Lines.{l140_126_lost, l95_done, l95_frozen, l95_on, l96_down, l96_up, l99}
 use Rattle.coop_model.specs.Orders.{bucket_after, witness_last}
 use Rattle.coop_model.specs.PositionFacts.{PositionFacts, Reached, ReturnFacts, Toward, in_order_stays, toward_stays}
-use Rattle.coop_model.specs.Positions.{Position, ReturnTo, call_at, runs, to103, to106, to126}
+use Rattle.coop_model.specs.Positions.{Point, Position, ReturnTo, Role, call_at, freezer, invoker, running, runs, to103, to106, to126}
 use Rattle.coop_model.specs.Runs.{First, first_freeze, first_has, first_invoke, first_response}
 use Rattle.coop_model.specs.Writes.{advance_keeps, advance_rely, done_keeps, done_rely, raise_keeps, raise_rely, respond_is, respond_keeps, respond_rely}
 
@@ -24,6 +24,11 @@ pub record LineKeeps (T : Operations) (h : Heap) (A : FSet) (g : Heap) (l l' : P
   pub rely : Rely T h A g A
   pub call≡ : call_at l' ≡ call_at l
   pub raised : g.flag ≡ true → (h.flag ≡ true) ⊎ (call_at l' ≡ runs freeze)
+
+-- whoever runs it, the point is no part of the call
+same_call : (j : Role) (a b : Point) → call_at (running j a) ≡ call_at (running j b)
+same_call (invoker n) a b = refl
+same_call freezer a b = refl
 
 module _ (T : Operations) (h : Heap) (H : List Ended) (L : List Occurrence) (i : HeapInvariant T h (bucket_after T L)) (p r : ℕ) where
   still : (l l' : Position) → call_at l' ≡ call_at l → LineKeeps T h (bucket_after T L) h l l'
@@ -84,31 +89,31 @@ module _ (T : Operations) (h : Heap) (H : List Ended) (L : List Occurrence) (i :
           (ap (member k) (i.same_set ∙ ap (λ (x : OpField). counted_set T x (h.set h.current)) e)),
     ),
   )
-  own_line (l120_frozen e) o = (still _ _ refl, (e, o.1))
-  own_line (l120_on e) o = (still _ _ refl, o)
-  own_line l121 o = (still _ _ refl, ((o.0, le_refl _), o.1))
-  own_line (l122_nil e) o = (still _ _ refl, o)
-  own_line (l122_op e) o = (still _ _ refl, (o.0.0, o.1))
-  own_line (l123_lost e) o = (still _ _ refl, (o.0.0, o.1))
+  own_line (l120_frozen {j = j} e) o = (still _ _ (same_call j _ _), (e, o.1))
+  own_line (l120_on {j = j} e) o = (still _ _ (same_call j _ _), o)
+  own_line (l121 {j = j}) o = (still _ _ (same_call j _ _), ((o.0, le_refl _), o.1))
+  own_line (l122_nil {j = j} e) o = (still _ _ (same_call j _ _), o)
+  own_line (l122_op {j = j} e) o = (still _ _ (same_call j _ _), (o.0.0, o.1))
+  own_line (l123_lost {j = j} e) o = (still _ _ (same_call j _ _), (o.0.0, o.1))
   own_line l127 o = (still _ _ refl, (inr o.0, o.1))
-  own_line (l129 {b = b}) o = (still _ _ refl, ((le_refl _, o.0, reach b o.0), o.1))
-  own_line (l130_op {b = b} {o = v} {m = m} e) o = (still _ _ refl, ((e, o.0.1, found b v m e o.0.2), o.1))
+  own_line (l129 {j = j} {b = b}) o = (still _ _ (same_call j _ _), ((le_refl _, o.0, reach b o.0), o.1))
+  own_line (l130_op {j = j} {b = b} {o = v} {m = m} e) o = (still _ _ (same_call j _ _), ((e, o.0.1, found b v m e o.0.2), o.1))
   own_line (l130_106 x) o = (still _ _ refl, (tt, o.1))
-  own_line (l130_126 x) o = (still _ _ refl, (o.0.1, o.1))
-  own_line (l138 {b = b} {o = v} {m = m}) o =
+  own_line (l130_126 {j = j} x) o = (still _ _ (same_call j _ _), (o.0.1, o.1))
+  own_line (l138 {j = j} {b = b} {o = v} {m = m}) o =
       let e = o.0.0 in (
         record {
           kept = respond_keeps T h (bucket_after T L) i v m e;
           rely = respond_rely T h (bucket_after T L) i v m e;
-          call≡ = refl;
+          call≡ = same_call j _ _;
           raised = λ f. inl f;
         },
         ((e, o.0.1, o.0.2, respond_is T h (bucket_after T L) i v m e), o.1),
       )
-  own_line (l139 {b = b} {o = v} {m = m}) o =
+  own_line (l139 {j = j} {b = b} {o = v} {m = m}) o =
       let e = o.0.0 in
       let le = done_rely T h (bucket_after T L) i v m e in (
-        record { kept = done_keeps T h (bucket_after T L) i v m e o.0.3; rely = le; call≡ = refl; raised = λ f. inl f },
+        record { kept = done_keeps T h (bucket_after T L) i v m e o.0.3; rely = le; call≡ = same_call j _ _; raised = λ f. inl f },
         ((e, o.0.1, toward_stays T h (bucket_after T L) i (mark_done m h) (bucket_after T L) le b m o.0.2, changed_same h.done m true), o.1),
       )
   own_line (l140_106 {n = n} {o = v} {m = m} q) o =
@@ -116,11 +121,11 @@ module _ (T : Operations) (h : Heap) (H : List Ended) (L : List Occurrence) (i :
       (record { kept = advance_keeps T h (bucket_after T L) i v m o.0.0 q o.0.3; rely = le; call≡ = refl; raised = λ f. inl f }, (tt, o.1))
   own_line (l140_126 {j = j} {o = v} {m = m} q) o =
       let le = advance_rely T h (bucket_after T L) i v m o.0.0 q o.0.3 in (
-        record { kept = advance_keeps T h (bucket_after T L) i v m o.0.0 q o.0.3; rely = le; call≡ = refl; raised = λ f. inl f },
+        record { kept = advance_keeps T h (bucket_after T L) i v m o.0.0 q o.0.3; rely = le; call≡ = same_call j _ _; raised = λ f. inl f },
         (o.0.1, in_order_stays T h (bucket_after T L) i (advance (change T m (h.set v)) h) (bucket_after T L) le L L p r (λ e x. x) (λ x. x) j false o.1),
       )
   own_line (l140_106_lost d) o = (still _ _ refl, (tt, o.1))
-  own_line (l140_126_lost d) o = (still _ _ refl, (o.0.1, o.1))
+  own_line (l140_126_lost {j = j} d) o = (still _ _ (same_call j _ _), (o.0.1, o.1))
 
   -- the first line of a call
   pub first_facts : {l : Position} → First h l → Absent p r L → PositionFacts T h H L p r l

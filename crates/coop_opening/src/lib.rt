@@ -1,4 +1,6 @@
 // Opening the cooperative bucket on a lent pool of versions.
+#![tactic(auto)]
+
 ghost use Rattle.std.specs.Prelude.{◌≡◌};
 ghost use Rattle.coop_spec.specs.Entries.{opening};
 ghost use Rattle.coop_opening.specs.Opening.{opened_of};
@@ -6,7 +8,7 @@ ghost use Rattle.coop_opening.specs.Opening.{opened_of};
 use coop_spec::State;
 
 // What an opening gives: 0 or a refusal, and the state.
-#[derive(Drop)]
+#[derive(Clone, Copy)]
 pub struct Opened {
     pub refusal: u32,
     pub state: State,

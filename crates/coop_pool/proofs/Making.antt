@@ -1,4 +1,5 @@
 -- The version that an operation makes, from what adding and removing make of a changeable bucket with the same tags. Assumes nothing.
+use Rattle.std.specs.Prelude.{if◌then◌else◌}
 use mathlib.Core.Path.{◌≡◌, refl, sym, ap, ◌∙◌}
 use mathlib.Core.List.{List, [], ◌∷◌}
 use mathlib.Core.Bool.{Bool, true, false}
@@ -9,7 +10,7 @@ use lib.Dec.{leb, ltb, eqb}
 use lib.ListN.{length}
 use Rattle.laws.specs.Tests.{or_none}
 use Rattle.laws.specs.Ascending.{length_remove}
-use Rattle.spec.specs.Lists.{if◌then◌else◌, member, ascending, add_tag, remove_tag}
+use Rattle.spec.specs.Lists.{member, ascending, add_tag, remove_tag}
 use Rattle.spec.specs.Words.{bucket_of}
 use Rattle.bucket.specs.declared.Bucket.{Bucket}
 use Rattle.bucket.specs.declared.Changed.{Changed}

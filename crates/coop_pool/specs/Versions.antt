@@ -1,6 +1,5 @@
 -- What the code of the versions asks of their words, and what an operation makes of a version. Assumes nothing.
-use Rattle.std.specs.Prelude.{ℕ, ◌+◌, ◌*◌, ◌≤◌, ◌≡◌, List, Bool, true, false, ltb, length, drop}
-use Rattle.spec.specs.Lists.{if◌then◌else◌}
+use Rattle.std.specs.Prelude.{ℕ, ◌+◌, ◌*◌, ◌≤◌, ◌≡◌, List, Bool, true, false, ltb, length, drop, if◌then◌else◌}
 use Rattle.spec.specs.Words.{bucket_of}
 use Rattle.spec.specs.Sound.{count_in_bounds, tags_ascend}
 use Rattle.bucket.specs.declared.Response.{Response}

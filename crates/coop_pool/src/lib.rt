@@ -1,9 +1,11 @@
 // The pool of versions: a version's first word and its set, read and written, and the version that an operation makes of another, which
 // the bucket then has. A version's 66 words are read and stored by `pool::buckets`, which looks at no first word. `taking` says which version is taken next.
+#![tactic(auto)]
+
 pub mod taking;
 
-ghost use Rattle.std.specs.Prelude.{◌≡◌, true, List, ℕ, ◌+◌, ◌*◌, ◌≤◌, eqb, length, set};
-ghost use Rattle.spec.specs.Lists.{if◌then◌else◌, member, ascending};
+ghost use Rattle.std.specs.Prelude.{◌≡◌, true, List, ℕ, ◌+◌, ◌*◌, ◌≤◌, eqb, length, set, if◌then◌else◌};
+ghost use Rattle.spec.specs.Lists.{member, ascending};
 ghost use Rattle.spec.specs.Words.{tags, bucket_of};
 ghost use Rattle.bucket.specs.Bucket.{tags_in, added, removed};
 ghost use Rattle.coop_spec.specs.Machine.{machine_of};
@@ -61,7 +63,7 @@ pub fn responds(op: Operation, vs: &[u32], k: u32) -> bool
 // ---- the version that an operation makes
 
 // That version, or that there is no room for a 65th tag.
-#[derive(Drop)]
+#[derive(Clone, Copy)]
 pub struct Made {
     pub full: bool,
     pub version: Bucket,

@@ -2,6 +2,8 @@
 // Its shape: state, versions, what is asked and the reply are words of one memory (words.rt has their addresses), and for each word a function says what it
 // becomes, from memory as it was; only `act` stores. The figure's lines are the rows of a table (lines.rt). Spoilt memory is found word by word (faults.rt),
 // and sets of tags by counting (sets.rt). No function has a requirement: any words and numbers may be lent.
+#![tactic(auto)]
+
 mod faults;
 mod lines;
 mod sets;

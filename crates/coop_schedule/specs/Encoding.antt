@@ -1,7 +1,7 @@
 -- A whole schedule of the cooperative bucket as words, for callers outside Rattle: which of its events are run, and what is left of every
 -- slice. Assumes nothing.
-use Rattle.std.specs.Prelude.{ℕ, ◌+◌, ◌/◌, min, List, eqb, length}
-use Rattle.spec.specs.Lists.{if◌then◌else◌, concat_map}
+use Rattle.std.specs.Prelude.{ℕ, ◌+◌, ◌/◌, min, List, eqb, length, if◌then◌else◌}
+use Rattle.spec.specs.Lists.{concat_map}
 use Rattle.spec.specs.Words.{overwrite}
 use Rattle.coop_spec.specs.Numbers.{output_words}
 use Rattle.coop_spec.specs.Machine.{Machine, machine_of}

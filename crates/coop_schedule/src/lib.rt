@@ -1,4 +1,6 @@
 // A whole schedule of the cooperative bucket in one call: the opening, then starts and steps given as words.
+#![tactic(auto)]
+
 ghost use Rattle.std.specs.Prelude.{◌≡◌, ◌*◌, ◌≤◌, length};
 ghost use Rattle.spec.specs.Lists.{concat_map};
 ghost use Rattle.spec.specs.Words.{overwrite};
@@ -15,7 +17,7 @@ use coop_spec::State;
 use coop_words::Asked;
 
 // What a run gives: the opening's refusal, or 0; the number of events run; the state.
-#[derive(Drop)]
+#[derive(Clone, Copy)]
 pub struct Outcome {
     pub refusal: u32,
     pub ran: usize,
@@ -89,13 +91,7 @@ pub fn run(t: u32, vs: &mut [u32], events: &[u32], outs: &mut [u32]) -> Outcome
 }
 
 // The same for C. Gives the number of the version that the bucket then has, or 1,024 and the refusal's number.
-#[unsafe(no_mangle)]
-pub extern "C" fn coop_schedule_run(
-    tasks: u32,
-    vs: &mut [u32],
-    events: &[u32],
-    outs: &mut [u32],
-) -> u32
+pub fn coop_schedule_run(tasks: u32, vs: &mut [u32], events: &[u32], outs: &mut [u32]) -> u32
     ensures { c_result result vs.new outs.new
         ≡ c_result_of (run_words tasks vs.old events.now outs.old) }
 {

@@ -1,5 +1,7 @@
 // Refusal 8, as far as it does not depend on the entry called: the state and the pool of versions are sound. The state's numbers first,
 // then the operations, one pass over the versions, and the tasks.
+#![tactic(auto)]
+
 ghost use Rattle.std.specs.Prelude.{◌≡◌, List, ℕ, ◌*◌, ◌≤◌, length};
 ghost use Rattle.spec.specs.Lists.{member, every};
 ghost use Rattle.coop_spec.specs.Machine.{Machine, machine_of};

@@ -1,7 +1,6 @@
 -- The entries: opening, start and step, each with its refusals in order, then the work. "A refusal gives only its number; state and
 -- slices keep every word." Assumes nothing.
-use Rattle.std.specs.Prelude.{ℕ, ◌+◌, ◌*◌, ◌/◌, min, List, Bool, true, not, ◌&&◌, ◌||◌, ltb, eqb, length, replicate}
-use Rattle.spec.specs.Lists.{if◌then◌else◌}
+use Rattle.std.specs.Prelude.{ℕ, ◌+◌, ◌*◌, ◌/◌, min, List, Bool, true, not, ◌&&◌, ◌||◌, ltb, eqb, length, replicate, if◌then◌else◌}
 use Rattle.spec.specs.Sound.{within}
 use Rattle.spec.specs.Entries.{pool_fits}
 use Rattle.coop_spec.specs.declared.Operation.{Operation}

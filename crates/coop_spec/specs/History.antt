@@ -1,7 +1,6 @@
 -- What is told of a schedule, event by event: its ended calls with their answers, each task's last accepted start, and the operations
 -- that took effect. Assumes nothing.
-use Rattle.std.specs.Prelude.{ℕ, suc, ◌-◌, List, [], ◌∷◌, true, false, not, ◌&&◌, eqb, leb}
-use Rattle.spec.specs.Lists.{if◌then◌else◌}
+use Rattle.std.specs.Prelude.{ℕ, suc, ◌-◌, List, [], ◌∷◌, true, false, not, ◌&&◌, eqb, leb, if◌then◌else◌}
 use Rattle.coop_spec.specs.declared.Answer.{Answer}
 use Rattle.coop_spec.specs.declared.Answer.TheVariants.{Yes, No, Version}
 use Rattle.coop_spec.specs.declared.Call.{Call}

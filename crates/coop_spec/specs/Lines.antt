@@ -2,8 +2,8 @@
 -- 112, 113, 117, 120 to 123, 127, 129, 130 and 138 to 140; the rest belongs to the line before." y is the machine, c the record of the
 -- task that steps. Where source 000 garbles the figure, the indentation in source 001 decides: the else of 105 belongs to 100, that of 125
 -- to 122, and 107 stands after the loop. A task's o is filled only at lines that use it. Assumes nothing.
-use Rattle.std.specs.Prelude.{ℕ, ◌+◌, ◌-◌, List, [], ◌∷◌, ◌++◌, Bool, not, ◌&&◌, leb, eqb}
-use Rattle.spec.specs.Lists.{if◌then◌else◌, member}
+use Rattle.std.specs.Prelude.{ℕ, ◌+◌, ◌-◌, List, [], ◌∷◌, ◌++◌, Bool, not, ◌&&◌, leb, eqb, if◌then◌else◌}
+use Rattle.spec.specs.Lists.{member}
 use Rattle.spec.specs.Words.{link, number}
 use Rattle.coop_spec.specs.declared.Operation.{Operation}
 use Rattle.coop_spec.specs.declared.Task.{Task}

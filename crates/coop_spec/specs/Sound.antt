@@ -1,7 +1,7 @@
 -- Refusal 8, as far as it does not depend on the entry called: paper 01's sentence on spoilt memory in its meaning here, "8, also for a
 -- version's first word over 65 or of an operation never invoked". Each condition has a name. Assumes nothing.
-use Rattle.std.specs.Prelude.{ℕ, zero, suc, ◌+◌, ◌*◌, ◌-◌, List, [], ◌∷◌, ◌++◌, Bool, true, not, ◌&&◌, ◌||◌, ltb, leb, eqb, length, get_or, drop}
-use Rattle.spec.specs.Lists.{if◌then◌else◌, member, every}
+use Rattle.std.specs.Prelude.{ℕ, zero, suc, ◌*◌, ◌-◌, List, [], ◌∷◌, ◌++◌, Bool, true, not, ◌&&◌, ◌||◌, ltb, leb, eqb, length, get_or, drop, if◌then◌else◌}
+use Rattle.spec.specs.Lists.{member, every}
 use Rattle.spec.specs.Words.{number, filled}
 use Rattle.spec.specs.Sound.{within, count_in_bounds, tags_ascend, zeros_after_tags}
 use Rattle.coop_spec.specs.declared.Operation.{Operation}

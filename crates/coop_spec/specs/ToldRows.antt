@@ -1,6 +1,6 @@
 -- What is told of a schedule of two member tests, and orders of calls: one that the atomic bucket answers, one out of real time. A longer
 -- schedule, its order and further orders that are none are in the crate `coop_cases`. Assumes nothing.
-use Rattle.std.specs.Prelude.{ℕ, ◌≡◌, refl, List, [], ◌∷◌, ◌++◌, true, false, replicate}
+use Rattle.std.specs.Prelude.{ℕ, ◌≡◌, refl, [], ◌∷◌, ◌++◌, true, false, replicate}
 use Rattle.std.proofs.Common.{arith}
 use Rattle.coop_spec.specs.declared.Call.TheVariants.{InvokeInsert, HasMember}
 use Rattle.coop_spec.specs.Machine.{Machine}
@@ -8,7 +8,7 @@ use Rattle.coop_spec.specs.Entries.{opening}
 use Rattle.coop_spec.specs.Schedule.{run}
 use Rattle.coop_spec.specs.Atomic.{AtomicCall, invoke, has_member, get_response, Result, boolean, empty_bucket}
 use Rattle.coop_spec.specs.History.{History, Ended, Occurrence, operations, history}
-use Rattle.coop_spec.specs.Linearizable.{Answers, In, Linearizable, Timely, here, there}
+use Rattle.coop_spec.specs.Linearizable.{Answers, Timely, here}
 use Rattle.coop_spec.specs.Everything.{everything}
 use Rattle.coop_spec.specs.Rows.{stepping, calling}
 
@@ -27,13 +27,6 @@ pub tests_told : tested.ended
 unfolding everything stepping calling tested
 tests_told = refl
 
--- the second test started after the first had ended: it cannot stand before it
-pub second_first : ¬ Timely tested.ended (called 0 3 (has_member 6) (boolean false) ∷ called 0 0 (has_member 5) (boolean false) ∷ [])
-second_first t =
-    let first : In (ended_call 0 0 (has_member 5) (boolean false) 2) tested.ended = rw tests_told (there here) in
-    let late = t.0.0 (ended_call 0 0 (has_member 5) (boolean false) 2) first (refl, refl) in
-    omega arith
-
 -- operation 0, an insert of 5, has been invoked
 unfoldable pub invoked : Machine
 invoked = (run (opening 2 (replicate 66 7)).machine (calling 0 InvokeInsert 0 5 0)).machine
@@ -49,13 +42,3 @@ pub first_and_third :
     ¬ Timely (ended_call 2 1 (has_member 9) (boolean false) 5 ∷ [])
     (called 0 6 (has_member 9) (boolean false) ∷ called 1 0 (has_member 9) (boolean false) ∷ called 2 1 (has_member 9) (boolean false) ∷ [])
 first_and_third t = let late = t.0.1.0 (ended_call 2 1 (has_member 9) (boolean false) 5) here (refl, refl) in omega arith
-
--- an order has every ended call: one of no call has none
-in_none : {e : Occurrence} {L : List Occurrence} → In e L → L ≡ [] → ⊥
-in_none here q = let z : ◌≡◌ {A = ℕ} 0 1 = cc in omega arith
-in_none (there i) q = let z : ◌≡◌ {A = ℕ} 0 1 = cc in omega arith
-
-pub left_out : (l : Linearizable 1 (replicate 66 7) (calling 0 HasMember 0 5 2 ++ calling 0 HasMember 0 6 2)) → ¬ (l.order ≡ [])
-unfolding tested
-left_out l q =
-    in_none (l.ended (ended_call 0 0 (has_member 5) (boolean false) 2) (rw tests_told (there here))) q

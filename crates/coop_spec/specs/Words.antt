@@ -1,7 +1,7 @@
 -- What a version's words say, and the writes that a line makes. "A version is 66 words like a bucket's": its count and its tags stand
 -- where a bucket's do, and are read by the definitions of spec. Assumes nothing.
-use Rattle.std.specs.Prelude.{ℕ, ◌*◌, List, [], ◌∷◌, Bool, true, not, eqb, get_or, set}
-use Rattle.spec.specs.Lists.{if◌then◌else◌, member, add_tag, remove_tag}
+use Rattle.std.specs.Prelude.{ℕ, ◌*◌, List, [], ◌∷◌, Bool, true, not, eqb, get_or, set, if◌then◌else◌}
+use Rattle.spec.specs.Lists.{member, add_tag, remove_tag}
 use Rattle.spec.specs.Words.{tags, overwrite, bucket_of}
 use Rattle.coop_spec.specs.declared.Operation.{Operation}
 use Rattle.coop_spec.specs.Machine.{Machine, with_versions, with_node, with_flag, operation_of, set_operation, with_resp, as_done, as_returned}

@@ -1,9 +1,10 @@
 // The types of the cooperative bucket of Figure 6: an operation, a task's record, the state, and what a start or a step answers.
 // specs/ has every definition of what they mean; no code is here.
+#![tactic(auto)]
 
 // The calls: an invoke of an operation that inserts or that removes, a freeze, a member test, a get response. `call_number` in
 // specs/Numbers gives the number that a task's record keeps.
-#[derive(Drop)]
+#[derive(Clone, Copy)]
 pub enum Call {
     InvokeInsert,
     InvokeRemove,
@@ -13,7 +14,7 @@ pub enum Call {
 }
 
 // How a call ends: a freeze with the number of the version that has the frozen set, every other call with yes or no.
-#[derive(Drop)]
+#[derive(Clone, Copy)]
 pub enum Answer {
     Yes,
     No,
@@ -22,7 +23,7 @@ pub enum Answer {
 
 // What a start or a step answers: the line at which the task now stands, the ended call's answer and own steps, or a refusal's
 // number.
-#[derive(Drop)]
+#[derive(Clone, Copy)]
 pub enum Output {
     At(u32),
     End(Answer, u16),
@@ -30,7 +31,7 @@ pub enum Output {
 }
 
 // An operation (FSETOP). One never invoked is zeros.
-#[derive(Drop)]
+#[derive(Clone, Copy)]
 pub struct Operation {
     // 0 never invoked, 1 insert, 2 remove
     pub kind: u32,
@@ -43,7 +44,7 @@ pub struct Operation {
 }
 
 // One task's record. A task that runs nothing has a record of zeros.
-#[derive(Drop)]
+#[derive(Clone, Copy)]
 pub struct Task {
     pub running: bool,
     // 0 none, else the call's number
@@ -64,7 +65,7 @@ pub struct Task {
 
 // The state: T, the number of versions, the version that the bucket has, the one last taken, the bucket's flag, 64 operations and
 // eight tasks, those from T on idle.
-#[derive(Drop)]
+#[derive(Clone, Copy)]
 pub struct State {
     pub tasks: u32,
     pub versions: u32,

@@ -1,6 +1,5 @@
 -- What `start` does after its tests for 8 and 4: the definition that the code is held to. Assumes nothing.
-use Rattle.std.specs.Prelude.{ℕ, not, ◌||◌}
-use Rattle.spec.specs.Lists.{if◌then◌else◌}
+use Rattle.std.specs.Prelude.{ℕ, not, ◌||◌, if◌then◌else◌}
 use Rattle.coop_spec.specs.declared.Call.{Call}
 use Rattle.coop_spec.specs.declared.Output.TheVariants.{At}
 use Rattle.coop_spec.specs.Machine.{Machine, task_of, set_task}

@@ -1,5 +1,7 @@
 // A start of a call in memory that was found sound, for a task below T: whether it may start, the record that it gets, and the operation that an
 // invoke fixes. `start` of coop comes here after its first two tests.
+#![tactic(auto)]
+
 ghost use Rattle.std.specs.Prelude.{◌≡◌, List, ◌&&◌, ℕ, ltb};
 ghost use Rattle.coop_spec.specs.Machine.{machine_of, operation_of};
 ghost use Rattle.coop_spec.specs.Entries.{fits_type, may_start, started, fixing};

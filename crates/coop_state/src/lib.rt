@@ -1,6 +1,8 @@
 // The state of the cooperative bucket, a task's record and an operation: built, read and changed here and nowhere else in the code, as
 // specs/Machine of the definitions does. Every function takes any number: what is past the end reads as zeros, and a write there changes
 // nothing.
+#![tactic(auto)]
+
 ghost use Rattle.std.specs.Prelude.{◌≡◌, List, true, ℕ};
 ghost use Rattle.coop_spec.specs.Machine.{machine_of, never_invoked, with_type, operation_of, set_operation, with_flag, with_node};
 ghost use Rattle.coop_spec.specs.Machine.{idle, fresh_task, task_of, set_task, state_of};

@@ -1,7 +1,6 @@
 -- Events of the cooperative bucket as words, for callers outside Rattle: four words each, a kind, a task, an operation's number and a tag.
 -- Assumes nothing.
-use Rattle.std.specs.Prelude.{ℕ, zero, suc, List, [], ◌∷◌, eqb, get_or, drop}
-use Rattle.spec.specs.Lists.{if◌then◌else◌}
+use Rattle.std.specs.Prelude.{ℕ, zero, suc, List, [], ◌∷◌, eqb, get_or, drop, if◌then◌else◌}
 use Rattle.coop_spec.specs.declared.Call.TheVariants.{InvokeInsert, InvokeRemove, Freeze, HasMember, GetResponse}
 use Rattle.coop_spec.specs.Numbers.{call_number}
 use Rattle.coop_spec.specs.Schedule.{Event, starts, steps}

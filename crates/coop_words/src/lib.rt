@@ -1,4 +1,6 @@
 // A schedule of the cooperative bucket given as words: what an event's first word asks for, and an output's four words.
+#![tactic(auto)]
+
 ghost use Rattle.std.specs.Prelude.{◌≡◌, ℕ};
 ghost use Rattle.coop_spec.specs.Numbers.{answer_number, answer_version, output_words};
 ghost use Rattle.coop_words.specs.Events.{event_of, event_asked};
@@ -6,7 +8,7 @@ ghost use Rattle.coop_words.specs.Events.{event_of, event_asked};
 use coop_spec::{Answer, Call, Output};
 
 // What an event asks for, whichever task, operation and tag it names.
-#[derive(Drop)]
+#[derive(Clone, Copy)]
 pub enum Asked {
     Start(Call),
     Step,

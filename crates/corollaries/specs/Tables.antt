@@ -2,7 +2,7 @@
 -- plain propositions, and that the entry refuses with a number exactly if the table has it: so with no other number.
 -- Soundness of memory is laws' SoundFacts, of a step's own line laws' StepSound, and held is laws' inductive HeldNode and HeldBucket.
 -- Assumes nothing.
-use Rattle.std.specs.Prelude.{ℕ, ◌*◌, ◌%◌, ◌/◌, ◌≤◌, ◌<◌, refl, ◌↔◌, ◌⊎◌, Bool, false, ◌||◌, List, leb, eqb}
+use Rattle.std.specs.Prelude.{ℕ, ◌*◌, ◌%◌, ◌/◌, ◌≤◌, ◌<◌, refl, ◌↔◌, ◌⊎◌, Bool, false, ◌||◌, List, leb, eqb, if◌then◌else◌}
 use Rattle.std.proofs.Math.Path.{◌≡◌, ap}
 use Rattle.std.proofs.Common.{sym, ◌∙◌}
 use Rattle.std.proofs.Math.Logic.{inl, inr}
@@ -16,7 +16,6 @@ use Rattle.spec.specs.declared.Task.{Task}
 use Rattle.spec.specs.declared.Call.{Call}
 use Rattle.spec.specs.declared.Output.TheVariants.{Refuse}
 use Rattle.spec.specs.declared.Listing.TheVariants.{Refused}
-use Rattle.spec.specs.Lists.{if◌then◌else◌}
 use Rattle.spec.specs.Machine.{Machine, task_of}
 use Rattle.spec.specs.declared.Config.{Config}
 use Rattle.spec.specs.Sound.{within, version_known, sound}
@@ -29,7 +28,8 @@ use Rattle.laws.specs.SoundFacts.{SoundFacts}
 use Rattle.laws.specs.Withdrawn.{InsertOfZero, withdrawn_means, means_withdrawn}
 use Rattle.laws.specs.Soundness.{sound_facts, facts_sound}
 use Rattle.laws.specs.StepRefusals.{StepSound, step_sound_facts, facts_step_sound}
-use Rattle.laws.specs.Taking.{AllHeld, all_held_means, means_all_held}
+use Rattle.laws.specs.Taking.{AllHeld}
+use Rattle.laws.proofs.Taking.{all_held_means, means_all_held}
 use Rattle.corollaries.specs.Unchanged.{at_refused, accept_refused}
 
 -- ---- a test that fails, from what its passing means

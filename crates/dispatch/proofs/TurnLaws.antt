@@ -1,5 +1,6 @@
 -- A turn by the tests that the code makes. The code steps the task that is next whether or not memory is spoilt: in spoilt memory the step's 8
 -- is the turn's own, which names no task. Assumes nothing.
+use Rattle.std.specs.Prelude.{if◌then◌else◌}
 use Prim.Native.Nat.{ℕ, ◌-◌, ◌≤◌, ◌<◌}
 use native.Mathlib.Omega.{arith}
 use mathlib.Core.Path.{◌≡◌, refl, sym, ap, ◌∙◌}
@@ -12,7 +13,7 @@ use lib.ListN.{get_or}
 use Rattle.spec.specs.declared.Task.{Task}
 use Rattle.spec.specs.declared.Output.{Output}
 use Rattle.spec.specs.declared.Output.TheVariants.{At, End, Refuse}
-use Rattle.spec.specs.Lists.{if◌then◌else◌, member}
+use Rattle.spec.specs.Lists.{member}
 use Rattle.spec.specs.Machine.{Machine, machine_of, idle, task_of, with_chosen, with_state, state_chosen}
 use Rattle.spec.specs.Words.{link, number}
 use Rattle.spec.specs.Sound.{task_count, sound}

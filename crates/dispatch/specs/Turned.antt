@@ -1,9 +1,8 @@
 -- What the dispatcher's code gives back, as the definitions say it. Assumes nothing.
-use Rattle.std.specs.Prelude.{ℕ, List, Bool, true, ◌&&◌, ltb, leb, eqb}
+use Rattle.std.specs.Prelude.{ℕ, List, Bool, true, ◌&&◌, ltb, leb, eqb, if◌then◌else◌}
 use Rattle.spec.specs.declared.State.{State}
 use Rattle.spec.specs.declared.Output.{Output}
 use Rattle.spec.specs.declared.Output.TheVariants.{At, End, Refuse}
-use Rattle.spec.specs.Lists.{if◌then◌else◌}
 use Rattle.spec.specs.Machine.{Machine, machine_of, state_chosen}
 use Rattle.spec.specs.Sound.{task_count, sound}
 use Rattle.lines.specs.declared.Stepped.{Stepped}

@@ -1,4 +1,6 @@
 // The dispatcher (paper 02, U7), over the entries: a turn steps the running task that is next, going round from the last one chosen.
+#![tactic(auto)]
+
 ghost use Rattle.std.specs.Prelude.{◌≡◌, List, ℕ};
 ghost use Rattle.spec.specs.Machine.{machine_of};
 ghost use Rattle.turns.specs.Turn.{turn};
@@ -9,7 +11,7 @@ use spec::{Output, State};
 use turns::Turn;
 
 // What a turn answers, and the state that it leaves.
-#[derive(Drop)]
+#[derive(Clone, Copy)]
 pub struct Turned {
     pub says: Turn,
     pub state: State,

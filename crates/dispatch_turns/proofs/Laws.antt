@@ -1,4 +1,5 @@
 -- What is left of many turns, and one of them. Assumes nothing.
+use Rattle.std.specs.Prelude.{if◌then◌else◌}
 use Prim.Native.Nat.{ℕ, suc, ◌+◌, ◌*◌, ◌-◌, ◌≤◌, ◌<◌}
 use mathlib.Core.Path.{◌≡◌, refl, sym, ap, ◌∙◌}
 use mathlib.Core.List.{List, [], ◌∷◌}
@@ -8,7 +9,7 @@ use borrow.Author.Tests.{ltb-true, ltb-false, lt-ltb, le-ltb}
 use lib.Dec.{ltb}
 use lib.ListN.{length}
 use Rattle.spec.specs.declared.Output.{Output}
-use Rattle.spec.specs.Lists.{if◌then◌else◌, concat_map}
+use Rattle.spec.specs.Lists.{concat_map}
 use Rattle.spec.specs.Numbers.{output_words}
 use Rattle.spec.specs.Machine.{Machine, with_chosen}
 use Rattle.spec.specs.Words.{link, overwrite}

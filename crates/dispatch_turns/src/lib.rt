@@ -1,5 +1,7 @@
 // Many turns of the dispatcher in one call, with their words (paper 02, U7): memory is sound before the first of them, and every turn keeps it so: it
 // is not looked through in between. `run_turns` is the main loop of paper 01: it holds one state and lends it to each turn, which moves that state on.
+#![tactic(auto)]
+
 ghost use Rattle.std.specs.Prelude.{◌≡◌, true, ◌*◌, ◌≤◌, length};
 ghost use Rattle.spec.specs.Machine.{machine_of};
 ghost use Rattle.spec.specs.Sound.{sound};
@@ -8,14 +10,14 @@ ghost use Rattle.turns.specs.Turns.{turned_so, next_turn, written, turns_written
 use spec::State;
 
 // Whether a turn named a task, and the state that it leaves.
-#[derive(Drop)]
+#[derive(Clone, Copy)]
 pub struct Taken {
     pub named: bool,
     pub state: State,
 }
 
 // How many turns named a task, and the state that they leave.
-#[derive(Drop)]
+#[derive(Clone, Copy)]
 pub struct Ran {
     pub turns: usize,
     pub state: State,
@@ -70,7 +72,7 @@ fn turn_taken(
     }
 }
 
-// The parts of what `turn_taken` gives, and what `run_turns` gives: the walks by hand take no struct apart.
+// The parts of what `turn_taken` gives, and what `run_turns` gives: what is lent is taken apart here alone.
 fn named_of(d: Taken) -> bool
     ensures { result ≡ d.named }
 {

@@ -11,7 +11,7 @@ use Rattle.spec.specs.Schedule.{Ran, Event, steps, event, run}
 use Rattle.turns.specs.Turn.{Turned}
 use Rattle.turns.specs.Moves.{Move, enters, turns, turned, move, Run, moves, stands_for, outputs}
 use Rattle.laws.specs.Soundness.{sound_facts}
-use Rattle.laws.specs.EntriesKeep.{event_keeps}
+use Rattle.laws.proofs.EntriesKeep.{event_keeps}
 use Rattle.laws.specs.LastChosen.{again, event_apart}
 use Rattle.corollaries.specs.Unchanged.{refused_step_changes_nothing}
 use Rattle.corollaries.specs.TurnOutcome.{Next, TurnOutcome, spoilt, nothing_runs, goes, step_spoilt, turn_outcome}

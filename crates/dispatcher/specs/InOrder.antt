@@ -8,7 +8,7 @@ use Rattle.spec.specs.Schedule.{Event, steps, event}
 use Rattle.turns.specs.Turn.{Turned}
 use Rattle.turns.specs.Moves.{Move, enters, turns, move}
 use Rattle.laws.specs.Soundness.{sound_facts}
-use Rattle.laws.specs.EntriesKeep.{event_keeps}
+use Rattle.laws.proofs.EntriesKeep.{event_keeps}
 use Rattle.laws.specs.LastChosen.{Fixed, event_same, sound_apart}
 use Rattle.corollaries.specs.TurnOutcome.{Next, TurnOutcome, spoilt, nothing_runs, goes, step_spoilt, turn_outcome}
 

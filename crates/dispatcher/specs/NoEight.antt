@@ -12,7 +12,8 @@ use Rattle.turns.specs.Turn.{Turned}
 use Rattle.turns.specs.Moves.{Move, enters, turns, turned, move, moves}
 use Rattle.turns.specs.Promises.{NoEightRun}
 use Rattle.laws.specs.Tests.{tf}
-use Rattle.linear.specs.Events.{Before, event_next}
+use Rattle.linear.specs.Events.{Before}
+use Rattle.linear.proofs.Events.{event_next}
 use Rattle.corollaries.specs.TurnOutcome.{TurnOutcome, spoilt, nothing_runs, goes, step_spoilt, turn_outcome}
 use Rattle.dispatcher.specs.Erasure.{Beside, same_event, beside_event, beside_turn}
 

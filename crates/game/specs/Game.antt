@@ -1,10 +1,9 @@
 -- Lane against office (paper 02, U14): the moves of each side, what a move does, who wins with so many plies left, and what is said of
 -- a position. A ply is one turn of one side. Assumes nothing.
-use Rattle.std.specs.Prelude.{ℕ, zero, suc, ◌*◌, ◌-◌, Bool, true, false, not, ◌&&◌, ◌||◌, ltb, eqb}
+use Rattle.std.specs.Prelude.{ℕ, zero, suc, ◌*◌, ◌-◌, Bool, true, false, not, ◌&&◌, ◌||◌, ltb, eqb, if◌then◌else◌}
 use Rattle.spec.specs.declared.Call.TheVariants.{Insert, Grow, Shrink}
 use Rattle.spec.specs.declared.Output.{Output}
 use Rattle.spec.specs.declared.Output.TheVariants.{At, End, Refuse}
-use Rattle.spec.specs.Lists.{if◌then◌else◌}
 use Rattle.spec.specs.Numbers.{call_number}
 use Rattle.spec.specs.Machine.{Machine, task_of}
 use Rattle.spec.specs.Sound.{within, task_count, sound}

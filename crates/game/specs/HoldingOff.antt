@@ -1,8 +1,7 @@
 -- If the lanes do not win within n of their turns, the office has a strategy that keeps task 0's insert from ending in them,
 -- whatever the lanes play: to make a move after which they do not win. Assumes nothing.
-use Rattle.std.specs.Prelude.{ℕ, zero, suc, ◌≡◌, refl, [], ◌∷◌, Bool, true, false, ◌&&◌}
+use Rattle.std.specs.Prelude.{ℕ, zero, suc, ◌≡◌, refl, [], ◌∷◌, Bool, true, false, ◌&&◌, if◌then◌else◌}
 use Rattle.std.proofs.Common.{sym, ap, ◌∙◌}
-use Rattle.spec.specs.Lists.{if◌then◌else◌}
 use Rattle.spec.specs.Machine.{Machine}
 use Rattle.laws.specs.Tests.{tf}
 use Rattle.game.specs.declared.OfficeMove.{OfficeMove}

@@ -1,7 +1,6 @@
 -- The game as text, for the program `yardgame`: a session whose last line is `game=N`, and the one line that is printed for it.
 -- Assumes nothing.
-use Rattle.std.specs.Prelude.{ℕ, ◌≡◌, refl, List, [], ◌∷◌, ◌++◌, eqb}
-use Rattle.spec.specs.Lists.{if◌then◌else◌}
+use Rattle.std.specs.Prelude.{ℕ, ◌≡◌, refl, List, [], ◌∷◌, ◌++◌, eqb, if◌then◌else◌}
 use Rattle.spec.specs.Machine.{Machine}
 use Rattle.spec.specs.Entries.{Opened}
 use Rattle.spec.specs.Schedule.{Event, starts, steps, run}

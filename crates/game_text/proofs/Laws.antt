@@ -1,4 +1,5 @@
 -- A line taken, and the end of the input, by what the code's calls gave. Assumes nothing.
+use Rattle.std.specs.Prelude.{if◌then◌else◌}
 use Prim.Native.Nat.{ℕ}
 use mathlib.Core.Path.{◌≡◌, refl, sym, ap, subst, ◌∙◌}
 use mathlib.Core.List.{List, [], ◌∷◌, ◌++◌}
@@ -6,7 +7,6 @@ use mathlib.Core.Bool.{Bool, true, false}
 use borrow.Author.Tests.{eq-eqb, ne_eqb, eqb-true}
 use lib.Dec.{eqb}
 use lib.ListN.{take, drop, take-append-drop}
-use Rattle.spec.specs.Lists.{if◌then◌else◌}
 use Rattle.spec.specs.Machine.{Machine, machine_of}
 use Rattle.session.specs.declared.Decimal.{Decimal}
 use Rattle.session.specs.declared.Decimal.TheVariants.{Value, NotDecimal}
@@ -179,7 +179,7 @@ module _ (a : Asked) (t : Standing) (ns bs : List ℕ) where
   pub refused_to : a ≡ NotYet → (why : ℕ) → why ≡ end_refusal (place t ns bs) → (count : ℕ) (before after : List ℕ)
       → buffer after count ≡ append (refusal_line why) (buffer before 0) → EndsAt (ends_as a (place t ns bs)) count ns bs before after
   unfolding ends_as end_line
-  refused_to e why f count before after w =
+  refused_to e n f count before after w =
       subst (λ (x : Asked). EndsAt (ends_as x (place t ns bs)) count ns bs before after) (sym e)
       (record { nodes = refl; buckets = refl; wrote = w ∙ ap (λ (r : ℕ). append (refusal_line r) (buffer before 0)) f })
 

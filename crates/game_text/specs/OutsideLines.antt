@@ -1,11 +1,10 @@
 -- A line that is too long or not closed refuses the input with the number with which an end there refuses it. Assumes nothing.
-use Rattle.std.specs.Prelude.{ℕ, ◌≡◌, List, Bool}
+use Rattle.std.specs.Prelude.{ℕ, ◌≡◌, List, Bool, if◌then◌else◌}
 use Rattle.std.proofs.Math.Path.{refl, ap}
 use Rattle.std.proofs.Common.{◌∙◌, arith}
 use Rattle.std.proofs.Math.Bool.{true, false}
 use borrow.Author.Tests.{eqb-false}
 use Rattle.std.proofs.Math.Dec.{eqb}
-use Rattle.spec.specs.Lists.{if◌then◌else◌}
 use Rattle.spec.specs.Entries.{opening}
 use Rattle.session.specs.declared.Decimal.TheVariants.{NotDecimal}
 use Rattle.session.specs.declared.EventLine.{EventLine}
@@ -16,7 +15,8 @@ use Rattle.session.specs.declared.HeaderStep.{HeaderStep}
 use Rattle.session.specs.declared.HeaderStep.TheVariants.{Absent, Missing}
 use Rattle.session.specs.Grammar.{InputLine, admissible, parse_header_line}
 use Rattle.session.specs.Header.{optional}
-use Rattle.session.specs.LineLaws.{outside_step, outside_event}
+use Rattle.session.specs.LineLaws.{outside_event}
+use Rattle.session.proofs.LineLaws.{outside_step}
 use Rattle.session_pools.specs.PoolParts.{node_part, bucket_part}
 use Rattle.session_state.specs.declared.Phase.{Phase}
 use Rattle.session_state.specs.declared.Phase.TheVariants.{Due, Events, Stopped}

@@ -1,10 +1,9 @@
 -- A game's input as a reader of lines (Readers of stdio) has it, `game_takes` and `game_outside`; after a refusal whatever follows gives the same answer,
 -- `game_decides`. The answer is short: `answer_short`. What is printed for an input in memory is its answer: `game_exact`. Assumes nothing.
-use Rattle.std.specs.Prelude.{ℕ, ◌≤◌, ◌≡◌, refl, List, [], ◌∷◌, Bool, true, false, not, eqb, length, take}
+use Rattle.std.specs.Prelude.{ℕ, ◌≤◌, ◌≡◌, refl, List, [], ◌∷◌, Bool, true, false, not, eqb, length, take, if◌then◌else◌}
 use Rattle.std.proofs.Math.Path.{sym}
 use Rattle.std.proofs.Common.{ap, subst, ◌∙◌, arith}
 use Rattle.std.proofs.lemmas.Bool.{eqb-false, not-true}
-use Rattle.spec.specs.Lists.{if◌then◌else◌}
 use Rattle.session.specs.Buffer.{buffer, append}
 use Rattle.session.specs.Grammar.{InputLine, closed_line, open_line, input_lines, admissible}
 use Rattle.session.specs.OutputLengths.{refusal_length}

@@ -1,7 +1,6 @@
 -- An input of the game, one line at a time over lent pools, and its end: the definitions that the code is held to. That they give the
 -- answer of Text (game) is shown in LinesAnswer. Assumes nothing.
-use Rattle.std.specs.Prelude.{ℕ, ◌≡◌, List, [], Bool, not, ◌||◌, eqb}
-use Rattle.spec.specs.Lists.{if◌then◌else◌}
+use Rattle.std.specs.Prelude.{ℕ, ◌≡◌, List, [], Bool, not, ◌||◌, eqb, if◌then◌else◌}
 use Rattle.spec.specs.Entries.{opening}
 use Rattle.session.specs.declared.Decimal.{Decimal}
 use Rattle.session.specs.declared.Decimal.TheVariants.{Value, NotDecimal}

@@ -1,6 +1,8 @@
 // The text of `yardgame` (Text of game): a session whose last line is `game=N`, and the one line that is printed for it. Here: a closed line
 // at a time, over the machine of a session; `ending` has what is printed at the end, `program` a whole input over standard input. Nothing is
 // printed before the end.
+#![tactic(auto)]
+
 pub mod ending;
 pub mod program;
 
@@ -14,14 +16,14 @@ use session_machine::Stage;
 use session_state::{Phase, Session};
 
 // The game that is asked for: none yet, or of so many turns.
-#[derive(Drop)]
+#[derive(Clone, Copy)]
 pub enum Asked {
     NotYet,
     Turns(u32),
 }
 
 // An input between two lines: its session, the number with which it is refused, or 0, and the game.
-#[derive(Drop)]
+#[derive(Clone, Copy)]
 pub struct Standing {
     pub session: Session,
     pub refused: u32,

@@ -1,4 +1,6 @@
 // The entries that move the yard set: start and step.
+#![tactic(auto)]
+
 ghost use Rattle.std.specs.Prelude.{◌≡◌};
 ghost use Rattle.spec.specs.Entries.{start, step};
 ghost use Rattle.spec.specs.Machine.{machine_of};

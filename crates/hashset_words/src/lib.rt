@@ -1,5 +1,7 @@
 // The entries that move the yard set, start and step, of a state that a caller outside Rattle lends as words: what they change of it. Memory is tested
 // on the words; a start makes no state, a step makes one of sound words.
+#![tactic(auto)]
+
 ghost use Rattle.std.specs.Prelude.{◌≡◌, true, length};
 ghost use Rattle.spec.specs.Entries.{start, step};
 ghost use Rattle.spec.specs.Machine.{machine_of};

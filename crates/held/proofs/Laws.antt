@@ -1,4 +1,5 @@
 -- Laws of the marks of a node's places, of all tasks and of the marked nodes. Assumes nothing.
+use Rattle.std.specs.Prelude.{if◌then◌else◌}
 use mathlib.Core.Path.{◌≡◌, refl, sym, ap, ◌∙◌}
 use mathlib.Core.List.{List, [], ◌∷◌, ◌++◌, append-nil, append_assoc}
 use mathlib.Core.Bool.{Bool, true, false, ◌||◌}
@@ -9,7 +10,7 @@ use borrow.Author.Tests.{ne_eqb}
 use lib.Dec.{eqb}
 use lib.ListN.{get_or, take, drop}
 use lib.Seq.{take-nil}
-use Rattle.spec.specs.Lists.{if◌then◌else◌, member, filter, range, concat_map}
+use Rattle.spec.specs.Lists.{member, filter, range, concat_map}
 use Rattle.spec.specs.Words.{link, place, places}
 use Rattle.spec.specs.declared.Task.{Task}
 use Rattle.spec.specs.Held.{chain, task_nodes, held_nodes}

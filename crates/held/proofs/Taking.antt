@@ -1,4 +1,5 @@
 -- Taking: what is taken in a sound machine. Assumes nothing.
+use Rattle.std.specs.Prelude.{if◌then◌else◌}
 use mathlib.Core.Path.{◌≡◌, refl, sym, ap, ◌∙◌}
 use mathlib.Core.List.{List, [], ◌∷◌, ◌++◌}
 use mathlib.Core.Bool.{Bool, true, false, ◌||◌, ◌&&◌}
@@ -13,8 +14,9 @@ use Rattle.laws.specs.Ascending.{member_filter}
 use Rattle.laws.specs.Soundness.{sound_facts}
 use Rattle.laws.specs.Links.{filled_link}
 use Rattle.laws.specs.JoinedLists.{join_from, from_join}
-use Rattle.laws.specs.Held.{member_held, held_filled, held_node_below}
-use Rattle.spec.specs.Lists.{if◌then◌else◌, member, filter, range, concat_map}
+use Rattle.laws.specs.Held.{held_filled, held_node_below}
+use Rattle.laws.proofs.Held.{member_held}
+use Rattle.spec.specs.Lists.{member, filter, range, concat_map}
 use Rattle.spec.specs.Machine.{Machine}
 use Rattle.spec.specs.Words.{number, link, places}
 use Rattle.spec.specs.Sound.{node_count, bucket_count, sound}

@@ -1,7 +1,7 @@
 -- The numbers of marked nodes. What the two functions take, for any state and words.
 -- Assumes nothing.
-use Rattle.std.specs.Prelude.{ℕ, List, ◌++◌, Bool, false, ◌&&◌, ltb, leb, get_or}
-use Rattle.spec.specs.Lists.{if◌then◌else◌, filter, range, concat_map}
+use Rattle.std.specs.Prelude.{ℕ, List, ◌++◌, Bool, false, ◌&&◌, ltb, leb, get_or, if◌then◌else◌}
+use Rattle.spec.specs.Lists.{filter, range, concat_map}
 use Rattle.spec.specs.Machine.{Machine}
 use Rattle.spec.specs.Words.{number, places}
 use Rattle.spec.specs.Sound.{node_count, bucket_count}

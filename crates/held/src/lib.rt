@@ -1,5 +1,7 @@
 // Which nodes and buckets are held, as marks, and which one is taken next: the first that is not held after the last taken, going
 // round. Each held node is marked first, and then its places are walked once.
+#![tactic(auto)]
+
 ghost use Rattle.std.specs.Prelude.{◌≡◌, List, ℕ, ◌<◌};
 ghost use Rattle.spec.specs.Lists.{concat_map};
 ghost use Rattle.spec.specs.Machine.{machine_of};

@@ -1,4 +1,5 @@
 -- Laws of marks: they compose as the lists of links that they mark. Assumes nothing.
+use Rattle.std.specs.Prelude.{if◌then◌else◌}
 use mathlib.Core.Path.{◌≡◌, refl, sym, ap, ◌∙◌}
 use mathlib.Core.List.{List, [], ◌∷◌, ◌++◌}
 use mathlib.Core.Bool.{Bool, true, false, ◌||◌, or_assoc}
@@ -10,7 +11,7 @@ use lib.Dec.{eqb}
 use lib.ListN.{length, get_or, drop, set, replicate, drop_of_length-le, get_or-replicate, length-replicate, length-set}
 use lib.Seq.{drop-cons, get_or-set_same, get_or-set_other}
 use Rattle.laws.specs.Lists.{member_append}
-use Rattle.spec.specs.Lists.{if◌then◌else◌, member, concat_map}
+use Rattle.spec.specs.Lists.{member, concat_map}
 use Rattle.spec.specs.Words.{number, pred}
 use Rattle.spec.specs.declared.Task.{Task}
 use Rattle.spec.specs.Held.{chain, task_buckets}

@@ -1,4 +1,6 @@
 // Marks of held records: of a link, of a node with its predecessors, of a task's buckets; and the first record without one, going round.
+#![tactic(auto)]
+
 ghost use Rattle.std.specs.Prelude.{◌≡◌, List, [], ◌∷◌, ℕ, ◌≤◌, ◌<◌, length};
 ghost use Rattle.spec.specs.Held.{chain, task_buckets, first_free, cyclic_order};
 ghost use Rattle.held_marks.specs.Marks.{Marks, Exactly};

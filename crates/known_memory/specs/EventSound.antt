@@ -10,7 +10,7 @@ use Rattle.spec.specs.Entries.{Opened, opening, not_opened, refuse, start, step}
 use Rattle.spec.specs.Schedule.{Event, starts, steps, event}
 use Rattle.laws.specs.Tests.{bool?}
 use Rattle.laws.specs.OpeningSound.{OpeningOutcome, refused, accepted, opening_outcome, opening_sound}
-use Rattle.laws.specs.EntriesKeep.{event_keeps}
+use Rattle.laws.proofs.EntriesKeep.{event_keeps}
 
 spoilt_kept : (y : Machine) (v : Event) → sound y ≡ false → (event y v).machine ≡ y
 unfolding event start step refuse

@@ -1,5 +1,7 @@
 // A start and a step where it is known whether memory is sound, so that it is not scanned: an accepted opening leaves it sound, and no event
 // changes whether it is (`event_sound`).
+#![tactic(auto)]
+
 ghost use Rattle.std.specs.Prelude.{◌≡◌, List, ℕ, ◌%◌, length};
 ghost use Rattle.spec.specs.Machine.{Machine, machine_of, task_of};
 ghost use Rattle.spec.specs.Sound.{sound};

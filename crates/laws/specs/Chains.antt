@@ -1,13 +1,13 @@
 -- A chain of H predecessor links in a pool of H nodes is closed: what it names, its predecessor too. Each further link marks a node
 -- that was not marked, and there are only H of them. Assumes nothing.
 use Prim.Native.Nat.{ℕ, zero, suc, ◌-◌, ◌≤◌, ◌<◌}
-use Rattle.std.specs.Prelude.{◌≡◌, refl, ◌⊎◌, Bool, false, ◌||◌, List, ◌∷◌, eqb}
+use Rattle.std.specs.Prelude.{◌≡◌, refl, ◌⊎◌, Bool, false, ◌||◌, List, ◌∷◌, eqb, if◌then◌else◌}
 use Rattle.std.proofs.Common.{sym, ap, le_refl, eqb-true, eq-eqb, ne_eqb}
 use Rattle.std.proofs.Math.Logic.{inl, inr}
 use Rattle.std.proofs.Math.Bool.{true}
 use native.Mathlib.Omega.{arith}
 use Rattle.std.proofs.Math.Decide.{ℕ_discrete}
-use Rattle.spec.specs.Lists.{if◌then◌else◌, member}
+use Rattle.spec.specs.Lists.{member}
 use Rattle.spec.specs.Words.{link, number, pred}
 use Rattle.spec.specs.Held.{chain}
 use Rattle.laws.specs.Tests.{bool?, tf, or_e, or_l, or_r}

@@ -1,10 +1,10 @@
 -- What it means that a line's effect is in order: its write keeps memory sound, and so does the task's next record. What the reads of a
 -- line give in sound memory: links and tags that are in order. Assumes nothing.
-use Rattle.std.specs.Prelude.{ℕ, ◌≤◌, ◌<◌, ◌≡◌, refl, List, Bool, true, false}
+use Rattle.std.specs.Prelude.{ℕ, ◌≤◌, ◌<◌, ◌≡◌, refl, List, Bool, true, false, if◌then◌else◌}
 use Rattle.std.proofs.Common.{arith}
 use Rattle.spec.specs.declared.Task.{Task}
 use Rattle.spec.specs.declared.Answer.{Answer}
-use Rattle.spec.specs.Lists.{if◌then◌else◌, member}
+use Rattle.spec.specs.Lists.{member}
 use Rattle.spec.specs.Machine.{Machine}
 use Rattle.spec.specs.Words.{nothing, number, apply}
 use Rattle.spec.specs.Sound.{bucket_count}

@@ -1,5 +1,5 @@
 -- Start and step by their outcome, and that they keep memory sound, whatever sound memory they are given. Assumes nothing.
-use Rattle.std.specs.Prelude.{ℕ, ◌+◌, ◌≤◌, ◌<◌, min, ◌≡◌, refl, List, [], ◌∷◌, true, false, not, ltb}
+use Rattle.std.specs.Prelude.{ℕ, ◌+◌, ◌≤◌, ◌<◌, min, ◌≡◌, refl, true, false, not, ltb}
 use Rattle.std.proofs.Common.{arith, ltb-true, ltb-false}
 use Rattle.std.proofs.lemmas.Bool.{not-true, not-false}
 use Rattle.spec.specs.declared.Call.{Call}
@@ -7,18 +7,15 @@ use Rattle.spec.specs.declared.Call.TheVariants.{Insert, Remove, Contains, Grow,
 use Rattle.spec.specs.declared.Output.TheVariants.{At}
 use Rattle.spec.specs.Lists.{member}
 use Rattle.spec.specs.Machine.{Machine, idle, fresh_task, with_own, set_task, task_of}
-use Rattle.spec.specs.Words.{new_node, new_bucket, apply}
+use Rattle.spec.specs.Words.{apply}
 use Rattle.spec.specs.Sound.{fill_lines, lines_of, resizes, sound}
 use Rattle.spec.specs.Lines.{Next, on, ends, Effect, effect}
 use Rattle.spec.specs.StepRefusals.{unsound_step, all_held}
 use Rattle.spec.specs.Entries.{refuse, started, withdrawn, start, Reply, finish, accept, step_running, step}
-use Rattle.spec.specs.Schedule.{event, Event, starts, steps, run}
 use Rattle.laws.specs.Tests.{choose, tf}
 use Rattle.laws.specs.SoundFacts.{RunFacts, TaskFacts, runs, is_idle, SoundFacts}
-use Rattle.laws.specs.Soundness.{sound_facts, facts_sound, run_of}
-use Rattle.laws.specs.StepRefusals.{step_sound_facts}
+use Rattle.laws.specs.Soundness.{sound_facts, facts_sound}
 use Rattle.laws.specs.EffectSound.{NextSound, EffectSound}
-use Rattle.laws.specs.LinesKeep.{effect_sound}
 use Rattle.laws.specs.TaskKeeps.{no_link, task_keeps, run_own}
 use Rattle.laws.specs.WritesKeep.{write_keeps}
 
@@ -73,19 +70,6 @@ start_outcome y k call tag e =
     choose (StartOutcome y k call tag) (task_of y k).running _ _ (λ b. start_running lt b)
     (λ b. choose (StartOutcome y k call tag) (withdrawn y.state.config call tag) _ _ (λ c. start_withdrawn lt b c) (λ c. start_accepted lt b c))))
 
-pub step_facts : (y : Machine) → SoundFacts y → (k : ℕ) {m : Reply} → StepOutcome y k m → SoundFacts m.machine
-unfolding refuse
-step_facts y f k (step_no_task a) = f
-step_facts y f k (step_idle a b) = f
-step_facts y f k (step_unsound a b c) = f
-step_facts y f k (step_all_held a b c d) = f
-step_facts y f k (step_accepted a b c d) =
-    let t = task_of y k in
-    accept_keeps y f k t.own (effect y t) (effect_sound y f k t b (run_of y f k b) (step_sound_facts y t c) d)
-
-pub step_keeps : (y : Machine) (k : ℕ) → sound y ≡ true → sound (step y k).machine ≡ true
-step_keeps y k e = facts_sound (step y k).machine (step_facts y (sound_facts y e) k (step_outcome y k e))
-
 fresh_facts : (y : Machine) (k call tag line : ℕ) → k < y.state.config.tasks → member line (lines_of call) ≡ true → (resizes call ≡ true → tag ≡ 0)
     → RunFacts y k (fresh_task call tag line)
 unfolding fresh_task
@@ -120,13 +104,3 @@ start_facts y f k call tag (start_accepted a b c) = task_keeps y k (started call
 
 pub start_keeps : (y : Machine) (k : ℕ) (call : Call) (tag : ℕ) → sound y ≡ true → sound (start y k call tag).machine ≡ true
 start_keeps y k call tag e = facts_sound (start y k call tag).machine (start_facts y (sound_facts y e) k call tag (start_outcome y k call tag e))
-
-pub event_keeps : (y : Machine) (v : Event) → sound y ≡ true → sound (event y v).machine ≡ true
-unfolding event
-event_keeps y (starts k call tag) e = start_keeps y k call tag e
-event_keeps y (steps k) e = step_keeps y k e
-
-pub run_keeps : (y : Machine) (vs : List Event) → sound y ≡ true → sound (run y vs).machine ≡ true
-unfolding run
-run_keeps y [] e = e
-run_keeps y (v ∷ vs) e = run_keeps (event y v).machine vs (event_keeps y v e)

@@ -7,8 +7,8 @@ use mathlib.Core.List.{List}
 use Rattle.std.proofs.Math.ListN.{get_or}
 use Rattle.spec.specs.declared.Task.{Task}
 use Rattle.spec.specs.Machine.{Machine, idle, task_of}
-use Rattle.spec.specs.Words.{number, size, pred, place, changeable, count, tags, new_node, new_bucket}
-use Rattle.spec.specs.Sound.{node_count, bucket_count, within}
+use Rattle.spec.specs.Words.{number, size, pred, place, changeable, count, tags}
+use Rattle.spec.specs.Sound.{node_count, bucket_count}
 use Rattle.laws.specs.SoundFacts.{NodeLink, NodeFacts, BucketFacts, RunFacts, TaskFacts, runs, is_idle, SoundFacts}
 use Rattle.laws.specs.AfterWrites.{SameState}
 

@@ -28,7 +28,6 @@ pub mod TaskKeeps
 pub mod CallLines
 pub mod Withdrawn
 pub mod EffectSound
-pub mod LinesKeep
 pub mod EntriesKeep
 pub mod LastChosen
 pub mod OpeningSound

@@ -1,15 +1,15 @@
 -- The listed tags ascend, and a tag is among them exactly if it is in the set. Assumes nothing.
 use Prim.Native.Nat.{ℕ, ◌+◌, ◌*◌, ◌≤◌, ◌<◌}
-use Rattle.std.specs.Prelude.{◌≡◌, ◌⊎◌, true, false, ◌&&◌, drop}
+use Rattle.std.specs.Prelude.{◌≡◌, ◌⊎◌, true, false, ◌&&◌, drop, if◌then◌else◌}
 use Rattle.std.proofs.Math.Path.{refl}
 use Rattle.std.proofs.Common.{ap, ◌∙◌, inl, inr, get_or-drop}
 use mathlib.Core.List.{List, []}
 use Rattle.std.proofs.Math.Bool.{Bool}
 use Rattle.std.proofs.Math.Nat.{mod-lt}
 use native.Mathlib.Omega.{arith}
-use Rattle.spec.specs.Lists.{if◌then◌else◌, member, union, concat_map, ascending}
+use Rattle.spec.specs.Lists.{member, union, concat_map, ascending}
 use Rattle.spec.specs.Machine.{Machine}
-use Rattle.spec.specs.Words.{link, number, filled, size, place, places}
+use Rattle.spec.specs.Words.{link, number, filled, place, places}
 use Rattle.spec.specs.Listed.{size_of, pred_of, place_of, slot, place_for, tags_of, head_of, in_bucket, in_set, placed_tags, node_tags, listed}
 use Rattle.laws.specs.Tests.{bool?, and2, or_l, or_r, if_true, and_i}
 use Rattle.laws.specs.SoundFacts.{NodeLink, SoundFacts}

@@ -1,5 +1,5 @@
 -- The test of one task's record, and of all of them, against the facts of each task by number. Assumes nothing.
-use Rattle.std.specs.Prelude.{ℕ, zero, suc, ◌+◌, ◌≡◌, List, [], ◌∷◌, Bool, not, ◌||◌, ltb, leb, get_or}
+use Rattle.std.specs.Prelude.{ℕ, zero, suc, ◌+◌, ◌≡◌, List, [], ◌∷◌, Bool, not, ◌||◌, ltb, leb, get_or, if◌then◌else◌}
 use Rattle.std.proofs.Math.Path.{refl}
 use Rattle.std.proofs.Common.{◌∙◌, arith}
 use Rattle.std.proofs.Math.Logic.{inl, inr}
@@ -7,7 +7,7 @@ use Rattle.std.proofs.Math.Bool.{true, false}
 use borrow.Author.Tests.{eqb-true, eq-eqb, leb-true, le-leb, ltb-true, lt-ltb, not-true}
 use Rattle.std.proofs.Math.Dec.{eqb}
 use Rattle.spec.specs.declared.Task.{Task}
-use Rattle.spec.specs.Lists.{if◌then◌else◌, member, every}
+use Rattle.spec.specs.Lists.{member, every}
 use Rattle.spec.specs.Machine.{Machine, idle}
 use Rattle.spec.specs.Sound.{bucket_count, lines_of, resizes, node_link, bucket_link, sound_running, zero_task, sound_task, sound_tasks}
 use Rattle.laws.specs.Tests.{tf, and_left, and_right, and_i, and6, and6_i, or_e, if_true}

@@ -2,13 +2,13 @@
 -- the lists of lines in the definitions: `tests_at 47 y c` is `through c.t ∷ through c.s ∷ uses .. ∷ []`. A step whose tests all
 -- pass is accepted, and one with a test that fails is refused. Assumes nothing.
 use Prim.Native.Nat.{ℕ, zero, suc, ◌+◌, ◌≤◌, ◌<◌}
-use Rattle.std.specs.Prelude.{◌≡◌, refl, List, [], ◌∷◌, true, false, ◌&&◌, ◌||◌, ltb, leb, eqb, length, get_or}
+use Rattle.std.specs.Prelude.{◌≡◌, refl, List, [], ◌∷◌, true, false, ◌&&◌, ◌||◌, ltb, leb, eqb, length, get_or, if◌then◌else◌}
 use Rattle.std.proofs.Math.Path.{sym, ap}
 use Rattle.std.proofs.Common.{◌∙◌, leb-false, le-leb, ltb-false, lt-ltb, le-ltb}
 use Rattle.std.proofs.Math.Bool.{Bool, not}
 use Rattle.std.proofs.lemmas.Bool.{lt-leb, not-false}
 use Rattle.spec.specs.declared.Task.{Task}
-use Rattle.spec.specs.Lists.{if◌then◌else◌, member}
+use Rattle.spec.specs.Lists.{member}
 use Rattle.spec.specs.Machine.{Machine}
 use Rattle.spec.specs.Words.{filled}
 use Rattle.spec.specs.Sound.{listed_size}

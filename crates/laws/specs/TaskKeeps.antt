@@ -7,8 +7,8 @@ use Rattle.spec.specs.declared.Task.{Task}
 use Rattle.spec.specs.Lists.{member}
 use Rattle.spec.specs.Machine.{Machine, with_line, state_task, with_state, with_task, with_own, with_i, with_t, with_s, with_b, with_m, with_n}
 use Rattle.spec.specs.Machine.{with_new_node, with_new_bucket, without_places, set_task, task_of}
-use Rattle.spec.specs.Words.{pred, new_node, new_bucket}
-use Rattle.spec.specs.Sound.{bucket_count, lines_of, within}
+use Rattle.spec.specs.Words.{pred}
+use Rattle.spec.specs.Sound.{bucket_count, lines_of}
 use Rattle.laws.specs.Tests.{At as Seen, hit, miss}
 use Rattle.laws.specs.SoundFacts.{NodeLink, RunFacts, TaskFacts, runs, is_idle, SoundFacts}
 use Rattle.laws.specs.AfterWrites.{after_task}

@@ -1,8 +1,8 @@
 -- Tests and their facts: a boolean seen as true or false, joined tests taken apart and put together, a decided choice seen as
 -- hit or miss. Assumes nothing.
-use Rattle.std.specs.Prelude.{ℕ, zero, suc, get_or, ◌≡◌, refl, ◌⊎◌, List, [], ◌∷◌, Bool, true, false, ◌&&◌, ◌||◌}
+use Rattle.std.specs.Prelude.{ℕ, zero, suc, get_or, ◌≡◌, refl, ◌⊎◌, List, [], ◌∷◌, Bool, true, false, ◌&&◌, ◌||◌, if◌then◌else◌}
 use Rattle.std.proofs.Common.{sym, inl, inr, arith}
-use Rattle.spec.specs.Lists.{if◌then◌else◌, all_true}
+use Rattle.spec.specs.Lists.{all_true}
 
 -- what u is, that is v where P holds and w elsewhere
 pub data At {A : Type 0} (P : Type 0) (v w u : A) : Type 0 where

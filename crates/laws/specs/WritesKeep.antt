@@ -7,7 +7,7 @@ use Rattle.std.proofs.Math.ListN.{get_or-eq_default}
 use Rattle.spec.specs.Machine.{Machine}
 use Rattle.spec.specs.Words.{size, pred, place, changeable, count, tags, Write, nothing, set_head, set_place, clear_pred, freeze, put_tags, new_node}
 use Rattle.spec.specs.Words.{new_bucket, apply}
-use Rattle.spec.specs.Sound.{node_count, bucket_count, sound, within}
+use Rattle.spec.specs.Sound.{node_count, bucket_count}
 use Rattle.laws.specs.Tests.{At as Seen, hit, miss, at_hit, at_miss}
 use Rattle.laws.specs.SoundFacts.{NodeLink, NodeFacts, BucketFacts, SoundFacts}
 use Rattle.laws.specs.Sizes.{used, ListedSize, is_listed, listed_low, size_most}

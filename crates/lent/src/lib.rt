@@ -1,5 +1,7 @@
 // The state lent by `&mut`, above the core that passes it by value: a start or a step moves the lent state on. `step_local` and
 // `start_local` lend a local state, so that a caller has the same with the state by value.
+#![tactic(auto)]
+
 ghost use Rattle.std.specs.Prelude.{◌≡◌};
 ghost use Rattle.spec.specs.Entries.{start, step};
 ghost use Rattle.spec.specs.Machine.{machine_of};

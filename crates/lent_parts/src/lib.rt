@@ -1,4 +1,6 @@
-// The parts of what the core gives back, and the whole of them: the walks of `lent` take no struct apart.
+// The parts of what the core gives back, and the whole of them: `lent` takes no struct apart.
+#![tactic(auto)]
+
 ghost use Rattle.std.specs.Prelude.{◌≡◌};
 
 use lines::Stepped;

@@ -1,4 +1,6 @@
 // A line of Figure 2 ends its call: the answer, the task's own steps, how full its bucket is, and an idle record.
+#![tactic(auto)]
+
 ghost use Rattle.std.specs.Prelude.{◌≡◌, List, true, ℕ, ◌<◌};
 ghost use Rattle.spec.specs.Machine.{machine_of};
 ghost use Rattle.spec.specs.Words.{number, count, nothing};

@@ -1,7 +1,6 @@
 -- What a line gives back, as the definitions' reply: the answer, and the state with what the line changes of it and with what is left in both
 -- pools. Assumes nothing.
-use Rattle.std.specs.Prelude.{ℕ, ◌≡◌, List, Bool, false, ltb, set}
-use Rattle.spec.specs.Lists.{if◌then◌else◌}
+use Rattle.std.specs.Prelude.{ℕ, ◌≡◌, List, Bool, false, ltb, set, if◌then◌else◌}
 use Rattle.spec.specs.Entries.{Reply}
 use Rattle.spec.specs.Machine.{machine_of, idle, state_head, state_last_node, state_last_bucket, state_task}
 use Rattle.spec.specs.declared.State.{State}

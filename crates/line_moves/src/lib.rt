@@ -1,5 +1,7 @@
 // What a line of Figure 2 gives: it is refused, or its task goes on. How a call ends stands in `line_ends`. What a line gives, stored in
 // the state, is what `step_running` of the definitions gives for a task that stands there.
+#![tactic(auto)]
+
 ghost use Rattle.std.specs.Prelude.{◌≡◌, List, true, ℕ, ◌+◌, ◌<◌, min};
 ghost use Rattle.spec.specs.Machine.{with_line, machine_of};
 ghost use Rattle.spec.specs.Lines.{moves};
@@ -11,7 +13,7 @@ use spec::{Output, State, Task};
 // What a line answers, and what it may change of the state: the head, the node and the bucket last taken, and the record of the task
 // that moves. A refusal changes nothing: the numbers of the state and an idle record stand beside it. A caller that keeps the state
 // stores these few words in it, and no copy of the state is made.
-#[derive(Drop)]
+#[derive(Clone, Copy)]
 pub struct Moved {
     pub out: Output,
     pub head: u32,

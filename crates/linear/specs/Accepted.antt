@@ -1,6 +1,6 @@
 -- The task records after an accepted step: the stepping task's is at the line said, or idle; the others stay. And that the step of every
 -- running task is accepted or finds no record. Assumes nothing.
-use Rattle.std.specs.Prelude.{◌≡◌, refl, true, false, ℕ, ◌+◌, min, ◌<◌, length}
+use Rattle.std.specs.Prelude.{◌≡◌, refl, false, ℕ, ◌+◌, min, ◌<◌, length}
 use Rattle.std.proofs.Math.Path.{ap}
 use Rattle.std.proofs.Common.{◌∙◌}
 use mathlib.Core.List.{List}
@@ -11,25 +11,9 @@ use Rattle.spec.specs.declared.Output.TheVariants as Outs
 use Rattle.spec.specs.Machine.{Machine, idle, with_own, set_task, task_of}
 use Rattle.spec.specs.Words.{apply}
 use Rattle.spec.specs.Lines.{Effect, Next}
-use Rattle.spec.specs.Entries.{start, finish, accept}
-use Rattle.laws.specs.SoundFacts.{SoundFacts}
+use Rattle.spec.specs.Entries.{finish, accept}
 use Rattle.laws.specs.AfterWrites.{after_task, apply_task}
-use Rattle.laws.specs.Tests.{tf, at_miss, at_hit}
-use Rattle.spec.specs.History.{Ended}
-use Rattle.model.specs.Positions.{Position, no_call, lookup, update, resize}
-use Rattle.model.specs.Runs.{Configuration}
-use Rattle.model.specs.Runs as Runs
-use Rattle.model.specs.PositionFacts.{PositionFacts}
-use Rattle.model.specs.Linearization as Linearization
-use Rattle.model.specs.Linearization.{Invariant}
-use Rattle.linear.specs.EffectOf.{Accepts}
-use Rattle.linear.specs.LookupLines.{lookup_accepts}
-use Rattle.linear.specs.UpdateLines.{update_accepts}
-use Rattle.linear.specs.ResizeLines.{resize_accepts}
-use Rattle.linear.specs.Simulates.{Simulates}
-use Rattle.linear.specs.KnownNodes.{Names, Known, takes_at, named}
-use Rattle.linear.specs.Matches.{Matches}
-use Rattle.linear.specs.Taken.{Taken}
+use Rattle.laws.specs.Tests.{at_miss, at_hit}
 
 -- ---- the tasks' records after an accepted step
 
@@ -61,17 +45,3 @@ module _ (y : Machine) (p own : ℕ) (e : Effect) where
       go : (n : Next) → let m = finish (apply e.write y) p (min (own + 1) 65535) n in OwnAfter own (task_of m.machine p) m.out
       go (Next.on c) = (ap (λ (d : Task). d.line) (is _), ap (λ (d : Task). d.own) (is _))
       go (Next.ends a l) = (ap (λ (d : Task). d.running) (is _), refl)
-
--- ---- what a running task does
-module _ {y : Machine} {w : Configuration} {L : List Ended} (sim : Simulates y
-    w.heap w.position) (f : SoundFacts y) (i : Invariant w L) (p : ℕ) (r : (task_of y p).running ≡ true) where
-  pub accepts : Accepts sim.rep (task_of y p) (w.position p)
-  accepts = go (w.position p) (sim.matches p) (i.task p) (λ x n. named p n) (sim.taken p)
-    where
-      go : (l : Position) → Matches w.heap sim.records l (task_of y p) → PositionFacts w.heap L (w.start p) l
-          → ((x : ℕ) → Names l x → Known w.heap w.position x)
-          → Taken y w.heap (Known w.heap w.position) sim.records (takes_at l) (task_of y p) → Accepts sim.rep (task_of y p) l
-      go no_call m o names v = absurd (tf r m)
-      go (lookup k l) m o names v = lookup_accepts i.heap sim.rep L (w.start p) (task_of y p) k l m o names
-      go (update u k l) m o names v = update_accepts f i.heap sim.rep (task_of y p) k u l m o names v
-      go (resize u l) m o names v = resize_accepts f i.heap sim.rep (task_of y p) u l m o names v

@@ -12,7 +12,7 @@ use Rattle.laws.specs.SoundFacts.{SoundFacts}
 use Rattle.laws.specs.AfterWrites.{AfterPlace, AfterFreeze, AfterBucket}
 use Rattle.model.specs.Functions.{at?, pick_at, upd₂, upd₂_same, upd₂_other}
 use Rattle.model.specs.PlaceState.{empty, changeable, frozen, Filled, of_changeable}
-use Rattle.model.specs.Heap.{Heap, at, fill, freeze, put, slot_in, state_for}
+use Rattle.model.specs.Heap.{Heap, fill, freeze, put, slot_in, state_for}
 use Rattle.model.specs.Writes.{set_frozen⁻}
 use Rattle.linear.specs.Represents.{Records, Represents, AwayBucket, place_word, record_has, NewBucket, bucket_in_pool, place_word_filled, first_word}
 use Rattle.linear.specs.Represents.{with_bucket, HoldsTags, size_bound}

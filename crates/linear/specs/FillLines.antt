@@ -6,7 +6,6 @@ use Rattle.std.proofs.Math.Decide.{ℕ_discrete}
 use Rattle.spec.specs.declared.Task.{Task}
 use Rattle.spec.specs.Machine.{Machine, with_line, with_s, with_b, with_m, with_n, with_new_bucket}
 use Rattle.spec.specs.Words.{Write, link, number, set_place}
-use Rattle.spec.specs.Words as Words
 use Rattle.spec.specs.Sound.{bucket_count}
 use Rattle.spec.specs.Held.{free_bucket}
 use Rattle.spec.specs.Listed.{size_of, pred_of}
@@ -15,7 +14,8 @@ use Rattle.laws.specs.StepAt.{step_table, sound_at, does_at, taken_at}
 use Rattle.laws.specs.SoundFacts.{SoundFacts}
 use Rattle.laws.specs.Links.{true_filled}
 use Rattle.laws.specs.Held.{HeldBucket}
-use Rattle.laws.specs.Taking.{Taking, none_free, takes, bucket_taking}
+use Rattle.laws.specs.Taking.{Taking, none_free, takes}
+use Rattle.laws.proofs.Taking.{bucket_taking}
 use Rattle.laws.specs.Tests.{tf}
 use Rattle.model.specs.PlaceState.{empty, Filled, filled?}
 use Rattle.model.specs.Heap.{Heap}
@@ -28,7 +28,7 @@ use Rattle.model.specs.FillSteps.{empty_is_head}
 use Rattle.linear.specs.Represents.{Represents, Records}
 use Rattle.linear.specs.ReadLinks.{not_none, link_number, size_at, place_filled, place_empty, pred_some_at, pred_none_at}
 use Rattle.linear.specs.LookupLines.{filled_is, pred?}
-use Rattle.linear.specs.KnownNodes.{FillNames, fill_takes, bucket}
+use Rattle.linear.specs.KnownNodes.{FillNames, fill_takes}
 use Rattle.linear.specs.Matches.{at_line, FromOne, FromTwo, FillMatches}
 use Rattle.linear.specs.Taken.{Taken}
 use Rattle.linear.specs.FillEffects.{Before51, FillAccepts, FillEffectOf, fill_moves, fill_freezes, fill_takes_bucket, fill_fills}

@@ -2,15 +2,12 @@
 use Rattle.std.specs.Prelude.{◌≡◌, refl, true, false, ℕ}
 use Rattle.spec.specs.declared.Call.{Call}
 use Rattle.spec.specs.declared.Call.TheVariants.{Insert, Remove, Contains, Grow, Shrink}
-use Rattle.spec.specs.declared.Output.TheVariants as Outs
 use Rattle.spec.specs.Machine.{fresh_task}
-use Rattle.spec.specs.Entries.{started, start}
+use Rattle.spec.specs.Entries.{started}
 use Rattle.model.specs.Heap.{Heap}
 use Rattle.spec.specs.History.{set_call}
 use Rattle.model.specs.Positions.{at_12, at_32, at_20, Position, lookup, update, resize}
 use Rattle.model.specs.Runs.{FirstPosition, first_contains, first_update, first_resize}
-use Rattle.model.specs.Runs as Runs
-use Rattle.model.specs.Linearization as Linearization
 use Rattle.linear.specs.Represents.{Records}
 use Rattle.linear.specs.KnownNodes.{Names, takes_at, nothing}
 use Rattle.linear.specs.Matches.{Matches}

@@ -10,7 +10,6 @@ use Rattle.spec.specs.declared.Task.{Task}
 use Rattle.spec.specs.Lists.{member}
 use Rattle.spec.specs.Machine.{Machine}
 use Rattle.spec.specs.Words.{link}
-use Rattle.spec.specs.Words as Words
 use Rattle.spec.specs.Listed.{tags_of}
 use Rattle.spec.specs.Lines.{gathered}
 use Rattle.laws.specs.SoundFacts.{SoundFacts}
@@ -23,7 +22,6 @@ use Rattle.model.specs.Slots.{mod_grown, mod_shrunk}
 use Rattle.linear.specs.Represents.{Represents, bucket_in_pool, Records}
 use Rattle.linear.specs.ReadLinks.{size_at, tags_at}
 use Rattle.linear.specs.LookupLines.{filled_is}
-use Rattle.linear.specs.KnownNodes.{bucket}
 use Rattle.linear.specs.Matches.{FromOne, FromTwo}
 
 -- what line 49 gathers

@@ -1,8 +1,7 @@
 -- What a position of a call names and has taken: the nodes that its later lines go through, and the bucket of line 50 or the node of
 -- line 28 that no other task knows yet. Known are the head, its predecessor, and the nodes that some task names. Assumes nothing.
 use Rattle.std.specs.Prelude.{◌≡◌, ◌⊎◌, true, List, ℕ, suc, ◌≤◌}
-use Rattle.spec.specs.Words as Words
-use Rattle.model.specs.Heap.{Heap, at}
+use Rattle.model.specs.Heap.{Heap}
 use Rattle.model.specs.Positions.{Fill, at_39, at_40, at_43, at_44, at_46, at_47, at_48, at_52, at_49, at_50, at_51, at_12, at_13, at_15, at_16, at_17}
 use Rattle.model.specs.Positions.{at_18, Update, at_32, at_33, at_36, Resize, at_20, at_24, at_27, at_28, Position, no_call, lookup, update, resize}
 use Rattle.spec.specs.History.{Ended}

@@ -13,7 +13,6 @@ pub mod FillEffects
 pub mod SplitMerge
 pub mod Gathered
 pub mod FillLines
-pub mod UpdateLines
 pub mod ResizeLines
 pub mod Simulates
 pub mod WritesSeen
@@ -26,5 +25,4 @@ pub mod EventOutcomes
 pub mod Events
 pub mod Opening
 pub mod Schedules
-pub mod Theorems
 pub mod Examples

@@ -1,7 +1,7 @@
 -- A contains has made so many steps at each of its lines, and line 13 has answered so: it ends with its third if 13 led to 18, with its fifth
 -- if it led to 15. It holds of the words alone: a task's record is changed by its own accepted steps only, and no line of a contains leads
 -- back. From 13 a filled place leads to 18, an empty one to 15; from there both ways lead to 18 in two steps. Assumes nothing.
-use Rattle.std.specs.Prelude.{ℕ, suc, ◌+◌, min, ◌≤◌, ◌<◌, ◌≡◌, List, [], ◌∷◌, Bool, length}
+use Rattle.std.specs.Prelude.{ℕ, suc, ◌+◌, min, ◌≤◌, ◌<◌, ◌≡◌, List, [], ◌∷◌, Bool, length, if◌then◌else◌}
 use Rattle.std.proofs.Math.Path.{refl}
 use Rattle.std.proofs.Common.{ap, ◌∙◌, inl, inr, arith}
 use Rattle.std.proofs.Math.Bool.{true, false}
@@ -14,7 +14,6 @@ use Rattle.spec.specs.declared.Call.TheVariants.{Contains}
 use Rattle.spec.specs.declared.Occupancy.{Occupancy}
 use Rattle.spec.specs.declared.Output.{Output}
 use Rattle.spec.specs.declared.Output.TheVariants as Outs
-use Rattle.spec.specs.Lists.{if◌then◌else◌}
 use Rattle.spec.specs.Machine.{Machine, fresh_task, with_line, with_t, with_s, with_b, task_of, set_task}
 use Rattle.spec.specs.Words.{filled}
 use Rattle.spec.specs.Sound.{sound}

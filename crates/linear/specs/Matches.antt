@@ -3,9 +3,7 @@ use Rattle.std.specs.Prelude.{◌≡◌, refl, ◌⊎◌, Bool, true, false, ℕ
 use Rattle.std.proofs.Common.{◌∙◌}
 use Rattle.spec.specs.declared.Task.{Task}
 use Rattle.spec.specs.Machine.{with_own}
-use Rattle.spec.specs.Words.{link, size}
-use Rattle.spec.specs.Words as Words
-use Rattle.laws.specs.SoundFacts.{runs}
+use Rattle.spec.specs.Words.{link}
 use Rattle.model.specs.Heap.{Heap, slot_in}
 use Rattle.model.specs.Positions.{Fill, at_39, at_40, at_43, at_44, at_46, at_47, at_48, at_52, at_49, at_50, at_51, Lookup, at_12, at_13, at_15, at_16}
 use Rattle.model.specs.Positions.{at_17, at_18, Update, at_32, at_33, at_36, Resize, at_20, at_24, at_27, at_28, Position, no_call, lookup, update, resize}

@@ -1,5 +1,5 @@
 -- The words go on representing the heap when line 24, 27 or 28 writes. Assumes nothing.
-use Rattle.std.specs.Prelude.{◌≡◌, refl, ◌⊎◌, false, ℕ, suc, pred, ◌≤◌, ◌<◌}
+use Rattle.std.specs.Prelude.{◌≡◌, refl, ◌⊎◌, false, ℕ, suc, ◌≤◌, ◌<◌}
 use Rattle.std.proofs.Common.{sym, ap, ◌∙◌, inl, inr, le_refl, arith}
 use Rattle.std.proofs.Math.Decide.{ℕ_discrete}
 use Rattle.spec.specs.Machine.{Machine}
@@ -10,8 +10,8 @@ use Rattle.laws.specs.Tests.{At, hit, miss, tf, at_miss, at_hit}
 use Rattle.laws.specs.SoundFacts.{SoundFacts}
 use Rattle.laws.specs.AfterWrites.{AfterHead, AfterPred, AfterNode}
 use Rattle.model.specs.Functions.{upd, upd_same, upd_other}
-use Rattle.model.specs.PlaceState.{PlaceState, empty, changeable, Filled, filled_not_empty}
-use Rattle.model.specs.Heap.{Heap, at, unlink, advance}
+use Rattle.model.specs.PlaceState.{PlaceState, empty, Filled, filled_not_empty}
+use Rattle.model.specs.Heap.{Heap, unlink, advance}
 use Rattle.model.specs.Lines.{NoPred}
 use Rattle.linear.specs.Represents.{Records, Represents, size_bound, AwayNode, NewNode, with_node, place_word, first_word, HoldsTags}
 

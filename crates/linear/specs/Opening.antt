@@ -17,7 +17,7 @@ use Rattle.laws.specs.Tests.{tf}
 use Rattle.model.specs.Positions.{no_call}
 use Rattle.model.specs.Runs.{opened, initial, Reachable}
 use Rattle.linear.specs.Simulates.{Simulates}
-use Rattle.linear.specs.KnownNodes.{Known, node, head, behind, named}
+use Rattle.linear.specs.KnownNodes.{Known, head, behind, named}
 use Rattle.linear.specs.Events.{Before}
 use Rattle.spec.specs.History.{none_started}
 use Rattle.laws.specs.OpeningSound.{opened_machine, opening_sound}

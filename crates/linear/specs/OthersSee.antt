@@ -9,7 +9,7 @@ use Rattle.spec.specs.Words.{link, size, place, tags}
 use Rattle.spec.specs.Words as Words
 use Rattle.spec.specs.Sound.{bucket_count}
 use Rattle.model.specs.PlaceState.{Filled}
-use Rattle.model.specs.Heap.{Heap, at, slot_in}
+use Rattle.model.specs.Heap.{Heap, slot_in}
 use Rattle.model.specs.HeapInvariant.{HeapInvariant, Rely, place<}
 use Rattle.model.specs.Positions.{Fill, at_39, at_40, at_43, at_44, at_46, at_47, at_48, at_52, at_49, at_50, at_51, at_12, at_13, at_15, at_16, at_17}
 use Rattle.model.specs.Positions.{at_18, Update, at_32, at_33, at_36, Resize, at_20, at_24, at_27, at_28, Position, no_call, lookup, update, resize}

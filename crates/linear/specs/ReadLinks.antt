@@ -11,7 +11,6 @@ use Rattle.model.specs.Heap.{Heap, state_for, slot_in}
 use Rattle.model.specs.HeapInvariant.{HeapInvariant, place<}
 use Rattle.model.specs.Lines.{NoPred, HasPred}
 use Rattle.linear.specs.Represents.{place_word, place_word_filled, Represents, Records}
-use Rattle.linear.specs.KnownNodes.{bucket}
 
 -- ---- reading through links
 

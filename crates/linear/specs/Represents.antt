@@ -1,7 +1,7 @@
 -- The words represent the heap of the model: the head, sizes, predecessors, places, first words and tags of the known nodes and of
 -- their buckets are in the words as in the heap. K says which nodes are known: the head, its predecessor, and those that a running
 -- task names. R gives the record that each is in; different ones are in different records. Assumes nothing.
-use Rattle.std.specs.Prelude.{◌≡◌, refl, Bool, true, false, ℕ, suc, pred, ◌%◌, ◌≤◌, ◌<◌}
+use Rattle.std.specs.Prelude.{◌≡◌, refl, Bool, true, false, ℕ, suc, ◌%◌, ◌≤◌, ◌<◌}
 use Rattle.std.proofs.Common.{◌∙◌, arith}
 use Rattle.spec.specs.declared.Task.{Task}
 use Rattle.spec.specs.Lists.{member}
@@ -13,7 +13,7 @@ use Rattle.laws.specs.SoundFacts.{SoundFacts}
 use Rattle.laws.specs.Sizes.{size_most}
 use Rattle.model.specs.Functions.{upd, upd₂}
 use Rattle.model.specs.PlaceState.{PlaceState, empty, changeable, frozen, Filled, of_changeable, of_frozen}
-use Rattle.model.specs.Heap.{Heap, at, slot_in}
+use Rattle.model.specs.Heap.{Heap, slot_in}
 use Rattle.model.specs.Lines.{NoPred}
 use Rattle.spec.specs.Listed.{slot}
 

@@ -3,8 +3,6 @@ use Rattle.std.specs.Prelude.{◌≡◌, refl, Bool, true, false, ℕ}
 use Rattle.spec.specs.declared.Answer.{Answer}
 use Rattle.spec.specs.declared.Call.{Call}
 use Rattle.spec.specs.declared.Call.TheVariants.{Insert, Remove, Contains}
-use Rattle.spec.specs.declared.Output.TheVariants as Outs
-use Rattle.spec.specs.Entries.{start}
 use Rattle.model.specs.Heap.{Heap}
 use Rattle.spec.specs.History.{Started, set_call}
 use Rattle.model.specs.Positions.{Position, no_call, lookup, update, resize}
@@ -12,8 +10,6 @@ use Rattle.model.specs.Lines.{Step, step_12, step_13_filled, step_13_empty, step
 use Rattle.model.specs.Lines.{step_33_empty, step_36_frozen, update_fills, step_51_update, step_20, resize_fills, step_51_next, step_51_last, step_24_head}
 use Rattle.model.specs.Lines.{step_24_past, step_27_grow, step_27_shrink, step_20_limit, step_28_done, step_28_lost, EndStep, end_18, end_36_kept}
 use Rattle.model.specs.Lines.{end_36_added, end_36_removed, end_36_absent}
-use Rattle.model.specs.Runs as Runs
-use Rattle.model.specs.Linearization as Linearization
 
 -- ---- a task's last start, and its place in the model
 

@@ -1,19 +1,17 @@
 -- What a task has taken and not yet put in place: a bucket whose tags are those that the place is to have, or a node that is to
 -- follow t, in a record that no known node or bucket has. Known nodes and their buckets are held, so that none of their records
 -- is taken. Assumes nothing.
-use Rattle.std.specs.Prelude.{◌≡◌, ◌⊎◌, true, false, ℕ, ◌<◌}
-use Rattle.std.proofs.Common.{sym, ap, ◌∙◌, inl, inr, arith}
+use Rattle.std.specs.Prelude.{◌≡◌, ◌⊎◌, true, false, ℕ}
+use Rattle.std.proofs.Common.{sym, ap, inl, inr}
 use Rattle.spec.specs.declared.Task.{Task}
 use Rattle.spec.specs.Machine.{Machine, task_of}
-use Rattle.spec.specs.Words.{link, size}
-use Rattle.spec.specs.Words as Words
+use Rattle.spec.specs.Words.{link}
 use Rattle.laws.specs.SoundFacts.{SoundFacts}
-use Rattle.laws.specs.Held.{HeldNode, the_head, as_t, as_s, before, HeldBucket, placed}
-use Rattle.model.specs.PlaceState.{Filled}
+use Rattle.laws.specs.Held.{HeldNode, the_head, as_t, as_s, before}
 use Rattle.model.specs.Heap.{Heap}
 use Rattle.model.specs.Positions.{Fill, at_39, at_40, at_43, at_44, at_46, at_47, at_48, at_52, at_49, at_50, at_51, at_12, at_13, at_15, at_16, at_17}
 use Rattle.model.specs.Positions.{at_18, Update, at_32, at_33, at_36, Resize, at_20, at_24, at_27, at_28, Position, no_call, lookup, update, resize}
-use Rattle.linear.specs.Represents.{place_word_filled, Represents, NewBucket, NewNode, size_bound, Records}
+use Rattle.linear.specs.Represents.{Represents, NewBucket, NewNode, Records}
 use Rattle.linear.specs.KnownNodes.{FillNames, Names, Known, Takes, takes_at, nothing, bucket, node, head, behind, named}
 use Rattle.linear.specs.Matches.{update_call, resize_call, FillMatches, Matches, idle_no_call}
 use Rattle.laws.specs.Tests.{bool?}
@@ -92,8 +90,3 @@ module _ {y : Machine} {h : Heap} {position : ℕ → Position} {R : Records} (f
       go : HoldsNode R (task_of y p) x → HeldNode y (R.node x)
       go (by_t r e) = as_t p r e
       go (by_s r e) = as_s p r e
-
-  pub placed_held : (x j : ℕ) → Known h position x → j < h.size x → Filled (h.place x j) → HeldBucket y (R.bucket x j)
-  placed_held x j k b p =
-      let s = size_bound f rep x k in
-      placed (R.node x) j (known_held x k) (omega arith) (rep.place≡ x j k b ∙ place_word_filled (R.bucket x j) p)

@@ -8,7 +8,7 @@ use Rattle.laws.specs.SoundFacts.{SoundFacts}
 use Rattle.laws.specs.AfterWrites.{AfterHead, AfterPlace, AfterPred, AfterNode, AfterFreeze, AfterBucket}
 use Rattle.model.specs.Functions.{at?, upd, upd_same, upd_other, upd₂, upd₂_same, upd₂_other}
 use Rattle.model.specs.PlaceState.{PlaceState, empty, changeable, Filled, filled_not_empty}
-use Rattle.model.specs.Heap.{Heap, at, fill, freeze, put, unlink, advance, slot_in, state_for}
+use Rattle.model.specs.Heap.{Heap, fill, freeze, put, unlink, advance, slot_in, state_for}
 use Rattle.model.specs.Writes.{set_frozen⁻}
 use Rattle.linear.specs.Represents.{AwayBucket, AwayNode, Records, with_bucket, with_node}
 use Rattle.linear.specs.OthersSee.{OthersSee}

@@ -1,11 +1,12 @@
 -- The record that line 27 or 49 takes is one of its pool.
 -- Assumes nothing.
+use Rattle.std.specs.Prelude.{if◌then◌else◌}
 use mathlib.Core.List.{List, [], ◌∷◌, map}
 use mathlib.Core.Bool.{Bool, true, false}
 use Prim.Native.Nat.{ℕ, ◌+◌, ◌%◌, ◌<◌, ◌≤◌}
 use native.Mathlib.Nat.{mod-lt}
 use native.Mathlib.Omega.{arith}
-use Rattle.spec.specs.Lists.{if◌then◌else◌, member, range}
+use Rattle.spec.specs.Lists.{member, range}
 use Rattle.spec.specs.Machine.{Machine}
 use Rattle.spec.specs.Words.{link}
 use Rattle.spec.specs.Held.{held_nodes, held_buckets, first_free, cyclic_order, free_node, free_bucket}

@@ -1,6 +1,8 @@
 // What the lines of Figure 2 share. One step is one line: each crate `lines_..` has a function for each line of a procedure, in the figure's
 // order, and one that goes by the task's line. A line takes the state by value, the task's number and record, and the words that it
 // reads or writes. What it gives, stored in the state, is what `step_running` of the definitions gives for a task that stands there.
+#![tactic(auto)]
+
 ghost use Rattle.std.specs.Prelude.{◌≡◌, List, ℕ};
 ghost use Rattle.lines.specs.Reply.{reply_of, changes, moved_reply};
 
@@ -11,7 +13,7 @@ pub use line_ends::{end, end_counted};
 pub use line_moves::{Moved, go, refused};
 
 // What an entry answers, and the state after it.
-#[derive(Drop)]
+#[derive(Clone, Copy)]
 pub struct Stepped {
     pub out: Output,
     pub state: State,

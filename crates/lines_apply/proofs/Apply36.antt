@@ -1,5 +1,6 @@
 -- Laws of line 36 and of what a bucket that is not frozen answers.
 -- Assumes nothing.
+use Rattle.std.specs.Prelude.{if◌then◌else◌}
 use mathlib.Core.Path.{◌≡◌, refl, ◌∙◌}
 use mathlib.Core.List.{List, [], ◌∷◌}
 use mathlib.Core.Bool.{Bool, true, false, not, ◌&&◌, and-false}
@@ -11,7 +12,7 @@ use denote.Enum.Declared.{tag_of}
 use types.Run.{OneOf}
 use lib.Dec.{leb, eqb}
 use lib.ListN.{length}
-use Rattle.spec.specs.Lists.{if◌then◌else◌, member, add_tag, remove_tag}
+use Rattle.spec.specs.Lists.{member, add_tag, remove_tag}
 use Rattle.spec.specs.Machine.{Machine, with_line, with_i, without_places}
 use Rattle.spec.specs.declared.Task.{Task}
 use Rattle.spec.specs.declared.Answer.TheVariants as ans

@@ -1,7 +1,6 @@
 -- What the lines that read the head or a bucket's place have in common: 12 and 32; 13, 16, 17 and 33. Assumes nothing.
-use Rattle.std.specs.Prelude.{ℕ}
+use Rattle.std.specs.Prelude.{ℕ, if◌then◌else◌}
 use Rattle.spec.specs.declared.Task.{Task}
-use Rattle.spec.specs.Lists.{if◌then◌else◌}
 use Rattle.spec.specs.Machine.{Machine, with_line, with_i, with_t, with_b}
 use Rattle.spec.specs.Words.{filled}
 use Rattle.spec.specs.Listed.{head_of, place_for}

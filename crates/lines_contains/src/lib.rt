@@ -1,4 +1,6 @@
 // CONTAINS, lines 12 to 18 of Figure 2; and the reads that it shares with APPLY, lines 12 and 32, and 13, 16, 17 and 33.
+#![tactic(auto)]
+
 ghost use Rattle.std.specs.Prelude.{◌≡◌, List, [], ◌∷◌, true, ℕ, ◌-◌, ◌*◌, ◌≤◌, ◌<◌, length, drop};
 ghost use Rattle.spec.specs.Sound.{sound_bucket};
 ghost use Rattle.spec.specs.Machine.{machine_of};

@@ -1,5 +1,6 @@
 -- The bucket that line 49 makes, from one or from two.
 -- Assumes nothing.
+use Rattle.std.specs.Prelude.{if◌then◌else◌}
 use mathlib.Core.Path.{◌≡◌, refl}
 use mathlib.Core.List.{List, [], ◌∷◌}
 use mathlib.Core.Bool.{Bool, true, false}
@@ -8,7 +9,7 @@ use native.Mathlib.Omega.{arith}
 use borrow.Author.Tests.{leb-true, leb-false}
 use lib.Dec.{leb}
 use lib.ListN.{length, drop, length-take}
-use Rattle.spec.specs.Lists.{if◌then◌else◌, filter, union}
+use Rattle.spec.specs.Lists.{filter, union}
 use Rattle.spec.specs.Words.{tags, count, bucket_of}
 use Rattle.spec.specs.Sound.{sound_bucket}
 use Rattle.bucket.specs.declared.Bucket.{Bucket}

@@ -1,5 +1,7 @@
 // INITBUCKET, lines 43 to 49 of Figure 2: the predecessor's bucket or buckets, frozen, and a new one with their tags. Line 52 is the
 // second freeze of line 48.
+#![tactic(auto)]
+
 ghost use Rattle.std.specs.Prelude.{◌≡◌, List, [], ◌∷◌, true, ℕ, ◌-◌, ◌*◌, ◌≤◌, ◌<◌, length, drop};
 ghost use Rattle.spec.specs.Sound.{sound_bucket, sound};
 ghost use Rattle.spec.specs.Machine.{machine_of, with_line};
@@ -20,7 +22,7 @@ use spec::{Config, State, Task};
 // ---- lines of one shape: a place read into a field of the record, a bucket frozen
 
 // The field of a task's record that a line reads a place into.
-#[derive(Drop)]
+#[derive(Clone, Copy)]
 pub enum Field {
     B,
     M,

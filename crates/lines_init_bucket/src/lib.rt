@@ -1,4 +1,6 @@
 // INITBUCKET, lines 39, 40, 50 and 51 of Figure 2: filling place i of t. What is put there is made by lines 43 to 49, in `lines_gather`.
+#![tactic(auto)]
+
 ghost use Rattle.std.specs.Prelude.{◌≡◌, List, ℕ, ◌<◌};
 ghost use Rattle.spec.specs.Sound.{resizes};
 ghost use Rattle.spec.specs.Machine.{machine_of};

@@ -1,4 +1,6 @@
 // RESIZE, lines 20 to 28 of Figure 2. Line 23's calls of INITBUCKET are lines 39 to 51.
+#![tactic(auto)]
+
 ghost use Rattle.std.specs.Prelude.{◌≡◌, List, ℕ, ◌*◌, ◌≤◌, ◌<◌, length};
 ghost use Rattle.spec.specs.Machine.{machine_of};
 ghost use Rattle.spec.specs.Lines.{at_limit};

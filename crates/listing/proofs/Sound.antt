@@ -1,5 +1,6 @@
 -- In a sound machine the tags that the code meets are those listed, each once: so they are counted by their number, and gathered they are
 -- `listed`. Assumes nothing.
+use Rattle.std.specs.Prelude.{if◌then◌else◌}
 use mathlib.Core.Path.{◌≡◌, refl, sym, ap, ◌∙◌}
 use mathlib.Core.Logic.{◌⊎◌, inl, inr}
 use mathlib.Core.List.{List, [], ◌++◌}
@@ -11,7 +12,7 @@ use borrow.Author.Tests.{eqb-true, eq-eqb, ne_eqb}
 use lib.Dec.{eqb}
 use lib.ListN.{length}
 use Rattle.spec.specs.declared.Config.{Config}
-use Rattle.spec.specs.Lists.{if◌then◌else◌, member, filter}
+use Rattle.spec.specs.Lists.{member, filter}
 use Rattle.spec.specs.Machine.{Machine}
 use Rattle.spec.specs.Words.{number, filled, size, pred, place, tags}
 use Rattle.spec.specs.Sound.{sound, bucket_count}

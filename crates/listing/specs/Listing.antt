@@ -1,8 +1,7 @@
 -- The tags in the set as the code meets them, for any words. In a sound machine they are `listed`, each once (proofs/Sound).
 -- Assumes nothing.
-use Rattle.std.specs.Prelude.{ℕ, zero, suc, List, [], ◌∷◌, ◌++◌, Bool, true, false, replicate, set}
+use Rattle.std.specs.Prelude.{ℕ, zero, suc, List, [], ◌∷◌, ◌++◌, Bool, true, false, replicate, set, if◌then◌else◌}
 use Rattle.spec.specs.declared.Config.{Config}
-use Rattle.spec.specs.Lists.{if◌then◌else◌}
 use Rattle.spec.specs.Words.{number, filled, pred}
 use Rattle.bucket.specs.declared.Changed.{Changed}
 use Rattle.bucket.specs.declared.Response.{Response}

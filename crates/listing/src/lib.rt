@@ -1,6 +1,8 @@
 // The tags in the set: how many they are, and all of them in a bucket. A tag counts at the one place where it is looked up: place
 // number `tag mod size` of the head or, where that is empty, of the head's predecessor. So each tag of the buckets that the two nodes
 // place is looked at once.
+#![tactic(auto)]
+
 ghost use Rattle.std.specs.Prelude.{◌≡◌, ◌≤◌, length};
 ghost use Rattle.listing_place.specs.PlaceTags.{place_tags};
 ghost use Rattle.listing.specs.Listing.{places_tags, set_tags, add_to, adds, nothing};
@@ -43,7 +45,7 @@ pub fn count(s: State, ns: &[u32], bs: &[u32]) -> u32
 // ---- which
 
 // A set of tags in a bucket, as long as they are at most 64.
-#[derive(Drop)]
+#[derive(Clone, Copy)]
 pub struct Gathered {
     pub full: bool,
     pub bucket: Bucket,

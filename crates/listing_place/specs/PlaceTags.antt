@@ -1,8 +1,8 @@
 -- The tags in the set at one place, for any words.
 -- Assumes nothing.
-use Rattle.std.specs.Prelude.{ℕ, List, [], Bool}
+use Rattle.std.specs.Prelude.{ℕ, List, [], Bool, if◌then◌else◌}
 use Rattle.spec.specs.declared.Config.{Config}
-use Rattle.spec.specs.Lists.{if◌then◌else◌, filter}
+use Rattle.spec.specs.Lists.{filter}
 use Rattle.spec.specs.Words.{number, filled, place}
 use Rattle.bucket.specs.Bucket.{tags_in}
 use Rattle.pool.specs.Pool.{bucket_at}

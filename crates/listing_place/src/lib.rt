@@ -1,4 +1,6 @@
 // The tags in the set at one place of a node: those of the bucket there that are looked up at this place.
+#![tactic(auto)]
+
 ghost use Rattle.std.specs.Prelude.{◌≡◌, ◌≤◌, length};
 ghost use Rattle.listing_place.specs.PlaceTags.{place_tags};
 

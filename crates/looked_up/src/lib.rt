@@ -1,4 +1,6 @@
 // Where a tag is looked up: at place number `tag mod size` of the head or, where that is empty, of the head's predecessor.
+#![tactic(auto)]
+
 ghost use Rattle.std.specs.Prelude.{◌≡◌};
 ghost use Rattle.looked_up.specs.LookedUp.{looked_up};
 

@@ -1,6 +1,5 @@
 -- The step that mattered (paper 02, U13): `mattered`, of a machine and a list of events. Assumes nothing.
-use Rattle.std.specs.Prelude.{ℕ, zero, suc, List, [], ◌∷◌, Bool, true, false, not, ◌&&◌, length}
-use Rattle.spec.specs.Lists.{if◌then◌else◌}
+use Rattle.std.specs.Prelude.{ℕ, zero, suc, List, [], ◌∷◌, Bool, true, false, not, ◌&&◌, length, if◌then◌else◌}
 use Rattle.spec.specs.Machine.{Machine}
 use Rattle.spec.specs.Schedule.{Event, starts, steps}
 use Rattle.mattered.specs.declared.Verdict.{Verdict}

@@ -1,7 +1,6 @@
 -- What is said of a session (paper 02, U13): `verdict` of its bytes. The refusals in their order: the header's 10, the opening's own, 10 for
 -- any later line, 15. Assumes nothing.
-use Rattle.std.specs.Prelude.{ℕ, List, eqb, ltb, length}
-use Rattle.spec.specs.Lists.{if◌then◌else◌}
+use Rattle.std.specs.Prelude.{ℕ, List, eqb, ltb, length, if◌then◌else◌}
 use Rattle.spec.specs.Machine.{Machine}
 use Rattle.spec.specs.Entries.{Opened}
 use Rattle.spec.specs.Schedule.{Event}

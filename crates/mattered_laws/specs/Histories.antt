@@ -1,6 +1,6 @@
 -- The ended calls compared here are those that paper 01's history has, and the resizes: `history_told`. History tells a call and its tag from
 -- the task's last accepted start, `ended_calls` from the task's record, and every step keeps these (CallsKept). Assumes nothing.
-use Rattle.std.specs.Prelude.{ℕ, zero, suc, ◌+◌, ◌<◌, min, ◌≡◌, Bool, true, false, not, length, replicate}
+use Rattle.std.specs.Prelude.{ℕ, zero, suc, ◌+◌, ◌<◌, min, ◌≡◌, Bool, true, false, not, length, replicate, if◌then◌else◌}
 use Rattle.std.proofs.Math.Path.{refl, sym, ap}
 use Rattle.std.proofs.Common.{◌∙◌, eq-eqb, ne_eqb}
 use mathlib.Core.List.{List, [], ◌∷◌, ◌++◌, map, reverse, reverse-cons, append-nil, append_assoc}
@@ -13,7 +13,7 @@ use Rattle.spec.specs.declared.Call.{Call}
 use Rattle.spec.specs.declared.Call.TheVariants.{Insert, Remove, Contains, Grow, Shrink}
 use Rattle.spec.specs.declared.Config.{Config}
 use Rattle.spec.specs.declared.Task.{Task}
-use Rattle.spec.specs.Lists.{if◌then◌else◌, filter}
+use Rattle.spec.specs.Lists.{filter}
 use Rattle.spec.specs.Numbers.{call_number, answer_number}
 use Rattle.spec.specs.Machine.{Machine, idle, fresh_task, with_own, state_of, task_of, set_task}
 use Rattle.spec.specs.Words.{apply}

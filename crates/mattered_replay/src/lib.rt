@@ -1,5 +1,7 @@
 // Events given as words are run after an opening, all of them or all but one, and the calls that end are noted (`ended_calls` of mattered):
 // four words each, task, call, tag and answer. Memory is its own from the opening on: it is not scanned before an event.
+#![tactic(auto)]
+
 ghost use Rattle.std.specs.Prelude.{◌≡◌, ◌≤◌, ◌<◌, ◌+◌, ◌*◌, length, get_or};
 ghost use Rattle.spec.specs.Machine.{idle, machine_of};
 ghost use Rattle.spec.specs.Sound.{sound};
@@ -17,7 +19,7 @@ use schedule_events::Asked;
 use spec::{Config, Output, State, Task};
 
 // A run up to some event: the state, and how many calls are noted.
-#[derive(Drop)]
+#[derive(Clone, Copy)]
 struct Run {
     state: State,
     count: usize,

@@ -1,5 +1,7 @@
 // The step that mattered (specs of mattered), over events given as words and two lent pools: the events are run once and the calls that end
 // are noted; then they are run from the opening on without each step in turn, until the calls that end are not those noted.
+#![tactic(auto)]
+
 ghost use Rattle.std.specs.Prelude.{◌≡◌, ◌&&◌, not, ◌≤◌, ◌<◌, length};
 ghost use Rattle.spec.specs.Entries.{opening};
 ghost use Rattle.session.specs.Grammar.{equals};

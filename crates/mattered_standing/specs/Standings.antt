@@ -1,7 +1,6 @@
 -- Where a session stands between two lines, and after a line by whether it is of the form of an event's: the definitions that the code is held
 -- to. Assumes nothing.
-use Rattle.std.specs.Prelude.{ℕ, ◌+◌, min, Bool, true, false}
-use Rattle.spec.specs.Lists.{if◌then◌else◌}
+use Rattle.std.specs.Prelude.{ℕ, ◌+◌, min, Bool, true, false, if◌then◌else◌}
 use Rattle.session.specs.declared.Header.{Header}
 use Rattle.session.specs.declared.HeaderLine.TheVariants.{Tasks}
 use Rattle.session.specs.declared.HeaderStep.{HeaderStep}

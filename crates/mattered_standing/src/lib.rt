@@ -1,5 +1,7 @@
 // Where the reading of a session stands between two lines: which line is due, the header as far as it is read, and how many events there were; and
 // where it stands after one line more. The words of the events are kept in mattered_text.
+#![tactic(auto)]
+
 ghost use Rattle.std.specs.Prelude.{◌≡◌, ◌+◌, min, ltb};
 ghost use Rattle.mattered_standing.specs.Standings.{standing, new_standing, after_event, after_header};
 
@@ -8,7 +10,7 @@ use session_state::Phase;
 
 // An input between two lines: which line is due, the header as far as it is read, whether a line after it was outside the grammar, and how
 // many events there were, at most 257.
-#[derive(Drop)]
+#[derive(Clone, Copy)]
 pub struct Standing {
     pub phase: Phase,
     pub header: Header,

@@ -1,15 +1,15 @@
 -- A line that is too long or not closed fixes what is said, whatever its bytes are and whatever follows: the same as at an end of the input in its middle.
 -- Assumes nothing.
-use Rattle.std.specs.Prelude.{◌≡◌, List, ◌∷◌, Bool, true, false, ℕ}
+use Rattle.std.specs.Prelude.{◌≡◌, List, ◌∷◌, Bool, true, false, ℕ, if◌then◌else◌}
 use Rattle.std.proofs.Common.{ap, ◌∙◌}
-use Rattle.spec.specs.Lists.{if◌then◌else◌}
 use Rattle.schedule_events.specs.Events.{events_of}
 use Rattle.session.specs.declared.Header.{Header}
 use Rattle.session.specs.declared.HeaderStep.{HeaderStep}
 use Rattle.session.specs.declared.HeaderStep.TheVariants.{Absent, Missing}
 use Rattle.session.specs.Grammar.{InputLine, admissible}
 use Rattle.session.specs.Header.{optional}
-use Rattle.session.specs.LineLaws.{outside_step, outside_event}
+use Rattle.session.specs.LineLaws.{outside_event}
+use Rattle.session.proofs.LineLaws.{outside_step}
 use Rattle.session.specs.Transcript.{is_event, session_opening}
 use Rattle.session_state.specs.declared.Phase.{Phase}
 use Rattle.session_state.specs.declared.Phase.TheVariants.{Due, Events, Stopped}

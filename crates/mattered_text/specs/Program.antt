@@ -1,9 +1,8 @@
 -- A session as a reader of lines (Readers of stdio) has it, `mattered_takes` and `mattered_outside`. After a line outside the grammar, or a refused opening,
 -- whatever follows gives the same answer: `mattered_decides`. What is printed for an input in memory is its answer: `mattered_exact`. Assumes nothing.
-use Rattle.std.specs.Prelude.{ℕ, ◌≤◌, ◌≡◌, refl, List, [], ◌∷◌, Bool, true, false, not, ◌||◌, eqb, length, take}
+use Rattle.std.specs.Prelude.{ℕ, ◌≤◌, ◌≡◌, refl, List, [], ◌∷◌, Bool, true, false, not, ◌||◌, eqb, length, take, if◌then◌else◌}
 use Rattle.std.proofs.Math.Path.{sym}
 use Rattle.std.proofs.Common.{ap, ◌∙◌, arith, length-append}
-use Rattle.spec.specs.Lists.{if◌then◌else◌}
 use Rattle.session.specs.declared.Header.{Header}
 use Rattle.session.specs.Buffer.{buffer, append}
 use Rattle.session.specs.Grammar.{InputLine, closed_line, open_line, input_lines, admissible}

@@ -1,7 +1,6 @@
 -- A session whose lines are read one after the other, with the words of at most 256 events kept, and what is said at the end: the definitions that
 -- the code is held to. That they give the verdict is shown in LinesVerdict. Assumes nothing.
-use Rattle.std.specs.Prelude.{ℕ, ◌+◌, ◌*◌, ◌≡◌, List, [], ◌∷◌, Bool, true, false, not, ◌&&◌, ◌||◌, eqb, ltb, leb, length}
-use Rattle.spec.specs.Lists.{if◌then◌else◌}
+use Rattle.std.specs.Prelude.{ℕ, ◌+◌, ◌*◌, ◌≡◌, List, [], ◌∷◌, Bool, true, false, not, ◌&&◌, ◌||◌, eqb, ltb, leb, length, if◌then◌else◌}
 use Rattle.spec.specs.Numbers.{call_number}
 use Rattle.spec.specs.Words.{overwrite}
 use Rattle.spec.specs.Entries.{Opened}

@@ -1,6 +1,8 @@
 // The text of `yardmattered` (Text of mattered): a session, and the one line that is printed for it. Here: a closed line at a time, the words of the
 // first 256 events kept in a lent slice; `ending` has what is said at the end, `program` a whole input over standard input. Nothing is said before the
 // end, and the machine is opened there.
+#![tactic(auto)]
+
 mod ending;
 pub mod program;
 

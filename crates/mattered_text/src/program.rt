@@ -11,6 +11,7 @@ use mattered_standing::Standing;
 use session_state::Phase;
 use stdio::input::Input;
 use stdio::output::Text;
+use stdio::source::Source;
 use stdio::{input, output};
 
 // Whether what is said at the end is fixed, whatever follows. It is not after 257 events: a line outside the grammar goes before their 15.
@@ -43,7 +44,13 @@ fn take_given(t: Standing, q: Input, events: &mut [u32]) -> Standing
 
 // What is printed for an input: standard input if `reads`, else the bytes of the room. One line of at most 28 bytes (`answer_short`). Reads until the
 // input ends, or a line fixes the answer.
-fn text(reads: bool, room: &mut [u8], events: &mut [u32], out: &mut [u8]) -> Text
+fn text<S: Source>(
+    from: &mut S,
+    reads: bool,
+    room: &mut [u8],
+    events: &mut [u32],
+    out: &mut [u8],
+) -> Text
     requires { (1024 ≤ length events.old) × (28 ≤ length out.old) }
     ensures prints { Prints mattered_answer reads room.old result.input (take result.len out.new) }
     ensures len_in_bounds { result.len ≤ length out.new }
@@ -51,7 +58,7 @@ fn text(reads: bool, room: &mut [u8], events: &mut [u32], out: &mut [u8]) -> Tex
     let mut p = input::begin(reads, room.len());
     let mut s = mattered_standing::new_standing();
     while 0 < p.left {
-        let q = input::next_line(p, room);
+        let q = input::next_line(from, p, room);
         let t = take_given(s, q, events);
         s = t;
         let d = input::settle(q, decided(s));
@@ -71,12 +78,12 @@ fn room_for_events() -> [u32; 1024]
 }
 
 // The program: its exit status.
-pub fn yardmattered() -> i32
+pub fn yardmattered<S: Source>(from: &mut S) -> i32
     ensures { Ran mattered_answer result }
 {
     let mut room = input::room();
     let mut events = room_for_events();
     let mut out = [0u8; 28];
-    let t = text(true, &mut room, &mut events, &mut out);
+    let t = text(from, true, &mut room, &mut events, &mut out);
     output::exit(b"mattered", t, &out)
 }

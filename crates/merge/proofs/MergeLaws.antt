@@ -15,7 +15,7 @@ use Rattle.notes.specs.declared.Notes.{Notes}
 use Rattle.notes.specs.declared.Verdict.TheVariants.{Order, NoOrder, Refused}
 use Rattle.notes.specs.Orders.{Lane}
 use Rattle.notes.specs.Merge.{Found, order, none, search, search_all, searched, unfit, merge, list_of, lane_number, lane_words, no_lanes, merged}
-use Rattle.notes.specs.Search.{order_length, sound}
+use Rattle.notes.proofs.Search.{order_length, sound}
 use Rattle.merge.specs.declared.Tried.{Tried}
 use Rattle.merge.specs.Inside.{toggled, Stands}
 use Rattle.merge.specs.Trying.{rest, left, Standing, placed, tried}

@@ -1,9 +1,9 @@
 -- Whether a tag is inside after calls that were all answered rightly: if an odd number of them put it in or took it out, since these two
 -- take turns. What the plain set then answers. Assumes nothing.
-use Rattle.std.specs.Prelude.{ℕ, ◌+◌, ◌≤◌, ◌≡◌, List, [], ◌∷◌, Bool, true, false, not, ◌&&◌, eqb, length, take}
+use Rattle.std.specs.Prelude.{ℕ, ◌+◌, ◌≤◌, ◌≡◌, List, [], ◌∷◌, Bool, true, false, not, ◌&&◌, eqb, length, take, if◌then◌else◌}
 use Rattle.spec.specs.declared.Call.{Call}
 use Rattle.spec.specs.declared.Call.TheVariants.{Insert, Remove, Contains, Grow, Shrink}
-use Rattle.spec.specs.Lists.{if◌then◌else◌, member}
+use Rattle.spec.specs.Lists.{member}
 use Rattle.spec.specs.Numbers.{answer_number}
 use Rattle.laws.specs.Ascending.{Rising}
 use Rattle.notes.specs.declared.Note.{Note}

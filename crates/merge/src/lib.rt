@@ -1,6 +1,8 @@
 // Two lanes' notes put in one order (paper 02, U8): `merge`. The search tries the first lane's next call, and the second's where that
 // cannot succeed, so it asks each beginning of an order at most once: 3,430 calls of the plain set for two lists of six (Cost of notes).
 // No set is kept: where all calls so far were answered rightly, a tag is inside if an odd number of them put it in or took it out.
+#![tactic(auto)]
+
 ghost use Rattle.std.specs.Prelude.{◌≡◌, List, ℕ, ◌+◌, ◌≤◌, ◌<◌, take};
 ghost use Rattle.spec.specs.Numbers.{answer_number};
 ghost use Rattle.notes.specs.Orders.{Lane};
@@ -12,7 +14,7 @@ use notes::{Merged, Note, Notes, Verdict};
 use spec::{Answer, Call};
 
 // Whether an order of the calls that are left was found, and its lanes, from the place of the first of these calls on.
-#[derive(Drop)]
+#[derive(Clone, Copy)]
 struct Tried {
     found: bool,
     lane: [u8; 12],

@@ -16,7 +16,7 @@ use Rattle.model.specs.Filling.{NewSourcesFew, InNode, SourceFrozen, ListedFew, 
 use Rattle.model.specs.Slots.{mod_grown, mod_shrunk}
 
 -- no line of filling moves the head
-pub fill_head : {h g : Heap} {t i : ℕ} {l l' : Fill} → FillStep h t i l g l' → g.head ≡ h.head
+pub fill_head : {h : Heap} {t i : ℕ} {g : Heap} {l l' : Fill} → FillStep h t i l g l' → g.head ≡ h.head
 fill_head (step_39_empty e) = refl
 fill_head (step_39_filled e) = refl
 fill_head step_40_filled = refl
@@ -136,7 +136,7 @@ module _ (h : Heap) (inv : HeapInvariant h) where
         sources = λ s j a c p. inl (a, c, set_frozen⁻ h.place x i f (suc s) j p);
       }
 
-  pub fill_step : ListedFew h → SourcesFew h → {g : Heap} {l l' : Fill} (t i : ℕ) → FillStep h t i l g l' → InNode h t i → FillFacts h t i l
+  pub fill_step : ListedFew h → SourcesFew h → (t i : ℕ) {g : Heap} {l l' : Fill} → FillStep h t i l g l' → InNode h t i → FillFacts h t i l
       → KeepsTags h g × FillFacts g t i l'
   fill_step few all t i (step_39_empty e) w o = (unchanged, λ f. absurd (tf f refl))
   fill_step few all t i (step_39_filled f) w o = (unchanged, λ e. f)

@@ -11,6 +11,5 @@ pub mod Slots
 pub mod Filling
 pub mod FillSteps
 pub mod PositionFacts
-pub mod Steps
 pub mod Ends
 pub mod Linearization

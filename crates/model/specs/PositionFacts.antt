@@ -3,7 +3,7 @@
 use Rattle.std.specs.Prelude.{◌≡◌, ◌⊎◌, Bool, true, false, List, [], ℕ, suc, ◌≤◌, ◌<◌, length}
 use Rattle.std.proofs.Common.{ap, ◌∙◌, inl, inr, arith}
 use Rattle.model.specs.PlaceState.{changeable, frozen, Filled, Seen, is_empty, is_changeable, is_frozen, seen, filled_not_empty}
-use Rattle.model.specs.Heap.{Heap, at, abs, slot_in, state_for}
+use Rattle.model.specs.Heap.{Heap, abs, slot_in, state_for}
 use Rattle.model.specs.HeapInvariant.{Ratio, HeapInvariant, Rely, changeable_decides}
 use Rattle.spec.specs.Lists.{member}
 use Rattle.spec.specs.History.{Ended}

@@ -6,7 +6,7 @@ use Rattle.std.proofs.Common.{sym, ap, ◌∙◌, inl, inr, mod-eq_of_lt, le_ref
 use Rattle.std.proofs.Math.Decide.{ℕ_discrete}
 use Rattle.laws.specs.Tests.{At, hit, miss, bool?, tf}
 use Rattle.model.specs.Functions.{at?, pick_at, upd, upd_at, upd_same, upd_other, upd₂, upd₂_at, upd₂_same, upd₂_other}
-use Rattle.model.specs.PlaceState.{PlaceState, empty, changeable, frozen, Filled, of_changeable, of_frozen, is_empty, filled_not_empty, not_both}
+use Rattle.model.specs.PlaceState.{PlaceState, empty, changeable, frozen, Filled, of_changeable, of_frozen, filled_not_empty, not_both}
 use Rattle.model.specs.PlaceState.{filled_changeable, filled_frozen}
 use Rattle.model.specs.Heap.{Heap, at, decider_of, decider, abs, decider_empty, decider_filled, fill, freeze, put, unlink, advance, slot_in, state_for}
 use Rattle.model.specs.HeapInvariant.{Ratio, HeapInvariant, Rely, place<, changeable_decides}

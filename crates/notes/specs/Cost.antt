@@ -1,12 +1,11 @@
 -- How many calls a search asks of the plain set: at most 3,430 for two lists of six, as many as an order has beginnings other than the
 -- empty one (`asks_at_most`), and so many for the lists `slowest` (`asks_so_many`). Assumes nothing.
-use Rattle.std.specs.Prelude.{ℕ, zero, suc, ◌+◌, ◌≤◌, ◌≡◌, refl, Bool, true, false, length, replicate}
+use Rattle.std.specs.Prelude.{ℕ, zero, suc, ◌+◌, ◌≤◌, ◌≡◌, refl, Bool, true, false, length, replicate, if◌then◌else◌}
 use native.Mathlib.Omega.{arith}
 use mathlib.Core.List.{List, [], ◌∷◌, ◌++◌}
 use Rattle.spec.specs.declared.Answer.TheVariants.{Yes, No}
 use Rattle.spec.specs.declared.Call.TheVariants.{Insert, Contains}
 use Rattle.spec.specs.Everything.{everything}
-use Rattle.spec.specs.Lists.{if◌then◌else◌}
 use Rattle.notes.specs.declared.Note.{Note}
 use Rattle.notes.specs.Orders.{note, Lane, first, second, asked}
 use Rattle.notes.specs.Merge.{Found, order, none, preceded, or_else, either, gives, take_call, choice, search}

@@ -1,6 +1,5 @@
 pub mod Orders
 pub mod Merge
-pub mod Search
 pub mod Theorems
 pub mod Cost
 pub mod Text

@@ -1,9 +1,9 @@
 -- Paper 02, U8: "Given two lists of at most six calls each, say whether some order that keeps both lists gives those answers from an
 -- empty set. If so, write it, taking the first lane's call wherever both choices can still succeed." Assumes nothing.
-use Rattle.std.specs.Prelude.{ℕ, zero, suc, ◌+◌, ◌-◌, List, [], ◌∷◌, ◌++◌, map, Bool, not, ◌||◌, ltb, eqb, length, take, replicate}
+use Rattle.std.specs.Prelude.{ℕ, zero, suc, ◌+◌, ◌-◌, List, [], ◌∷◌, ◌++◌, map, Bool, not, ◌||◌, ltb, eqb, length, take, replicate, if◌then◌else◌}
 use Rattle.spec.specs.declared.Answer.TheVariants.{No}
 use Rattle.spec.specs.declared.Call.TheVariants.{Contains}
-use Rattle.spec.specs.Lists.{if◌then◌else◌, every}
+use Rattle.spec.specs.Lists.{every}
 use Rattle.spec.specs.Numbers.{answer_number}
 use Rattle.spec.specs.History.{set_call}
 use Rattle.notes.specs.declared.Note.{Note}

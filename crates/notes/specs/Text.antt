@@ -1,11 +1,10 @@
 -- Two lanes' notes as text, and what the program `yardnotes` prints for a whole input: lines `note=LANE,insert,TAG,ANSWER` (also remove and
 -- contains) and `note=LANE,grow,ANSWER` (also shrink), LANE 1 or 2, in any mixture of the lanes; lines and numbers are as in a session.
 -- It prints the order as such lines, or `none`, or `refuse=10`, else `refuse=13`. Assumes nothing.
-use Rattle.std.specs.Prelude.{ℕ, ◌+◌, ◌≡◌, refl, List, [], ◌∷◌, ◌++◌, Bool, true, false, ◌&&◌, eqb, length, take, drop}
+use Rattle.std.specs.Prelude.{ℕ, ◌+◌, ◌≡◌, refl, List, [], ◌∷◌, ◌++◌, Bool, true, false, ◌&&◌, eqb, length, take, drop, if◌then◌else◌}
 use Rattle.spec.specs.declared.Answer.TheVariants.{Yes, No, Full, Done, Lost, Limit}
 use Rattle.spec.specs.declared.Call.{Call}
 use Rattle.spec.specs.declared.Call.TheVariants.{Insert, Remove, Contains, Grow, Shrink}
-use Rattle.spec.specs.Lists.{if◌then◌else◌}
 use Rattle.session.specs.declared.EventLine.{EventLine}
 use Rattle.session.specs.declared.EventLine.TheVariants.{Start, Step, Outside as NoEvent}
 use Rattle.session.specs.Ascii.{codes, ascii}

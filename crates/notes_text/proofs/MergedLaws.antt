@@ -13,7 +13,8 @@ use Rattle.notes.specs.declared.Merged.{Merged}
 use Rattle.notes.specs.declared.Verdict.{Verdict}
 use Rattle.notes.specs.declared.Verdict.TheVariants.{Order, NoOrder, Refused}
 use Rattle.notes.specs.Merge.{order, none, Outcome, searched, refused, unfit, merge, list_of, merged}
-use Rattle.notes.specs.Theorems.{unfit_refused, order_iff}
+use Rattle.notes.specs.Theorems.{unfit_refused}
+use Rattle.notes.proofs.Theorems.{order_iff}
 use Rattle.notes.specs.Text.{none_line, outcome_lines, merge_lines}
 use Rattle.merge.specs.Trying.{first_six}
 use Rattle.merge.proofs.Laws.{list_short}

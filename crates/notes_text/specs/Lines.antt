@@ -1,12 +1,11 @@
 -- Line by line, an input of notes prints its transcript: `lines_print_transcript`. A seventh note of a lane, and those after it, change nothing but
 -- that the list is longer. A line outside the grammar fixes the answer (`outside_decides`), and so does one that is too long or not closed
 -- (`notes_outside`). Assumes nothing.
-use Rattle.std.specs.Prelude.{◌≡◌, Bool, ◌||◌, ℕ, ◌+◌, ltb, take, set}
+use Rattle.std.specs.Prelude.{◌≡◌, Bool, ◌||◌, ℕ, ◌+◌, ltb, take, set, if◌then◌else◌}
 use Rattle.std.proofs.Math.Path.{refl}
 use Rattle.std.proofs.Common.{sym, ◌∙◌, lt-ltb, le-ltb, ltb-true, ltb-false}
 use mathlib.Core.List.{List, [], ◌∷◌, ◌++◌, append_assoc, append-nil}
 use Rattle.std.proofs.Math.Bool.{true, false}
-use Rattle.spec.specs.Lists.{if◌then◌else◌}
 use Rattle.session.specs.Grammar.{InputLine, input_lines, admissible}
 use Rattle.session.specs.Print.{refusal_line}
 use Rattle.session.specs.KeptLists.{KeptIn, KeptAs, past, whole as all_kept, kept_as, keeps_one, keeps_past}

@@ -1,12 +1,12 @@
 -- What is printed for an input of notes has at most 744 bytes, twelve lines of at most 62: `answer_bound`. Assumes nothing.
-use Rattle.std.specs.Prelude.{ℕ, ◌*◌, ◌≤◌, ◌≡◌, ◌⊎◌, List, [], ◌∷◌, Bool, true, false, not, ◌||◌, ltb}
+use Rattle.std.specs.Prelude.{ℕ, ◌*◌, ◌≤◌, ◌≡◌, ◌⊎◌, List, [], ◌∷◌, Bool, true, false, not, ◌||◌, ltb, if◌then◌else◌}
 use native.Mathlib.Omega.{arith}
 use Rattle.std.proofs.Math.Path.{refl}
 use Rattle.std.proofs.Common.{inl, inr, ltb-false, length-append}
 use Rattle.std.proofs.Math.ListN.{length}
 use Rattle.spec.specs.declared.Call.{Call}
 use Rattle.spec.specs.declared.Call.TheVariants.{Insert, Remove, Contains, Grow, Shrink}
-use Rattle.spec.specs.Lists.{if◌then◌else◌, every}
+use Rattle.spec.specs.Lists.{every}
 use Rattle.spec.specs.History.{set_call}
 use Rattle.session.specs.Grammar.{InputLine}
 use Rattle.session.specs.Print.{decimal, refusal_line}
@@ -15,8 +15,9 @@ use Rattle.laws.specs.Tests.{bool?, or_none}
 use Rattle.notes.specs.declared.Note.{Note}
 use Rattle.notes.specs.Orders.{Lane, first, second}
 use Rattle.notes.specs.Merge.{order, none, Outcome, searched, refused, unfit, merge, list_of}
-use Rattle.notes.specs.Search.{order_length}
-use Rattle.notes.specs.Theorems.{unfit_refused, order_iff}
+use Rattle.notes.proofs.Search.{order_length}
+use Rattle.notes.specs.Theorems.{unfit_refused}
+use Rattle.notes.proofs.Theorems.{order_iff}
 use Rattle.notes.specs.Text.{call_field, note_line, order_lines, outcome_lines, merge_lines, parse_note_line}
 use Rattle.notes_text.specs.declared.reading.Reading.{Reading}
 use Rattle.notes_text.specs.Reading.{add_line, answer}

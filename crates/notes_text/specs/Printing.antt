@@ -1,8 +1,7 @@
 -- The calls of two lists in the order of some lanes' numbers, printed as far as the lists go: of an order's words this is `order_lines`.
 -- Assumes nothing.
-use Rattle.std.specs.Prelude.{ℕ, ◌≡◌, refl, List, [], ◌∷◌, ◌++◌, map, Bool, true, false, eqb}
+use Rattle.std.specs.Prelude.{ℕ, ◌≡◌, refl, List, [], ◌∷◌, ◌++◌, map, Bool, true, false, eqb, if◌then◌else◌}
 use Rattle.std.proofs.Common.{ap}
-use Rattle.spec.specs.Lists.{if◌then◌else◌}
 use Rattle.notes.specs.declared.Note.{Note}
 use Rattle.notes.specs.Orders.{Lane, from_first, from_second, Interleaves, none_left, taking}
 use Rattle.notes.specs.Merge.{lane_number, lane_words}

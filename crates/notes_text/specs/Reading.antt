@@ -1,8 +1,7 @@
 -- An input of notes, line by line: the definitions that the code is held to. That they print the transcript is shown in Lines. Assumes nothing.
-use Rattle.std.specs.Prelude.{ℕ, ◌+◌, List, [], ◌∷◌, Bool, true, false, ltb, set, replicate}
+use Rattle.std.specs.Prelude.{ℕ, ◌+◌, List, [], ◌∷◌, Bool, true, false, ltb, set, replicate, if◌then◌else◌}
 use Rattle.spec.specs.declared.Answer.TheVariants.{No}
 use Rattle.spec.specs.declared.Call.TheVariants.{Contains}
-use Rattle.spec.specs.Lists.{if◌then◌else◌}
 use Rattle.session.specs.Grammar.{InputLine, closed_line}
 use Rattle.session.specs.Print.{refusal_line}
 use Rattle.notes.specs.declared.Note.{Note}

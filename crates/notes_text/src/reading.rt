@@ -9,7 +9,7 @@ use spec::{Answer, Call};
 use stdio::input::Input;
 
 // An input as far as it is read: whether a line was outside the grammar, and both lanes' notes.
-#[derive(Drop)]
+#[derive(Clone, Copy)]
 pub struct Reading {
     pub outside: bool,
     pub one: Notes,

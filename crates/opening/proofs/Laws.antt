@@ -1,5 +1,6 @@
 -- Laws of an opening: its refusal decides what it gives, and an accepted one has pools that fit.
 -- Assumes nothing.
+use Rattle.std.specs.Prelude.{if◌then◌else◌}
 use mathlib.Core.Path.{◌≡◌, refl}
 use mathlib.Core.List.{List, ◌∷◌}
 use mathlib.Core.Bool.{Bool, true, false, not, ◌&&◌}
@@ -10,7 +11,6 @@ use lib.Dec.{leb, eqb}
 use lib.ListN.{length, replicate}
 use Rattle.laws.specs.Tests.{and_left, and_right}
 use Rattle.spec.specs.declared.Config.{Config}
-use Rattle.spec.specs.Lists.{if◌then◌else◌}
 use Rattle.spec.specs.Sound.{within, version_known}
 use Rattle.spec.specs.Entries.{Opened, opening, not_opened, fresh_machine, pool_fits}
 use Rattle.opening.specs.Opening.{refusal_of, first_node, first_bucket}

@@ -1,7 +1,6 @@
 -- An opening in parts, as the code makes it: the refusal, and what an accepted opening writes. Assumes nothing.
-use Rattle.std.specs.Prelude.{ℕ, ◌/◌, ◌≡◌, refl, List, Bool, true, false, not, length, set, replicate}
+use Rattle.std.specs.Prelude.{ℕ, ◌/◌, ◌≡◌, refl, List, Bool, true, false, not, length, set, replicate, if◌then◌else◌}
 use Rattle.spec.specs.declared.Config.{Config}
-use Rattle.spec.specs.Lists.{if◌then◌else◌}
 use Rattle.spec.specs.Sound.{within, version_known}
 use Rattle.spec.specs.Entries.{Opened, opening, pool_fits, not_opened, fresh_machine}
 

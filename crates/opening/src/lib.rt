@@ -1,4 +1,6 @@
 // Opening the yard set on two lent pools.
+#![tactic(auto)]
+
 ghost use Rattle.std.specs.Prelude.{◌≡◌, length};
 ghost use Rattle.spec.specs.Entries.{opening};
 ghost use Rattle.spec.specs.Machine.{zero_config, state_of, machine_of};
@@ -11,7 +13,7 @@ const MOST_NODES: usize = pool::MOST_NODES as usize;
 const MOST_BUCKETS: usize = pool::MOST_BUCKETS as usize;
 
 // What an opening gives: 0 or a refusal, and the state.
-#[derive(Drop)]
+#[derive(Clone, Copy)]
 pub struct Opened {
     pub refusal: u32,
     pub state: State,

@@ -1,5 +1,5 @@
 -- U12 with U11's records, where no step is refused with 7: in a run of starts, steps and turns, with nobody starting a call, every running
--- call ends within 292 × T turns. The type; proved in TurnsLeft. Assumes nothing.
+-- call ends within 292 × T turns. The type; proved in proofs/TurnsLeft. Assumes nothing.
 use Rattle.std.specs.Prelude.{ℕ, suc, ◌*◌, ◌≤◌, ◌≡◌, false, List, [], ◌∷◌}
 use Rattle.spec.specs.declared.Config.{Config}
 use Rattle.spec.specs.Machine.{task_of}

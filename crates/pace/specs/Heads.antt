@@ -72,7 +72,7 @@ one_on : (w v : ℕ) (a : Answer) → a ≡ Done → v ≡ suc w → HeadMoves w
 unfolding done_with
 one_on w v a e f = rw e (record { rises = omega arith; at_most = omega arith })
 
-pub outcome_head : {w v : Configuration} {p own : ℕ} {o : Output} → Outcome w p own o v → StandsAt o (v.position p)
+pub outcome_head : {w : Configuration} {p : ℕ} {v : Configuration} {own : ℕ} {o : Output} → Outcome w p own o v → StandsAt o (v.position p)
     → HeadMoves w.heap.head v.heap.head (done_in o)
 outcome_head {w} {p = p} (went_on g l line) at = go (step_head line)
   where

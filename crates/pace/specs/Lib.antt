@@ -4,8 +4,5 @@ pub mod Pace
 pub mod CountFits
 pub mod CountsKept
 pub mod Totals
-pub mod NoNewStarts
 pub mod EndsByTurns
-pub mod TurnsLeft
-pub mod Theorems
 pub mod Rows

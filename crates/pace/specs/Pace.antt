@@ -51,7 +51,7 @@ lines_before (at_49 s) = 6
 lines_before (at_50 s) = 7
 lines_before at_51 = 8
 
-fill_goes_on : {h g : Heap} {t i : ℕ} {l l' : Fill} → FillStep h t i l g l' → lines_before l < lines_before l'
+fill_goes_on : {h : Heap} {t i : ℕ} {g : Heap} {l l' : Fill} → FillStep h t i l g l' → lines_before l < lines_before l'
 fill_goes_on (step_39_empty e) = omega arith
 fill_goes_on (step_39_filled e) = omega arith
 fill_goes_on step_40_filled = omega arith

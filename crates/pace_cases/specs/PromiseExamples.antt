@@ -1,12 +1,11 @@
 -- Examples for the promises of request U12: each number at its bound and one past it, in told runs; what is a start, what is counted from now
 -- on, and what refuses a step. Assumes nothing.
-use Rattle.std.specs.Prelude.{ℕ, zero, suc, ◌≤◌, ◌<◌, ◌≡◌, refl, List, [], ◌∷◌, ◌++◌, map, Bool, true, false, eqb, replicate}
+use Rattle.std.specs.Prelude.{ℕ, zero, suc, ◌≤◌, ◌<◌, ◌≡◌, refl, List, [], ◌∷◌, ◌++◌, map, Bool, true, false, eqb, replicate, if◌then◌else◌}
 use Rattle.std.proofs.Common.{sym, subst, ◌∙◌, arith, eqb-true}
 use Rattle.spec.specs.declared.Answer.TheVariants.{Yes, No, Full, Done, Lost, Limit}
 use Rattle.spec.specs.declared.Call.{Call}
 use Rattle.spec.specs.declared.Call.TheVariants.{Insert, Remove, Contains, Grow, Shrink}
 use Rattle.spec.specs.declared.Output.TheVariants.{At, Refuse}
-use Rattle.spec.specs.Lists.{if◌then◌else◌}
 use Rattle.spec.specs.Machine.{config_of, task_of}
 use Rattle.spec.specs.Schedule.{starts, steps}
 use Rattle.spec.specs.Rows.{stepping, ended}

@@ -1,4 +1,5 @@
 -- Laws that the proofs of the functions cite: the bytes that are kept, and one byte more. Assumes nothing.
+use Rattle.std.specs.Prelude.{if◌then◌else◌}
 use mathlib.Core.Path.{◌≡◌, sym, ap, ◌∙◌}
 use mathlib.Core.Bool.{Bool, true, false}
 use mathlib.Core.List.{List}
@@ -7,7 +8,6 @@ use native.Mathlib.Omega.{arith}
 use borrow.Author.Tests.{lt-ltb, le-ltb}
 use lib.Dec.{ltb}
 use lib.ListN.{length, take, set, length-set}
-use Rattle.spec.specs.Lists.{if◌then◌else◌}
 use lib.Seq.{take_all}
 use Rattle.partial_line.specs.declared.PartialLine.{PartialLine}
 use Rattle.partial_line.specs.PartialLines.{partial, pushed}

@@ -1,6 +1,5 @@
 -- A line that is not closed yet, of which at most 41 bytes are kept. Assumes nothing.
-use Rattle.std.specs.Prelude.{ℕ, ◌+◌, List, ltb, take, set, replicate}
-use Rattle.spec.specs.Lists.{if◌then◌else◌}
+use Rattle.std.specs.Prelude.{ℕ, ◌+◌, List, ltb, take, set, replicate, if◌then◌else◌}
 use Rattle.partial_line.specs.declared.PartialLine.{PartialLine}
 
 abbrev pub partial : List ℕ → ℕ → PartialLine

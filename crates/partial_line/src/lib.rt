@@ -1,12 +1,14 @@
 // A line that is not closed yet: its bytes, at most 41 of them, since a line of more than 40 is outside the grammar however it goes
 // on.
+#![tactic(auto)]
+
 ghost use Rattle.std.specs.Prelude.{◌≡◌, ◌≤◌, eqb, length, take};
 ghost use Rattle.session.specs.Keys.{newline};
 ghost use Rattle.partial_line.specs.PartialLines.{empty_line, line_bytes, pushed};
 ghost use Rattle.partial_line.specs.Filling.{Fills};
 
 // The bytes of a line that is not closed yet, and how many they are.
-#[derive(Drop)]
+#[derive(Clone, Copy)]
 pub struct PartialLine {
     pub bytes: [u8; 41],
     pub len: usize,
@@ -46,7 +48,7 @@ fn push(h: PartialLine, x: u8) -> PartialLine
 }
 
 // A line as far as some bytes bring it: how many of them it takes, with the one that closes it, and whether one does.
-#[derive(Drop)]
+#[derive(Clone, Copy)]
 pub struct Filled {
     pub line: PartialLine,
     pub used: usize,

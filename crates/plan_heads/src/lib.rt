@@ -1,10 +1,12 @@
 // The head as the planner keeps it, the head that a resize makes, and which lists are too long.
+#![tactic(auto)]
+
 ghost use Rattle.std.specs.Prelude.{◌≡◌, ltb};
 ghost use Rattle.plan_heads.specs.Heads.{resized};
 
 // The head: the size of its predecessor, 0 for none, its own size, and of each place whether it is filled. Places at or past the size are
 // not read.
-#[derive(Drop)]
+#[derive(Clone, Copy)]
 pub struct Head {
     pub pred: u32,
     pub size: u32,

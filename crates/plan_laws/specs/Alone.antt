@@ -1,12 +1,11 @@
 -- A task that makes its calls alone: the head of the model's heap is as the planner has it, and by the task's position so many steps and
 -- buckets are left until its call ends. Here: the definitions. Assumes nothing.
-use Rattle.std.specs.Prelude.{◌≡◌, Bool, true, false, ℕ, suc, ◌+◌, ◌-◌, ◌<◌, eqb, get_or, drop}
+use Rattle.std.specs.Prelude.{◌≡◌, Bool, true, false, ℕ, suc, ◌+◌, ◌-◌, ◌<◌, eqb, get_or, drop, if◌then◌else◌}
 use Rattle.spec.specs.declared.Answer.{Answer}
 use Rattle.spec.specs.declared.Answer.TheVariants.{Done, Limit}
 use Rattle.spec.specs.declared.Call.{Call}
 use Rattle.spec.specs.declared.Call.TheVariants.{Contains, Grow, Shrink}
 use Rattle.spec.specs.declared.Config.{Config}
-use Rattle.spec.specs.Lists.{if◌then◌else◌}
 use Rattle.spec.specs.Listed.{slot}
 use Rattle.spec.specs.Plain.{plain}
 use Rattle.spec.specs.Lines.{at_limit, resized}

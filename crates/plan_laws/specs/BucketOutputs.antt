@@ -1,6 +1,6 @@
 -- "how many bucket records it takes": an accepted step takes a bucket record exactly if it answers `At 50`, in any machine. So the planner's
 -- figure can be read from the outputs of a run. Line by line, from spec's Lines alone. Assumes nothing.
-use Rattle.std.specs.Prelude.{ℕ, ◌+◌, ◌*◌, min, ◌≡◌, ◌⊎◌, List, [], ◌∷◌, map, Bool, ◌||◌, ltb}
+use Rattle.std.specs.Prelude.{ℕ, ◌+◌, ◌*◌, min, ◌≡◌, ◌⊎◌, List, [], ◌∷◌, map, Bool, ◌||◌, ltb, if◌then◌else◌}
 use Rattle.std.proofs.Math.Path.{refl}
 use Rattle.std.proofs.Common.{sym, ◌∙◌, inl, inr, eq-eqb, ne_eqb}
 use Rattle.std.proofs.Math.Bool.{true, false, not}
@@ -11,7 +11,7 @@ use Rattle.spec.specs.declared.Answer.{Answer}
 use Rattle.spec.specs.declared.Answer.TheVariants.{Yes, No, Full, Done, Lost, Limit}
 use Rattle.spec.specs.declared.Output.{Output}
 use Rattle.spec.specs.declared.Output.TheVariants.{At, End, Refuse}
-use Rattle.spec.specs.Lists.{if◌then◌else◌, member}
+use Rattle.spec.specs.Lists.{member}
 use Rattle.spec.specs.Machine.{Machine, with_line, with_i, with_t, with_s, with_b, with_m, with_n, with_new_node, with_new_bucket, without_places}
 use Rattle.spec.specs.Words.{filled, Write, nothing, set_head, set_place, clear_pred, freeze, put_tags, new_node, new_bucket, apply}
 use Rattle.spec.specs.Sound.{resizes}

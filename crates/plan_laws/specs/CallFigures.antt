@@ -1,6 +1,6 @@
 -- What is left at a call's first line are the planner's figures, and they are never more than 292 own steps: a node has at most 32 places, and
 -- a place takes at most nine lines. Assumes nothing.
-use Rattle.std.specs.Prelude.{◌≡◌, refl, Bool, true, false, List, [], ◌∷◌, ℕ, ◌+◌, ◌*◌, ◌≤◌, eqb, length}
+use Rattle.std.specs.Prelude.{◌≡◌, refl, Bool, true, false, List, [], ◌∷◌, ℕ, ◌+◌, ◌*◌, ◌≤◌, eqb, length, if◌then◌else◌}
 use Rattle.std.proofs.Math.Decide.{ℕ_discrete}
 use Rattle.std.proofs.Common.{arith, eq-eqb, ne_eqb}
 use Rattle.spec.specs.declared.Answer.{Answer}
@@ -8,7 +8,7 @@ use Rattle.spec.specs.declared.Answer.TheVariants.{Done, Limit}
 use Rattle.spec.specs.declared.Call.{Call}
 use Rattle.spec.specs.declared.Call.TheVariants.{Insert, Remove, Contains, Grow, Shrink}
 use Rattle.spec.specs.declared.Config.{Config}
-use Rattle.spec.specs.Lists.{if◌then◌else◌, member}
+use Rattle.spec.specs.Lists.{member}
 use Rattle.spec.specs.Listed.{slot}
 use Rattle.spec.specs.Numbers.{call_number}
 use Rattle.spec.specs.Plain.{plain}

@@ -1,6 +1,6 @@
 -- The steps of a call that a task makes alone: it ends with as many own steps as are left at its position, and the run's figures are those
 -- made until now and those left. Steps after its end are refused and add nothing. By induction over the steps. Assumes nothing.
-use Rattle.std.specs.Prelude.{◌≡◌, ◌⊎◌, Bool, true, false, length, replicate}
+use Rattle.std.specs.Prelude.{◌≡◌, ◌⊎◌, Bool, true, false, length, replicate, if◌then◌else◌}
 use Rattle.std.proofs.Math.Path.{refl, ap}
 use Rattle.std.proofs.Common.{sym, ◌∙◌, subst, inl, inr}
 use mathlib.Core.List.{List, ◌∷◌, ◌++◌}
@@ -12,7 +12,6 @@ use Rattle.spec.specs.declared.Config.{Config}
 use Rattle.spec.specs.declared.Occupancy.{Occupancy}
 use Rattle.spec.specs.declared.Output.{Output}
 use Rattle.spec.specs.declared.Output.TheVariants as Outs
-use Rattle.spec.specs.Lists.{if◌then◌else◌}
 use Rattle.spec.specs.Machine.{Machine, task_of}
 use Rattle.spec.specs.Lines.{effect}
 use Rattle.spec.specs.Entries.{Reply, refuse, step}
@@ -26,8 +25,9 @@ use Rattle.model.specs.Runs.{Configuration, Reachable}
 use Rattle.linear.specs.Matches.{idle_no_call}
 use Rattle.linear.specs.Simulates.{Simulates}
 use Rattle.linear.specs.Accepted.{OwnAfter, accept_own}
-use Rattle.linear.specs.EventOutcomes.{event_simulated}
-use Rattle.bounds.specs.RecordsSuffice.{EnoughNow, enough_after}
+use Rattle.linear.proofs.EventOutcomes.{event_simulated}
+use Rattle.bounds.specs.RecordsSuffice.{EnoughNow}
+use Rattle.bounds.proofs.RecordsSuffice.{enough_after}
 use Rattle.plans.specs.declared.Figures.{Figures}
 use Rattle.plans.specs.Plan.{figures, Shape}
 use Rattle.plans.specs.Run.{figures_run}

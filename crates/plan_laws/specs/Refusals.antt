@@ -1,11 +1,10 @@
 -- The planner's refusals (paper 02, U11: "a longer list gives 9, and before it another version 11"), each exactly under its condition: `refused_11`,
 -- `refused_9`. Assumes nothing.
-use Rattle.std.specs.Prelude.{ℕ, ◌≤◌, ◌<◌, refl, ◌↔◌, List, Bool, true, false, not, leb, ltb}
+use Rattle.std.specs.Prelude.{ℕ, ◌≤◌, ◌<◌, refl, ◌↔◌, List, Bool, true, false, not, leb, ltb, if◌then◌else◌}
 use Rattle.std.proofs.Math.Path.{◌≡◌, ap}
 use Rattle.std.proofs.Common.{arith}
 use borrow.Author.Tests.{le-leb, lt-ltb, ltb-true, not-true, not-false}
 use Rattle.std.proofs.Math.ListN.{length}
-use Rattle.spec.specs.Lists.{if◌then◌else◌}
 use Rattle.spec.specs.Sound.{within}
 use Rattle.laws.specs.Tests.{tf, and_i, choose}
 use Rattle.laws.specs.Soundness.{within_facts}

@@ -1,12 +1,11 @@
 -- Each step of a task alone brings its call's end one step nearer, and a bucket is taken by line 49 alone. One case for each step of the
 -- model. Line 20 is the only one that the model leaves open: whether it ends is said by the words. Assumes nothing.
-use Rattle.std.specs.Prelude.{◌≡◌, Bool, true, List, [], ℕ, suc, pred, ◌+◌, ◌*◌, ◌/◌, ◌%◌, ◌<◌, drop}
+use Rattle.std.specs.Prelude.{◌≡◌, Bool, true, List, [], ℕ, suc, pred, ◌+◌, ◌*◌, ◌/◌, ◌%◌, ◌<◌, drop, if◌then◌else◌}
 use Rattle.std.proofs.Math.Path.{refl, sym}
 use Rattle.std.proofs.Common.{ap, ◌∙◌, subst, arith, drop_of_length-le, drop-cons}
 use Rattle.std.proofs.Math.Bool.{false}
 use Rattle.std.proofs.Math.Nat.{mul-div_cancel_left}
 use Rattle.spec.specs.declared.Config.{Config}
-use Rattle.spec.specs.Lists.{if◌then◌else◌}
 use Rattle.spec.specs.Listed.{slot}
 use Rattle.spec.specs.Lines.{resized}
 use Rattle.spec.specs.History.{Ended}

@@ -11,7 +11,7 @@
 -- over the calls. Assumes nothing.
 use Rattle.std.proofs.Math.Path.{◌≡◌, refl, ap, subst}
 use Rattle.std.proofs.Common.{◌∙◌, arith}
-use Rattle.std.specs.Prelude.{Bool, not, ℕ, ◌+◌, ◌≤◌, ◌<◌, eqb, ltb, length, replicate}
+use Rattle.std.specs.Prelude.{Bool, not, ℕ, ◌≤◌, ◌<◌, eqb, ltb, length, replicate, if◌then◌else◌}
 use Rattle.std.proofs.Math.Bool.{true, false}
 use mathlib.Core.List.{List, [], ◌∷◌, ◌++◌}
 use Rattle.spec.specs.declared.Task.{Task}
@@ -20,7 +20,6 @@ use Rattle.spec.specs.declared.Call.TheVariants.{Insert, Remove, Contains, Grow,
 use Rattle.spec.specs.declared.Config.{Config}
 use Rattle.spec.specs.declared.Output.{Output}
 use Rattle.spec.specs.declared.Output.TheVariants as Outs
-use Rattle.spec.specs.Lists.{if◌then◌else◌}
 use Rattle.spec.specs.Machine.{Machine, idle, fresh_task, state_of, task_of, set_task}
 use Rattle.spec.specs.Sound.{task_count, version_known}
 use Rattle.spec.specs.Listed.{key, slot}
@@ -39,9 +38,10 @@ use Rattle.linear.specs.Represents.{size_bound}
 use Rattle.linear.specs.FirstPositions.{first_of}
 use Rattle.linear.specs.Opening.{same_default}
 use Rattle.linear.specs.Schedules.{schedule_runs}
-use Rattle.linear.specs.EventOutcomes.{EventOutcome, start_refused, call_started, event_simulated}
+use Rattle.linear.specs.EventOutcomes.{EventOutcome, start_refused, call_started}
+use Rattle.linear.proofs.EventOutcomes.{event_simulated}
 use Rattle.bounds.specs.EnoughRecords.{Enough}
-use Rattle.bounds.specs.RecordsSuffice.{enough_after, enough_at_opening}
+use Rattle.bounds.proofs.RecordsSuffice.{enough_after, enough_at_opening}
 use Rattle.plans.specs.declared.Planned.{Planned}
 use Rattle.plans.specs.declared.Figures.{Figures}
 use Rattle.plans.specs.Plan.{Shape, head_size, fresh, call_figures, after_update, after_call, all_figures, PlanReply, planned, refused, opened_for, plan}

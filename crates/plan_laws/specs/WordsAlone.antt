@@ -1,6 +1,6 @@
 -- A task alone in the words: each of its steps is accepted, since a record is always free, and is the step of the model that StepsAlone
 -- counts; whether line 20 ends is said by the head's size. Assumes nothing.
-use Rattle.std.specs.Prelude.{◌≡◌, ◌⊎◌, Bool, ℕ, suc, ◌+◌, min, ◌<◌, eqb}
+use Rattle.std.specs.Prelude.{◌≡◌, ◌⊎◌, Bool, ℕ, suc, ◌+◌, min, ◌<◌, eqb, if◌then◌else◌}
 use Rattle.std.proofs.Math.Path.{refl, ap}
 use Rattle.std.proofs.Common.{sym, ◌∙◌, inl, inr, arith}
 use Rattle.std.proofs.Math.Bool.{true, false}
@@ -12,7 +12,6 @@ use Rattle.spec.specs.declared.Occupancy.{Occupancy}
 use Rattle.spec.specs.declared.Occupancy.TheVariants.{NotGiven}
 use Rattle.spec.specs.declared.Output.{Output}
 use Rattle.spec.specs.declared.Output.TheVariants as Outs
-use Rattle.spec.specs.Lists.{if◌then◌else◌}
 use Rattle.spec.specs.Machine.{Machine, with_line, task_of}
 use Rattle.spec.specs.Listed.{slot, size_of, head_of}
 use Rattle.spec.specs.Lines.{Effect, answers, moves, at_limit, line_20, effect}
@@ -30,14 +29,15 @@ use Rattle.model.specs.Heap.{Heap}
 use Rattle.model.specs.Positions.{at_20, Position, no_call, resize}
 use Rattle.model.specs.Lines.{Step}
 use Rattle.model.specs.Runs.{Configuration, after_step}
-use Rattle.model.specs.Steps.{own_step}
-use Rattle.model.specs.Linearization.{invariant, listed_few}
+use Rattle.model.proofs.Steps.{own_step}
+use Rattle.model.proofs.Linearization.{invariant, listed_few}
 use Rattle.linear.specs.ReadLinks.{size_at, head_at}
 use Rattle.linear.specs.Matches.{Matches, resize_call, line_at}
-use Rattle.linear.specs.Accepted.{accepts}
+use Rattle.linear.proofs.Accepted.{accepts}
 use Rattle.linear.specs.StepSimulated.{went_on, call_ended, resize_ended}
 use Rattle.linear.specs.EventOutcomes.{EventOutcome, step_refused, none_free, stepped}
-use Rattle.bounds.specs.RecordsSuffice.{EnoughNow, record_free}
+use Rattle.bounds.specs.RecordsSuffice.{EnoughNow}
+use Rattle.bounds.proofs.RecordsSuffice.{record_free}
 use Rattle.plans.specs.Plan.{Shape, head_size}
 use Rattle.plan_laws.specs.Alone.{LaidOut, limited, Solo, steps_left, buckets_left, answer_then, shape_then, took}
 use Rattle.plan_laws.specs.StepsAlone.{KeyOf, solo_step}

@@ -1,5 +1,6 @@
 -- What is printed for a plan that was made, by its refusal: its number, or the sizes and the first figures, as many as there are calls.
 -- Assumes nothing.
+use Rattle.std.specs.Prelude.{if◌then◌else◌}
 use Prim.Native.Nat.{ℕ, ◌<◌, ◌≤◌}
 use native.Mathlib.Omega.{arith}
 use mathlib.Core.Path.{◌≡◌, refl, sym, ap, ◌∙◌}
@@ -10,7 +11,6 @@ use borrow.Author.Tests.{lt-leb, le-leb, le-ltb, ltb-false}
 use lib.Dec.{ltb}
 use lib.ListN.{length, take}
 use lib.Seq.{length-take-le, take_at}
-use Rattle.spec.specs.Lists.{if◌then◌else◌}
 use Rattle.spec.specs.Sound.{version_known}
 use Rattle.session.specs.Print.{refusal_line}
 use Rattle.laws.specs.Tests.{bool?}

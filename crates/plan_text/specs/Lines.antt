@@ -1,8 +1,7 @@
 -- Line by line, an input prints its transcript: `lines_print_transcript`. A 65th call, and those after it, change nothing but that the list is
 -- longer. A line outside the grammar fixes the answer (`plan_decides`), and so does one that is too long or not closed (`plan_outside`). Assumes nothing.
-use Rattle.std.specs.Prelude.{◌≡◌, refl, List, [], ◌∷◌, ◌++◌, Bool, true, false, ℕ, ◌+◌, ◌<◌, ltb, length, take, set}
+use Rattle.std.specs.Prelude.{◌≡◌, refl, List, [], ◌∷◌, ◌++◌, Bool, true, false, ℕ, ◌+◌, ◌<◌, ltb, length, take, set, if◌then◌else◌}
 use Rattle.std.proofs.Common.{sym, ap, ◌∙◌, arith, lt-ltb, le-ltb, ltb-true, ltb-false}
-use Rattle.spec.specs.Lists.{if◌then◌else◌}
 use Rattle.session.specs.Grammar.{InputLine, input_lines, admissible, parse_header_line}
 use Rattle.session.specs.Print.{refusal_line}
 use Rattle.session.specs.KeptLists.{KeptIn, KeptAs, past, whole, kept_as, keeps_one, keeps_past}

@@ -1,11 +1,10 @@
 -- What is printed for an input has at most 3,448 bytes, 56 of the two sizes and 64 lines of at most 53: `answer_bound`. Assumes nothing.
-use Rattle.std.specs.Prelude.{ℕ, ◌*◌, ◌≤◌, ◌≡◌, Bool, ltb}
+use Rattle.std.specs.Prelude.{ℕ, ◌*◌, ◌≤◌, ◌≡◌, Bool, ltb, if◌then◌else◌}
 use Rattle.std.proofs.Common.{arith, ltb-false, length-append}
 use Rattle.std.proofs.Math.Path.{refl}
 use mathlib.Core.List.{List, [], ◌∷◌}
 use Rattle.std.proofs.Math.Bool.{true, false, not}
 use Rattle.std.proofs.Math.ListN.{length}
-use Rattle.spec.specs.Lists.{if◌then◌else◌}
 use Rattle.spec.specs.Sound.{within, version_known}
 use Rattle.session.specs.Grammar.{InputLine}
 use Rattle.session.specs.Print.{decimal, key_line, refusal_line}

@@ -1,7 +1,6 @@
 -- An input, line by line: the definitions that the code is held to. That they print the transcript is shown in Lines. Assumes nothing.
-use Rattle.std.specs.Prelude.{ℕ, ◌+◌, List, [], ◌∷◌, Bool, true, false, ltb, set, replicate}
+use Rattle.std.specs.Prelude.{ℕ, ◌+◌, List, [], ◌∷◌, Bool, true, false, ltb, set, replicate, if◌then◌else◌}
 use Rattle.spec.specs.declared.Call.TheVariants.{Contains}
-use Rattle.spec.specs.Lists.{if◌then◌else◌}
 use Rattle.session.specs.Grammar.{InputLine, closed_line}
 use Rattle.session.specs.Print.{refusal_line}
 use Rattle.plans.specs.declared.Planned.{Planned}

@@ -3,8 +3,7 @@
 -- `buckets=`, the numbers of records that are enough for T tasks, as a session's header has them, and for each call
 -- `plan=answer,own steps,buckets taken`; or `refuse=` alone, with 10 for a line outside the grammar, anywhere in the input, else 1 for T, else
 -- 11 for the version, else 9 for more than 64 calls. Assumes nothing.
-use Rattle.std.specs.Prelude.{ℕ, ◌≡◌, refl, List, [], ◌∷◌, ◌++◌, Bool, true, false, not, drop}
-use Rattle.spec.specs.Lists.{if◌then◌else◌}
+use Rattle.std.specs.Prelude.{ℕ, ◌≡◌, refl, List, [], ◌∷◌, ◌++◌, Bool, true, false, not, drop, if◌then◌else◌}
 use Rattle.spec.specs.Sound.{within}
 use Rattle.session.specs.declared.Decimal.{Decimal}
 use Rattle.session.specs.declared.Decimal.TheVariants.{Value, NotDecimal}

@@ -5,10 +5,11 @@ ghost use Rattle.stdio.specs.Runs.{Prints, Ran};
 ghost use Rattle.plan_text.specs.Text.{plan_transcript};
 
 use stdio::output::Text;
+use stdio::source::Source;
 
 // What is printed for an input: standard input if `reads`, else the bytes of the room. It has at most 3,448 bytes (`answer_bound`), and is printed once the
 // input ends or a line is outside the grammar.
-fn text(reads: bool, room: &mut [u8], out: &mut [u8]) -> Text
+fn text<S: Source>(from: &mut S, reads: bool, room: &mut [u8], out: &mut [u8]) -> Text
     requires { 3448 ≤ length out.old }
     ensures prints { Prints plan_transcript reads room.old result.input (take result.len out.new) }
     ensures len_in_bounds { result.len ≤ length out.new }
@@ -16,7 +17,7 @@ fn text(reads: bool, room: &mut [u8], out: &mut [u8]) -> Text
     let mut p = stdio::input::begin(reads, room.len());
     let mut s = crate::reading::new_reading();
     while 0 < p.left {
-        let q = stdio::input::next_line(p, room);
+        let q = stdio::input::next_line(from, p, room);
         let t = crate::reading::take_given(s, q);
         s = t;
         let due = t.due;
@@ -28,11 +29,11 @@ fn text(reads: bool, room: &mut [u8], out: &mut [u8]) -> Text
 }
 
 // The whole program, and its exit status.
-pub fn yardplan() -> i32
+pub fn yardplan<S: Source>(from: &mut S) -> i32
     ensures { Ran plan_transcript result }
 {
     let mut room = stdio::input::room();
     let mut out = io::buffer();
-    let t = text(true, &mut room, &mut out);
+    let t = text(from, true, &mut room, &mut out);
     stdio::output::exit(b"plan", t, &out)
 }

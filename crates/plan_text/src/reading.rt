@@ -11,7 +11,7 @@ use spec::Call;
 use stdio::input::Input;
 
 // An input as far as it is read: which line is due, T, the version, the calls.
-#[derive(Drop)]
+#[derive(Clone, Copy)]
 pub struct Reading {
     pub due: Due,
     pub tasks: u32,

@@ -1,5 +1,6 @@
 -- Each call of the planner against its definition: the plain set in a bucket answers as the plain set, and what is kept stays ready.
 -- Assumes nothing.
+use Rattle.std.specs.Prelude.{if◌then◌else◌}
 use Prim.Native.Nat.{ℕ, ◌*◌, ◌/◌, ◌≤◌}
 use native.Mathlib.Nat.{mod-lt}
 use native.Mathlib.Omega.{arith}
@@ -8,12 +9,12 @@ use mathlib.Core.List.{List, [], ◌∷◌}
 use mathlib.Core.Bool.{Bool, true, false}
 use borrow.Author.Tests.{ne_eqb}
 use lib.Dec.{eqb, leb}
-use lib.ListN.{length, get_or, set, length-set}
+use lib.ListN.{length, get_or, length-set}
 use lib.Seq.{get_or-take, take-set-lt}
 use Rattle.spec.specs.declared.Call.{Call}
 use Rattle.spec.specs.declared.Call.TheVariants.{Insert, Remove, Contains, Grow, Shrink}
 use Rattle.spec.specs.declared.Config.{Config}
-use Rattle.spec.specs.Lists.{if◌then◌else◌, member, add_tag, remove_tag}
+use Rattle.spec.specs.Lists.{member, add_tag, remove_tag}
 use Rattle.spec.specs.Numbers.{call_number}
 use Rattle.spec.specs.Words.{bucket_of}
 use Rattle.spec.specs.Sound.{listed_size}

@@ -1,4 +1,5 @@
 -- The head's places: its size, how many are empty, the steps of filling them, and one more filled. Assumes nothing.
+use Rattle.std.specs.Prelude.{if◌then◌else◌}
 use Prim.Native.Nat.{ℕ, zero, suc, ◌+◌, ◌*◌, ◌-◌, ◌≤◌, ◌<◌}
 use native.Mathlib.Numerals.{add-one}
 use native.Mathlib.Nat.{mul-suc}
@@ -9,7 +10,6 @@ use mathlib.Core.Bool.{Bool, true, false}
 use lib.ListN.{length, get_or, take, drop, replicate, drop_of_length-le}
 use lib.Seq.{length-take-le, slice-cons, get_or-take}
 use Rattle.spec.specs.declared.Answer.{Answer}
-use Rattle.spec.specs.Lists.{if◌then◌else◌}
 use Rattle.plans.specs.Plan.{Shape, figures, head_size, fill_steps, place_steps, places_steps, empty_places, update_figures}
 use Rattle.plan_heads.specs.declared.Head.{Head}
 use Rattle.planner.specs.Standing.{shape_of, filling}

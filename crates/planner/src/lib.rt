@@ -1,5 +1,7 @@
 // What each call of a list comes to where one task makes them alone in a freshly opened set (paper 02, U11): `plan`. No step is run: a call's
 // figures follow from the head's size and its predecessor's, from which of its places are filled, and from the plain set.
+#![tactic(auto)]
+
 ghost use Rattle.std.specs.Prelude.{◌≡◌, List, [], true, ℕ, ◌*◌, ◌≤◌, take};
 ghost use Rattle.spec.specs.Sound.{listed_size};
 ghost use Rattle.spec.specs.Listed.{slot};
@@ -13,14 +15,14 @@ use plans::{Calls, Figures, Plan, Planned};
 use spec::{Answer, Call, Config};
 
 // What the figures depend on between two calls: the head, and the plain set, as a bucket that may change.
-#[derive(Drop)]
+#[derive(Clone, Copy)]
 struct Standing {
     head: Head,
     set: Bucket,
 }
 
 // A call's figures, and what it leaves.
-#[derive(Drop)]
+#[derive(Clone, Copy)]
 struct Outcome {
     figures: Figures,
     next: Standing,

@@ -9,7 +9,8 @@ use Rattle.spec.specs.declared.Task.{Task}
 use Rattle.spec.specs.Machine.{Machine, machine_of, task_of}
 use Rattle.spec.specs.Sound.{sound}
 use Rattle.spec.specs.Entries.{Reply, start, step}
-use Rattle.laws.specs.EntriesKeep.{step_keeps, start_keeps}
+use Rattle.laws.specs.EntriesKeep.{start_keeps}
+use Rattle.laws.proofs.EntriesKeep.{step_keeps}
 use Rattle.lines.specs.declared.Stepped.{Stepped}
 use Rattle.lines.specs.Reply.{reply_of}
 use Rattle.game.specs.declared.LanesMove.{LanesMove}

@@ -34,9 +34,6 @@ module _ (s : State) {ns₀ bs₀ ns bs : List ℕ} (p : ns ≡ ns₀) (q : bs �
   same : there ≡ given
   same = rw (p, q)
 
-  pub sound_there : sound given ≡ true → sound there ≡ true
-  sound_there e = ap sound same ∙ e
-
   -- ---- of the lanes
 
   module _ (m : LanesMove) (r : Played) {ns₁ bs₁ : List ℕ} (d : PlayedTo there (ends_insert there m) (after_lanes there m) r ns₁ bs₁) where

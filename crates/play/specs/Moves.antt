@@ -1,8 +1,7 @@
 -- The moves in the order in which the search tries them, and what a move that was made gives it: the definitions that the contracts of
 -- `moves` cite. Assumes nothing.
-use Rattle.std.specs.Prelude.{ℕ, ◌≡◌, List, Bool, ◌&&◌, eqb}
+use Rattle.std.specs.Prelude.{ℕ, ◌≡◌, List, Bool, ◌&&◌, eqb, if◌then◌else◌}
 use Rattle.spec.specs.declared.Output.{Output}
-use Rattle.spec.specs.Lists.{if◌then◌else◌}
 use Rattle.spec.specs.Machine.{Machine, machine_of}
 use Rattle.game.specs.declared.LanesMove.{LanesMove}
 use Rattle.game.specs.declared.LanesMove.TheVariants.{StepTask0, StepTask1, LanesPass}

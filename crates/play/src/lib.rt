@@ -1,6 +1,8 @@
 // Lane against office (paper 02, U14): `game` says whether the lanes can force task 0's insert through. Each side's turn is worked out from
 // the other's: `lanes_turn` and `office_turn` call each other, with one ply fewer left. The state goes by value; `moves` makes a move and
 // keeps the words that it may write to the lent pools, which are put back once the plies after it are worked out.
+#![tactic(auto)]
+
 mod moves;
 
 ghost use Rattle.std.specs.Prelude.{◌≡◌, List, true, ◌||◌, ℕ};

@@ -12,7 +12,7 @@ use spec::{Call, Output, State};
 use undo::Kept;
 
 // A move that was made: whether it ended task 0's call, the state after it, and the words that it may have written, as they were.
-#[derive(Drop)]
+#[derive(Clone, Copy)]
 pub struct Played {
     pub ends: bool,
     pub state: State,

@@ -1,6 +1,7 @@
 -- Laws of the definitions of soundness that several crates cite: sizes, the lines of a call, a task's record, the numbers
 -- of a sound yard.
 -- Assumes nothing.
+use Rattle.std.specs.Prelude.{if◌then◌else◌}
 use mathlib.Core.Path.{◌≡◌, refl, sym, ap, ◌∙◌}
 use mathlib.Core.List.{List, [], ◌∷◌, map}
 use mathlib.Core.Bool.{Bool, true, false, ◌||◌, false≢true}
@@ -10,7 +11,7 @@ use borrow.Author.Tests.{eqb-true, ltb-true}
 use lib.Dec.{eqb}
 use lib.ListN.{length, get_or-eq_default, length-map}
 use Rattle.laws.specs.Tests.{or_case}
-use Rattle.spec.specs.Lists.{if◌then◌else◌, member}
+use Rattle.spec.specs.Lists.{member}
 use Rattle.spec.specs.Machine.{Machine}
 use Rattle.spec.specs.Words.{size}
 use Rattle.laws.specs.Tests.{passes}

@@ -1,7 +1,7 @@
 -- Records of the pools by their numbers, for any words: a number past the pool names zero words, and a write there changes nothing.
 -- Assumes nothing.
-use Rattle.std.specs.Prelude.{List, ℕ, ◌*◌, ◌/◌, length, take, drop, replicate, leb, ltb, eqb}
-use Rattle.spec.specs.Lists.{if◌then◌else◌, member, add_tag, remove_tag}
+use Rattle.std.specs.Prelude.{List, ℕ, ◌*◌, ◌/◌, length, take, drop, replicate, leb, ltb, eqb, if◌then◌else◌}
+use Rattle.spec.specs.Lists.{member, add_tag, remove_tag}
 use Rattle.spec.specs.Words.{changeable, tags, overwrite, bucket_of}
 use Rattle.bucket.specs.declared.Bucket.{Bucket}
 use Rattle.bucket.specs.declared.Changed.{Changed}

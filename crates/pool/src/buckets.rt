@@ -8,7 +8,7 @@ ghost use Rattle.pool.specs.Pool.{bucket_at, front_of, store_bucket, answer_of};
 use bucket::{Bucket, Response, WORDS};
 
 // What a bucket of the pool answers, and how many tags it holds afterwards.
-#[derive(Drop)]
+#[derive(Clone, Copy)]
 pub struct Answered {
     pub response: Response,
     pub count: u32,

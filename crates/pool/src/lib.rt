@@ -1,6 +1,8 @@
 // The words of both pools. Here: a node's words read, one word written, a whole pool's length; with the writes of `pool_writes`.
 // `buckets` has a bucket by its number. Every function takes any words and numbers: a read past the end gives 0, and a write past the
 // end changes nothing.
+#![tactic(auto)]
+
 pub mod buckets;
 
 ghost use Rattle.std.specs.Prelude.{◌≡◌, ◌<◌, get_or, set};

@@ -1,7 +1,6 @@
 -- Words and a node written over, for any words: what does not fit, or a number past the pool, changes nothing.
 -- Assumes nothing.
-use Rattle.std.specs.Prelude.{List, ℕ, ◌*◌, ◌/◌, length, leb, ltb}
-use Rattle.spec.specs.Lists.{if◌then◌else◌}
+use Rattle.std.specs.Prelude.{List, ℕ, ◌*◌, ◌/◌, length, leb, ltb, if◌then◌else◌}
 use Rattle.spec.specs.Words.{overwrite, node_of}
 
 -- the words v over the first words of p, where they fit

@@ -1,5 +1,7 @@
 // A pool's words written: zeros, words over the first of a part, a node anew. Every function takes any words and numbers: a write past
 // the end changes nothing.
+#![tactic(auto)]
+
 ghost use Rattle.std.specs.Prelude.{◌≡◌, length, replicate};
 ghost use Rattle.pool_writes.specs.Writes.{write_front, store_node};
 

@@ -1,5 +1,7 @@
-// The programs as functions for C, each with its exit status: the command `yard` (programs/yard.c) calls them, and the crates yardrun to yardtimeline
-// the same functions of the crates below. Each contract has the papers' definition of what an input prints.
+// The programs as functions, each with its exit status: the program `yard` calls them, and so do the functions for C (programs_c); the crates yardrun to
+// yardtimeline call the same functions of the crates below. Each contract has the papers' definition of what an input prints.
+#![tactic(auto)]
+
 ghost use Rattle.stdio.specs.Runs.{Ran};
 ghost use Rattle.stdio.specs.Outcomes.{IsStatus};
 ghost use Rattle.session.specs.Transcript.{transcript};
@@ -11,74 +13,67 @@ ghost use Rattle.plan_text.specs.Text.{plan_transcript};
 ghost use Rattle.game.specs.Text.{game_answer};
 ghost use Rattle.mattered.specs.Text.{mattered_answer};
 
+use stdio::source::Source;
+
 // A session: what the set answers.
-#[unsafe(no_mangle)]
-pub extern "C" fn yardrun() -> i32
+pub fn yardrun<S: Source>(from: &mut S) -> i32
     ensures { Ran transcript result }
 {
-    session_run::yardrun()
+    session_run::yardrun(from)
 }
 
 // The memory that a session leaves.
-#[unsafe(no_mangle)]
-pub extern "C" fn yarddump() -> i32
+pub fn yarddump<S: Source>(from: &mut S) -> i32
     ensures { IsStatus result }
 {
-    session_dump::yarddump()
+    session_dump::yarddump(from)
 }
 
 // A session as rows.
-#[unsafe(no_mangle)]
-pub extern "C" fn yardtimeline() -> i32
+pub fn yardtimeline<S: Source>(from: &mut S) -> i32
     ensures { Ran timeline_transcript result }
 {
-    timeline_program::yardtimeline()
+    timeline_program::yardtimeline(from)
 }
 
 // A session's recording.
-#[unsafe(no_mangle)]
-pub extern "C" fn yardrecord() -> i32
+pub fn yardrecord<S: Source>(from: &mut S) -> i32
     ensures { RanRecorder result }
 {
-    recorder::program::yardrecord()
+    recorder::program::yardrecord(from)
 }
 
 // Whether a recording is what the set prints.
-#[unsafe(no_mangle)]
-pub extern "C" fn yardverify() -> i32
+pub fn yardverify<S: Source>(from: &mut S) -> i32
     ensures { Ran verify_output result }
 {
-    reader::program::yardverify()
+    reader::program::yardverify(from)
 }
 
 // Two lanes' notes in one order.
-#[unsafe(no_mangle)]
-pub extern "C" fn yardnotes() -> i32
+pub fn yardnotes<S: Source>(from: &mut S) -> i32
     ensures { Ran notes_transcript result }
 {
-    notes_text::program::yardnotes()
+    notes_text::program::yardnotes(from)
 }
 
 // What a list of calls comes to.
-#[unsafe(no_mangle)]
-pub extern "C" fn yardplan() -> i32
+pub fn yardplan<S: Source>(from: &mut S) -> i32
     ensures { Ran plan_transcript result }
 {
-    plan_text::program::yardplan()
+    plan_text::program::yardplan(from)
 }
 
 // Lane against office.
-#[unsafe(no_mangle)]
-pub extern "C" fn yardgame() -> i32
+pub fn yardgame<S: Source>(from: &mut S) -> i32
     ensures { Ran game_answer result }
 {
-    game_text::program::yardgame()
+    game_text::program::yardgame(from)
 }
 
 // The step that mattered.
-#[unsafe(no_mangle)]
-pub extern "C" fn yardmattered() -> i32
+pub fn yardmattered<S: Source>(from: &mut S) -> i32
     ensures { Ran mattered_answer result }
 {
-    mattered_text::program::yardmattered()
+    mattered_text::program::yardmattered(from)
 }

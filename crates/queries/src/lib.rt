@@ -1,4 +1,6 @@
 // The entries that read the yard set and change nothing of it: list and show.
+#![tactic(auto)]
+
 ghost use Rattle.std.specs.Prelude.{◌≡◌};
 ghost use Rattle.spec.specs.Entries.{show, list};
 ghost use Rattle.spec.specs.Machine.{machine_of};

@@ -14,7 +14,8 @@ use Rattle.session.specs.declared.HeaderLine.{HeaderLine}
 use Rattle.session.specs.Keys.{newline, size_key}
 use Rattle.session.specs.Grammar.{InputLine, closed_line, starts_with, admissible}
 use Rattle.session.specs.Header.{optional, header_step}
-use Rattle.session.specs.LineLaws.{outside_step, outside_event}
+use Rattle.session.specs.LineLaws.{outside_event}
+use Rattle.session.proofs.LineLaws.{outside_step}
 use Rattle.session.specs.Print.{output_line}
 use Rattle.session.specs.Transcript.{session_opening}
 use Rattle.recording.specs.declared.ReaderPhase.{ReaderPhase}

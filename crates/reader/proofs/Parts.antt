@@ -1,5 +1,6 @@
 -- What the functions leave in the lent pools, over plain lists and numbers: a reader of the definitions put back where no word is changed, after
 -- a line that is compared, and after an event. Assumes nothing.
+use Rattle.std.specs.Prelude.{if◌then◌else◌}
 use mathlib.Core.Path.{◌≡◌, refl, sym, ap, subst, ◌∙◌}
 use mathlib.Core.List.{List}
 use mathlib.Core.Bool.{Bool, true, false}
@@ -8,7 +9,6 @@ use native.Mathlib.Omega.{arith}
 use lib.ListN.{take, drop, take-append-drop}
 use Rattle.spec.specs.declared.Output.{Output}
 use Rattle.spec.specs.declared.State.{State}
-use Rattle.spec.specs.Lists.{if◌then◌else◌}
 use Rattle.spec.specs.Schedule.{Event, event}
 use Rattle.lines.specs.declared.Stepped.{Stepped}
 use Rattle.session.specs.Grammar.{closed_line, equals}

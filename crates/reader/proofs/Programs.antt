@@ -1,4 +1,5 @@
 -- Laws of the program, over plain lists: one turn of the loop, a line that is too long, the end. Assumes nothing.
+use Rattle.std.specs.Prelude.{if◌then◌else◌}
 use mathlib.Core.Path.{◌≡◌, refl, sym, ap, subst, ◌∙◌}
 use mathlib.Core.List.{List, [], ◌∷◌, ◌++◌, append_assoc, append-nil}
 use mathlib.Core.Logic.{inl, inr}
@@ -8,7 +9,6 @@ use native.Mathlib.Omega.{arith}
 use borrow.Author.Tests.{le-ltb, ltb-true, ltb-false, eqb-true}
 use lib.Dec.{ltb}
 use lib.ListN.{length, take, length-append}
-use Rattle.spec.specs.Lists.{if◌then◌else◌}
 use Rattle.laws.specs.Tests.{and_right}
 use Rattle.session.specs.Grammar.{closed_line, open_line, input_lines}
 use Rattle.session.specs.OutputLengths.{decimal_length, refusal_length}

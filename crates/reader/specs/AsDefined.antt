@@ -1,7 +1,7 @@
 -- A reader over lent pools of at least 64 nodes and 200 buckets, whatever they hold, stands where the reader of recording's definitions stands:
 -- `AsDefined`. A line keeps this, `line_as_defined`, and so the answer at the end is the same, `end_as_defined`. An answer that is given stays: `decides`.
 -- Assumes nothing.
-use Rattle.std.specs.Prelude.{◌≡◌, Bool, eqb, length, drop}
+use Rattle.std.specs.Prelude.{◌≡◌, Bool, eqb, length, drop, if◌then◌else◌}
 use Rattle.std.proofs.Math.Path.{refl, sym, ap}
 use Rattle.std.proofs.Common.{subst, ◌∙◌, eq-eqb, ne_eqb, eqb-true}
 use mathlib.Core.List.{List, [], ◌∷◌}
@@ -9,7 +9,6 @@ use Rattle.std.proofs.Math.Bool.{true, false}
 use Prim.Native.Nat.{ℕ, suc, ◌+◌, ◌<◌, ◌≤◌, min}
 use native.Mathlib.Omega.{arith}
 use Rattle.std.proofs.lemmas.Bool.{eqb-false}
-use Rattle.spec.specs.Lists.{if◌then◌else◌}
 use Rattle.spec.specs.Machine.{Machine}
 use Rattle.spec.specs.Entries.{Opened, opening}
 use Rattle.laws.specs.Tests.{tf}
@@ -19,7 +18,7 @@ use Rattle.session.specs.declared.HeaderStep.{HeaderStep}
 use Rattle.session.specs.declared.HeaderStep.TheVariants.{Next, Complete, Absent, Missing}
 use Rattle.session.specs.Grammar.{InputLine, open_line, admissible}
 use Rattle.session.specs.Header.{optional, header_step}
-use Rattle.session.specs.LineLaws.{outside_step}
+use Rattle.session.proofs.LineLaws.{outside_step}
 use Rattle.session.specs.Print.{output_line}
 use Rattle.session.specs.Transcript.{session_opening}
 use Rattle.session_pools.specs.PoolParts.{node_extent, bucket_extent, node_part, bucket_part}

@@ -1,12 +1,11 @@
 -- What is known of memory between two lines of a recording, as in a session (KnownMemory of session_lines): before the opening `ok` is true, and after it
 -- `ok` says whether memory is sound. No line changes it: `read_known`. Assumes nothing.
-use Rattle.std.specs.Prelude.{ℕ, ◌≡◌, Bool, eqb, length, drop}
+use Rattle.std.specs.Prelude.{ℕ, ◌≡◌, Bool, eqb, length, drop, if◌then◌else◌}
 use Rattle.std.proofs.Math.Path.{refl, sym, subst}
 use Rattle.std.proofs.Common.{◌∙◌, eqb-true}
 use mathlib.Core.List.{List, [], ◌∷◌}
 use Rattle.std.proofs.Math.Bool.{true, false}
 use Rattle.spec.specs.declared.State.{State}
-use Rattle.spec.specs.Lists.{if◌then◌else◌}
 use Rattle.spec.specs.Machine.{Machine}
 use Rattle.spec.specs.Sound.{sound}
 use Rattle.spec.specs.Entries.{Opened, opening}

@@ -1,10 +1,9 @@
 -- The lines of the listing: a list call gives at most 64 tags, `lists`, so there are at most 66 lines; each is short and not empty: `place_in`.
 -- Assumes nothing.
-use Rattle.std.specs.Prelude.{◌≡◌, refl, List, [], ◌∷◌, ◌++◌, Bool, true, false, not, ◌||◌, ℕ, zero, suc, ◌+◌, ◌<◌, ◌≤◌, ltb, leb, length, take, drop, replicate}
+use Rattle.std.specs.Prelude.{◌≡◌, refl, List, [], ◌∷◌, ◌++◌, Bool, true, false, not, ◌||◌, ℕ, zero, suc, ◌+◌, ◌<◌, ◌≤◌, ltb, leb, length, take, drop, replicate, if◌then◌else◌}
 use Rattle.std.proofs.Common.{ap, subst, arith, ltb-false, length-append, length-take, take_at}
 use Rattle.spec.specs.declared.Listing.{Listing}
 use Rattle.spec.specs.declared.Listing.TheVariants.{Count, Refused}
-use Rattle.spec.specs.Lists.{if◌then◌else◌}
 use Rattle.spec.specs.Machine.{Machine}
 use Rattle.spec.specs.Sound.{sound}
 use Rattle.spec.specs.Listed.{listed}

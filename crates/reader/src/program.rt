@@ -24,6 +24,7 @@ use recording::{ReaderPhase, Verdict};
 use spec::{Occupancy, Output};
 use stdio::input::Input;
 use stdio::output::Text;
+use stdio::source::Source;
 use stdio::{input, rest};
 
 // Whether the answer is given.
@@ -54,14 +55,20 @@ fn take_given(r: Reader, q: Input, ns: &mut [u32], bs: &mut [u32]) -> Reader
 }
 
 // The input and the reader, where reading stopped.
-#[derive(Drop)]
+#[derive(Clone, Copy)]
 pub struct ReadTo {
     pub input: Input,
     pub reader: Reader,
 }
 
 // Reads until the input ends, the answer is given, or a line is too long.
-fn read(reads: bool, room: &mut [u8], ns: &mut [u32], bs: &mut [u32]) -> ReadTo
+fn read<S: Source>(
+    from: &mut S,
+    reads: bool,
+    room: &mut [u8],
+    ns: &mut [u32],
+    bs: &mut [u32],
+) -> ReadTo
     requires { (2176 ≤ length ns.old) × (13200 ≤ length bs.old) }
     ensures reading { Reading reads room.old result.input room.new result.reader ns.new bs.new }
     ensures left_bound { result.input.left ≤ 0 }
@@ -69,7 +76,7 @@ fn read(reads: bool, room: &mut [u8], ns: &mut [u32], bs: &mut [u32]) -> ReadTo
     let mut p = input::begin(reads, room.len());
     let mut r = reader_state::new_reader();
     while 0 < p.left {
-        let q = input::next_line(p, room);
+        let q = input::next_line(from, p, room);
         let t = take_given(r, q, ns, bs);
         r = t;
         let phase = r.phase;
@@ -132,14 +139,14 @@ fn same_refusal(u: Verdict, v: Verdict) -> bool
 }
 
 // The answer, and the input where it was found.
-#[derive(Drop)]
+#[derive(Clone, Copy)]
 pub struct Answered {
     pub input: Input,
     pub verdict: Verdict,
 }
 
 // What a line that is too long gives: if it is not closed, and if it is.
-#[derive(Drop)]
+#[derive(Clone, Copy)]
 pub struct LongLine {
     pub unclosed: Verdict,
     pub closed: Verdict,
@@ -162,7 +169,7 @@ fn long_gives(r: Reader, p: Input, ns: &mut [u32], bs: &mut [u32]) -> LongLine
 }
 
 // A line that is too long. Where it gives the same refusal whether it is closed or not nothing more is read; otherwise the line is read to its end.
-fn long_line(g: LongLine, p: Input, room: &mut [u8]) -> Answered
+fn long_line<S: Source>(from: &mut S, g: LongLine, p: Input, room: &mut [u8]) -> Answered
     requires { Fits p room.old × (p.given ≡ TooLong) × (0 < length (line_bytes p.line)) }
     ensures { (reads : Bool) (input : List ℕ) (e : defined.Reader) → Follows lines_text reads input defined.new_reader p room.old e
         → LongGives e (line_bytes p.line) g → Verifies reads input result }
@@ -175,7 +182,7 @@ fn long_line(g: LongLine, p: Input, room: &mut [u8]) -> Answered
             verdict: closed,
         };
     }
-    let q = rest::close_line(p, room);
+    let q = rest::close_line(from, p, room);
     if input::has_ended(q) {
         return Answered {
             input: q,
@@ -198,16 +205,22 @@ fn ended(r: Reader, p: Input, ns: &[u32], bs: &[u32]) -> Answered
 }
 
 // The answer.
-fn answer(reads: bool, room: &mut [u8], ns: &mut [u32], bs: &mut [u32]) -> Answered
+fn answer<S: Source>(
+    from: &mut S,
+    reads: bool,
+    room: &mut [u8],
+    ns: &mut [u32],
+    bs: &mut [u32],
+) -> Answered
     requires { (2176 ≤ length ns.old) × (13200 ≤ length bs.old) }
     ensures { Verifies reads room.old result }
 {
-    let t = read(reads, room, ns, bs);
+    let t = read(from, reads, room, ns, bs);
     let p = t.input;
     let r = t.reader;
     if input::has_long(p) {
         let g = long_gives(r, p, ns, bs);
-        return long_line(g, p, room);
+        return long_line(from, g, p, room);
     }
     ended(r, p, ns, bs)
 }
@@ -224,12 +237,19 @@ fn print(buf: &mut [u8], v: Verdict) -> usize
 }
 
 // What is printed for an input: standard input if `reads`, else the bytes of the room.
-fn text(reads: bool, room: &mut [u8], ns: &mut [u32], bs: &mut [u32], out: &mut [u8]) -> Text
+fn text<S: Source>(
+    from: &mut S,
+    reads: bool,
+    room: &mut [u8],
+    ns: &mut [u32],
+    bs: &mut [u32],
+    out: &mut [u8],
+) -> Text
     requires { (2176 ≤ length ns.old) × (13200 ≤ length bs.old) × (32 ≤ length out.old) }
     ensures prints { Prints verify_output reads room.old result.input (take result.len out.new) }
     ensures len_in_bounds { result.len ≤ length out.new }
 {
-    let a = answer(reads, room, ns, bs);
+    let a = answer(from, reads, room, ns, bs);
     let v = a.verdict;
     let len = print(out, v);
     let input = a.input;
@@ -237,13 +257,13 @@ fn text(reads: bool, room: &mut [u8], ns: &mut [u32], bs: &mut [u32], out: &mut 
 }
 
 // The program: its exit status.
-pub fn yardverify() -> i32
+pub fn yardverify<S: Source>(from: &mut S) -> i32
     ensures { Ran verify_output result }
 {
     let mut ns = session_pools::node_words();
     let mut bs = session_pools::bucket_words();
     let mut room = input::room();
     let mut out = [0u8; 32];
-    let t = text(true, &mut room, &mut ns, &mut bs, &mut out);
+    let t = text(from, true, &mut room, &mut ns, &mut bs, &mut out);
     stdio::output::exit(b"verify", t, &out)
 }

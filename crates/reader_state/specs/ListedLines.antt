@@ -1,6 +1,5 @@
 -- The listing's line at a place, as bytes. Assumes nothing.
-use Rattle.std.specs.Prelude.{ℕ, ◌-◌, List, [], ◌∷◌, eqb, ltb, length, get_or}
-use Rattle.spec.specs.Lists.{if◌then◌else◌}
+use Rattle.std.specs.Prelude.{ℕ, ◌-◌, List, [], ◌∷◌, eqb, ltb, length, get_or, if◌then◌else◌}
 use Rattle.session.specs.Keys.{size_key, tags_key, tag_key}
 use Rattle.session.specs.Print.{key_line}
 use Rattle.recording.specs.Recording.{RecordedLine}

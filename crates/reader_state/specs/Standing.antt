@@ -1,9 +1,8 @@
 -- What one line does to a reader whose pools are lent whole, and what it answers at the end of its input: the definitions that the code is
 -- held to. They are recording's, over the machine in the reader's part of the pools; that they give the paper's verdict is shown in
 -- the crate reader, AsDefined. Assumes nothing.
-use Rattle.std.specs.Prelude.{ℕ, suc, ◌+◌, min, ◌≡◌, List, ◌++◌, Bool, true, false, eqb, drop}
+use Rattle.std.specs.Prelude.{ℕ, suc, ◌+◌, min, ◌≡◌, List, ◌++◌, Bool, true, false, eqb, drop, if◌then◌else◌}
 use Rattle.spec.specs.declared.State.{State}
-use Rattle.spec.specs.Lists.{if◌then◌else◌}
 use Rattle.spec.specs.Machine.{machine_of, zero_config, state_of}
 use Rattle.spec.specs.Entries.{opening}
 use Rattle.session.specs.declared.Header.{Header}

@@ -1,5 +1,7 @@
 // A reader of recordings between two lines, and what it does with a line that is only compared. `comparing` compares a line with what the
 // machine prints.
+#![tactic(auto)]
+
 pub mod comparing;
 
 ghost use Rattle.std.specs.Prelude.{◌≡◌};
@@ -15,7 +17,7 @@ const MOST_PLACES: u32 = 4294967295;
 
 // A reader between two lines: which line it takes next, the header as far as it is read, the machine's state, all zeros before the
 // opening, and the number of the next line, from 1.
-#[derive(Drop)]
+#[derive(Clone, Copy)]
 pub struct Reader {
     pub phase: ReaderPhase,
     pub header: Header,

@@ -1,4 +1,5 @@
 -- Laws of a run: the line that a call gave, one turn of the loop (`turns`), and the end (`finishes`). Assumes nothing.
+use Rattle.std.specs.Prelude.{if◌then◌else◌}
 use Prim.Native.Nat.{ℕ, ◌+◌, ◌-◌, ◌*◌, ◌<◌, ◌≤◌}
 use mathlib.Core.Path.{◌≡◌, refl, sym, ap, subst, ◌∙◌}
 use mathlib.Core.List.{List, [], ◌++◌, append-nil}
@@ -6,7 +7,6 @@ use mathlib.Core.Bool.{Bool, true, false}
 use native.Mathlib.Omega.{arith}
 use lib.IntN.{ℤ, pos}
 use lib.ListN.{length, take, drop}
-use Rattle.spec.specs.Lists.{if◌then◌else◌}
 use Rattle.session.specs.Grammar.{closed_line, input_lines}
 use Rattle.session_state.specs.declared.Handled.{Handled}
 use Rattle.session_state.specs.Handling.{new_session, has_stopped, LineEffect, LineHandled}

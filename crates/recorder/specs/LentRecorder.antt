@@ -1,7 +1,6 @@
 -- The recorder over lent pools: what a line and the end of the input do, and what is written for them. These are the definitions that the code
 -- is held to; that they write the recording is shown in WritesRecording. Assumes nothing.
-use Rattle.std.specs.Prelude.{ℕ, List, [], ◌∷◌, ◌++◌, Bool, true, false}
-use Rattle.spec.specs.Lists.{if◌then◌else◌}
+use Rattle.std.specs.Prelude.{ℕ, List, [], ◌∷◌, ◌++◌, Bool, true, false, if◌then◌else◌}
 use Rattle.session.specs.declared.Header.{Header}
 use Rattle.session.specs.declared.HeaderStep.{HeaderStep}
 use Rattle.session.specs.declared.HeaderStep.TheVariants.{Next, Complete, Absent, Missing}

@@ -1,15 +1,15 @@
 -- The recorder as a reader of lines (stdio, Readers): a line that is too long or not closed is as the end of the input, `recorder_fixes`. Once the
 -- session has stopped nothing more is written, `recorder_decides`, so that no more need be read. Assumes nothing.
-use Rattle.std.specs.Prelude.{ℕ, ◌<◌, ◌≡◌, refl, List, [], ◌∷◌, ◌++◌, Bool, true, false, eqb, length}
+use Rattle.std.specs.Prelude.{ℕ, ◌<◌, ◌≡◌, refl, List, [], ◌∷◌, ◌++◌, Bool, true, false, eqb, length, if◌then◌else◌}
 use Rattle.std.proofs.Common.{sym, ap, ◌∙◌, append-nil}
 use Rattle.std.proofs.lemmas.Bool.{lt-leb}
-use Rattle.spec.specs.Lists.{if◌then◌else◌}
 use Rattle.spec.specs.Entries.{Opened, opening}
 use Rattle.session.specs.declared.EventLine.{EventLine}
 use Rattle.session.specs.declared.HeaderStep.TheVariants.{Absent, Missing}
 use Rattle.session.specs.Grammar.{InputLine, closed_line, open_line, admissible}
 use Rattle.session.specs.Header.{optional}
-use Rattle.session.specs.LineLaws.{outside_step, outside_event}
+use Rattle.session.specs.LineLaws.{outside_event}
+use Rattle.session.proofs.LineLaws.{outside_step}
 use Rattle.session.specs.Print.{refusal_line}
 use Rattle.session.specs.Transcript.{is_event}
 use Rattle.session_pools.specs.PoolParts.{node_part, bucket_part}

@@ -2,12 +2,11 @@
 -- listing, whenever these come. So a caller can lend room for all of it: `line_bound`, `end_bound`. Assumes nothing.
 use Rattle.std.proofs.Math.Path.{◌≡◌, refl}
 use Rattle.std.proofs.Common.{sym, ap, subst, ◌∙◌, leb-true, length-take}
-use Rattle.std.specs.Prelude.{List, [], ◌++◌, Bool, ℕ, ◌+◌, ◌≤◌, eqb, leb}
+use Rattle.std.specs.Prelude.{List, [], ◌++◌, Bool, ℕ, ◌+◌, ◌≤◌, eqb, leb, if◌then◌else◌}
 use Rattle.std.proofs.Math.Bool.{true, false}
 use native.Mathlib.Omega.{arith}
 use Rattle.std.proofs.Math.ListN.{length, length-append}
 use Rattle.spec.specs.declared.State.{State}
-use Rattle.spec.specs.Lists.{if◌then◌else◌}
 use Rattle.spec.specs.Entries.{Opened, opening}
 use Rattle.laws.specs.Tests.{and_right}
 use Rattle.session.specs.declared.EventLine.{EventLine}

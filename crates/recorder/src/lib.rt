@@ -1,5 +1,7 @@
 // A recorder: what it reads is a session's input, what it writes is the session's recording, and where there is none the session's refusal.
 // `record_line` takes one closed line; `program` is yardrecord. The machine is that of session_lines, and so are the reading and printing of lines.
+#![tactic(auto)]
+
 pub mod program;
 mod writing;
 
@@ -13,14 +15,14 @@ use recorder_lines::KeptLines;
 use session_state::{Handled, Phase, Session};
 
 // A recorder between two lines: its session, and the header's lines kept for the opening.
-#[derive(Drop)]
+#[derive(Clone, Copy)]
 pub struct Recorder {
     pub session: Session,
     pub kept: KeptLines,
 }
 
 // The recorder after a line, and how many bytes of the buffer are written then.
-#[derive(Drop)]
+#[derive(Clone, Copy)]
 pub struct Recorded {
     pub recorder: Recorder,
     pub written: usize,

@@ -11,6 +11,7 @@ ghost use Rattle.recorder.specs.Runs.{written_by, TookLine, Beginning, Reads, Ha
 use crate::{Recorded, Recorder};
 use stdio::input::Input;
 use stdio::output::Text;
+use stdio::source::Source;
 use stdio::{input, output};
 
 // The line at hand, if there is one. What is written for it stands in the buffer from `due` on.
@@ -44,7 +45,7 @@ fn take_given(
 }
 
 // A run between two calls for a line. The first `due` bytes of the output's room are not written yet.
-#[derive(Drop)]
+#[derive(Clone, Copy)]
 struct Reading {
     input: Input,
     recorder: Recorder,
@@ -53,14 +54,21 @@ struct Reading {
 
 // One line, or a part of it, and what is written for it. What was written before the next read is passed on. Once the session has stopped nothing more is
 // written, whatever follows.
-fn turn(g: Reading, ns: &mut [u32], bs: &mut [u32], room: &mut [u8], out: &mut [u8]) -> Reading
+fn turn<S: Source>(
+    from: &mut S,
+    g: Reading,
+    ns: &mut [u32],
+    bs: &mut [u32],
+    room: &mut [u8],
+    out: &mut [u8],
+) -> Reading
     requires { HasRead g ns.old bs.old room.old out.old × (0 < g.input.left) }
     ensures { ((x : Beginning) → Reads x g ns.old bs.old room.old out.old
         → Reads x result ns.new bs.new room.new out.new) × (result.input.left < g.input.left) }
 {
     let p = g.input;
     let r = g.recorder;
-    let q = input::next_line(p, room);
+    let q = input::next_line(from, p, room);
     let t = take_given(q, r, g.due, ns, bs, out);
     let recorder = t.recorder;
     let session = recorder.session;
@@ -93,7 +101,14 @@ fn finish(g: Reading, ns: &mut [u32], bs: &mut [u32], out: &mut [u8]) -> Text
 
 // What is written for an input: standard input if `reads`, else the bytes of the room. The room for the output holds all that one read can have
 // written, and the end.
-fn text(reads: bool, room: &mut [u8], ns: &mut [u32], bs: &mut [u32], out: &mut [u8]) -> Text
+fn text<S: Source>(
+    from: &mut S,
+    reads: bool,
+    room: &mut [u8],
+    ns: &mut [u32],
+    bs: &mut [u32],
+    out: &mut [u8],
+) -> Text
     requires { (2176 ≤ length ns.old) × (13200 ≤ length bs.old) × (longest_pair * length room.old + longest_last ≤ length out.old) }
     ensures prints { Prints recorder_output reads room.old result.input (take result.len out.new) }
     ensures len_in_bounds { result.len ≤ length out.new }
@@ -106,7 +121,7 @@ fn text(reads: bool, room: &mut [u8], ns: &mut [u32], bs: &mut [u32], out: &mut 
         due: 0,
     };
     while 0 < g.input.left {
-        let d = turn(g, ns, bs, room, out);
+        let d = turn(from, g, ns, bs, room, out);
         g = d;
     }
     finish(g, ns, bs, out)
@@ -120,14 +135,14 @@ fn output_room() -> [u8; 118552]
 }
 
 // The program, and its exit status. A recording from which a line was left out counts as refused, and standard error has that line.
-pub fn yardrecord() -> i32
+pub fn yardrecord<S: Source>(from: &mut S) -> i32
     ensures { RanRecorder result }
 {
     let mut ns = session_pools::node_words();
     let mut bs = session_pools::bucket_words();
     let mut room = input::room();
     let mut out = output_room();
-    let t = text(true, &mut room, &mut ns, &mut bs, &mut out);
+    let t = text(from, true, &mut room, &mut ns, &mut bs, &mut out);
     let p = t.input;
     let o = output::answer(b"record", p, &out[..t.len]);
     output::status(output::left_out(b"record", p, o))

@@ -1,8 +1,7 @@
 -- What is kept of the header's lines in an array is what the definition keeps in a list: `kept_more`. Assumes nothing.
-use Rattle.std.specs.Prelude.{◌≡◌, refl, List, [], ◌∷◌, ◌++◌, Bool, true, false, ℕ, ◌+◌, ◌-◌, ◌<◌, ◌≤◌, min, leb, ltb, length, take, drop, set}
+use Rattle.std.specs.Prelude.{◌≡◌, refl, List, [], ◌∷◌, ◌++◌, Bool, true, false, ℕ, ◌+◌, ◌-◌, ◌<◌, ◌≤◌, min, leb, ltb, length, take, drop, set, if◌then◌else◌}
 use Rattle.std.proofs.Common.{sym, ap, ◌∙◌, append_assoc, arith, leb-true, leb-false, length-append, length-set, length-drop, length-take-le, take_all, take_at}
 use Rattle.std.proofs.Math.Seq.{take-append-add}
-use Rattle.spec.specs.Lists.{if◌then◌else◌}
 use Rattle.session.specs.Buffer.{Buffer, buffer, append_byte, append}
 use Rattle.session.specs.BufferLaws.{append_first, append_rest}
 use Rattle.recording.specs.Recorder.{longest_header}

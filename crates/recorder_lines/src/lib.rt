@@ -1,5 +1,7 @@
 // What a recorder asks of single lines: the header's lines, kept until the opening is accepted, a line that is written again, and whether
 // a line is an event's.
+#![tactic(auto)]
+
 ghost use Rattle.std.specs.Prelude.{◌≡◌, ◌≤◌, take};
 ghost use Rattle.session.specs.Buffer.{buffer, append};
 ghost use Rattle.session.specs.Grammar.{closed_line, parse_event_line};
@@ -12,7 +14,7 @@ use session::EventLine;
 use session_state::Phase;
 
 // Four lines of at most 40 bytes, each with the byte 10 that closes it, and how many bytes they are.
-#[derive(Drop)]
+#[derive(Clone, Copy)]
 pub struct KeptLines {
     pub bytes: [u8; 164],
     pub len: usize,

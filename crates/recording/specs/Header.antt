@@ -1,8 +1,7 @@
 -- The header of a session's input or of a recording: its lines, what they say, and the lines after them: `take_header`. Each is
 -- judged as in a session, by session's `header_step`; `as_session` (HeaderLaws) has that this is the header that a session reads. A session
 -- gives 10 where a header line is missing, a reader 12. Assumes nothing.
-use Rattle.std.specs.Prelude.{ℕ, List, [], ◌∷◌}
-use Rattle.spec.specs.Lists.{if◌then◌else◌}
+use Rattle.std.specs.Prelude.{ℕ, List, [], ◌∷◌, if◌then◌else◌}
 use Rattle.session.specs.declared.Header.{Header}
 use Rattle.session.specs.declared.HeaderLine.{HeaderLine}
 use Rattle.session.specs.declared.HeaderLine.TheVariants.{Tasks}

@@ -1,7 +1,6 @@
 -- The reader, one line at a time: where it stands, what a line moves it to, and what it answers at the end. It is what code is held to; that
 -- it gives the verdict is shown in ReaderVerdict. Assumes nothing.
-use Rattle.std.specs.Prelude.{ℕ, suc, ◌+◌, List, [], ◌∷◌, eqb, drop}
-use Rattle.spec.specs.Lists.{if◌then◌else◌}
+use Rattle.std.specs.Prelude.{ℕ, suc, ◌+◌, List, [], ◌∷◌, eqb, drop, if◌then◌else◌}
 use Rattle.spec.specs.Machine.{Machine, machine_of, zero_config, state_of}
 use Rattle.spec.specs.Entries.{Opened}
 use Rattle.spec.specs.Schedule.{Event, event}

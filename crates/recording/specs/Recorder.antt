@@ -1,8 +1,7 @@
 -- The recorder, one line at a time: where it stands, what a line has it write, and what it writes at the end. The header's lines are kept until
 -- the opening is accepted. Where nothing is recorded it writes what the session prints, a refusal's line: `recorder_output` has the whole. It is
 -- what code is held to; that it writes that is shown in RecorderRecords. Assumes nothing.
-use Rattle.std.specs.Prelude.{ℕ, List, [], ◌∷◌, ◌++◌, eqb, take, replicate}
-use Rattle.spec.specs.Lists.{if◌then◌else◌}
+use Rattle.std.specs.Prelude.{ℕ, List, [], ◌∷◌, ◌++◌, eqb, take, replicate, if◌then◌else◌}
 use Rattle.spec.specs.Machine.{Machine}
 use Rattle.spec.specs.Entries.{Opened, list}
 use Rattle.spec.specs.Schedule.{Event, starts, steps, event}

@@ -1,11 +1,11 @@
 -- What a terminal writes of its shift: `recording`, of a session's whole input. "A terminal is to write its shift as a recording: the
 -- session's header lines, then for each event its input line followed by its output line, closed by the final listing." Each line
 -- is kept with its role, so that statements can say which line they mean. Assumes nothing.
-use Rattle.std.specs.Prelude.{ℕ, List, [], ◌∷◌, ◌++◌, map, eqb, length, replicate}
+use Rattle.std.specs.Prelude.{ℕ, List, [], ◌∷◌, ◌++◌, map, eqb, length, replicate, if◌then◌else◌}
 use Rattle.spec.specs.declared.Listing.{Listing}
 use Rattle.spec.specs.declared.Listing.TheVariants.{Count, Refused}
 use Rattle.spec.specs.declared.Output.{Output}
-use Rattle.spec.specs.Lists.{if◌then◌else◌, concat_map}
+use Rattle.spec.specs.Lists.{concat_map}
 use Rattle.spec.specs.Machine.{Machine}
 use Rattle.spec.specs.Listed.{listed, head_of, size_of}
 use Rattle.spec.specs.Entries.{Opened, list}

@@ -2,8 +2,7 @@
 -- the number, from 1, of the first line that is not what the machine prints." The lines are judged in order and the first that fails
 -- gives the answer, so "of a difference, a 10 and a 12 the earliest line decides"; a line is asked first whether it is closed, so "on
 -- one line 10 goes before a difference". Assumes nothing.
-use Rattle.std.specs.Prelude.{ℕ, suc, ◌+◌, List, [], ◌∷◌, not, eqb, length}
-use Rattle.spec.specs.Lists.{if◌then◌else◌}
+use Rattle.std.specs.Prelude.{ℕ, suc, ◌+◌, List, [], ◌∷◌, not, eqb, length, if◌then◌else◌}
 use Rattle.spec.specs.Machine.{Machine}
 use Rattle.spec.specs.Entries.{Opened}
 use Rattle.spec.specs.Schedule.{Event, starts, steps, event}

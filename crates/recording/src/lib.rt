@@ -1,11 +1,12 @@
 // Recorded shifts: what a reader of recordings answers, and where a reader and a recorder stand between two lines. specs/ has every
 // definition of what they mean; no code is here.
+#![tactic(auto)]
 
 use session::HeaderLine;
 use spec::Output;
 
 // What a reader answers: each line is what the machine prints, or the number, from 1, of the first that is not, or a refusal's number.
-#[derive(Drop)]
+#[derive(Clone, Copy)]
 pub enum Verdict {
     Same,
     Differs(u64),
@@ -14,7 +15,7 @@ pub enum Verdict {
 
 // Which line a reader takes next: a header line; an event's, or the listing's first; the output line of an event of this task; a line
 // of the listing, by its place in it from 0 on. Or the answer is given.
-#[derive(Drop)]
+#[derive(Clone, Copy)]
 pub enum ReaderPhase {
     Due(HeaderLine),
     Event,
@@ -24,7 +25,7 @@ pub enum ReaderPhase {
 }
 
 // Which line a recorder takes next: a header line, or an event's. Or the listing is written, or nothing is recorded.
-#[derive(Drop)]
+#[derive(Clone, Copy)]
 pub enum RecorderPhase {
     Header(HeaderLine),
     Events,

@@ -1,13 +1,13 @@
 -- A recording holds what the session prints: its output lines and its listing are the session's transcript, where the opening is accepted
 -- and no line gives 10: `records_what_is_printed`. Since both print the outputs of one run. Assumes nothing.
-use Rattle.std.specs.Prelude.{◌≡◌, refl, Bool, true, false, ℕ, replicate}
+use Rattle.std.specs.Prelude.{◌≡◌, refl, Bool, true, false, ℕ, replicate, if◌then◌else◌}
 use Rattle.std.proofs.Math.Path.{sym, ap}
 use Rattle.std.proofs.Common.{◌∙◌, eq-eqb}
 use mathlib.Core.List.{List, [], ◌∷◌, ◌++◌, map, append_assoc}
 use Rattle.spec.specs.declared.Listing.{Listing}
 use Rattle.spec.specs.declared.Listing.TheVariants.{Count, Refused}
 use Rattle.spec.specs.declared.Output.{Output}
-use Rattle.spec.specs.Lists.{if◌then◌else◌, filter, concat_map}
+use Rattle.spec.specs.Lists.{filter, concat_map}
 use Rattle.spec.specs.Machine.{Machine}
 use Rattle.spec.specs.Listed.{listed}
 use Rattle.spec.specs.Entries.{list}

@@ -1,11 +1,11 @@
 -- Lines, closed and joined, are read back as those lines: `first_line`, `lines_again`; no line of an input holds byte 10:
 -- `lines_plain`; and there are no more lines than bytes: `lines_few`. For a line ends at the first byte 10, which is no part of it. Assumes nothing.
-use Rattle.std.specs.Prelude.{◌≡◌, refl, List, [], ◌∷◌, ◌++◌, map, Bool, true, false, not, ℕ, suc, ◌+◌, ◌≤◌, eqb, length}
+use Rattle.std.specs.Prelude.{◌≡◌, refl, List, [], ◌∷◌, ◌++◌, map, Bool, true, false, not, ℕ, suc, ◌+◌, ◌≤◌, eqb, length, if◌then◌else◌}
 use Rattle.std.proofs.Common.{sym, ap, ◌∙◌, append_assoc, append-nil, arith, length-append}
 use Rattle.std.proofs.Math.Decide.{ℕ_discrete}
 use Rattle.std.proofs.lemmas.Bool.{eqb-false, not-true}
 use Rattle.std.proofs.Math.Seq.{append_snoc}
-use Rattle.spec.specs.Lists.{if◌then◌else◌, every, concat_map}
+use Rattle.spec.specs.Lists.{every, concat_map}
 use Rattle.laws.specs.Tests.{and2, and_i}
 use Rattle.session.specs.Keys.{newline}
 use Rattle.session.specs.Grammar.{InputLine, closed_line, open_line, split_lines, input_lines}

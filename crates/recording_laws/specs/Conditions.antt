@@ -1,12 +1,11 @@
 -- Each answer of a reader exactly under its condition, for any bytes: `refusal_10`, `refusal_12`, `opening_refusal`, `difference`, `same`. The
 -- header is judged first, then its opening, then the lines after it (Judged). Assumes nothing.
-use Rattle.std.specs.Prelude.{◌≡◌, ◌↔◌, ◌⊎◌, List, [], ◌∷◌, Bool, true, false, ℕ, ◌+◌, eqb}
+use Rattle.std.specs.Prelude.{◌≡◌, ◌↔◌, ◌⊎◌, List, [], ◌∷◌, Bool, true, false, ℕ, ◌+◌, eqb, if◌then◌else◌}
 use Rattle.std.proofs.Math.Path.{refl, ap}
 use Rattle.std.proofs.Common.{sym, ◌∙◌, arith}
 use Rattle.std.proofs.Math.Logic.{inl, inr}
 use borrow.Author.Tests.{eq-eqb, ne_eqb, eqb-true, eqb-false}
 use Rattle.std.proofs.Math.ListN.{length}
-use Rattle.spec.specs.Lists.{if◌then◌else◌}
 use Rattle.corollaries.specs.Tables.{OpeningRefused, is_1, is_2, is_3, is_11, opening_refused}
 use Rattle.session.specs.declared.Header.{Header}
 use Rattle.session.specs.declared.HeaderLine.{HeaderLine}

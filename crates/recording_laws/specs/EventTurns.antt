@@ -1,8 +1,7 @@
 -- A line that is an event's in a session is closed, and an event's for the reader too: `event_turned`. For no event line starts with
 -- `size=`. Assumes nothing.
-use Rattle.std.specs.Prelude.{◌≡◌, refl, List, [], ◌∷◌, Bool, true, false, ◌&&◌, ℕ, eqb, leb, length}
+use Rattle.std.specs.Prelude.{◌≡◌, refl, List, [], ◌∷◌, Bool, true, false, ◌&&◌, ℕ, eqb, leb, length, if◌then◌else◌}
 use Rattle.std.proofs.Common.{sym, ap, ◌∙◌, arith, eqb-true, ne_eqb}
-use Rattle.spec.specs.Lists.{if◌then◌else◌}
 use Rattle.laws.specs.Tests.{tf, and_left, and_right, and_never}
 use Rattle.session.specs.declared.EventLine.{EventLine}
 use Rattle.session.specs.declared.EventLine.TheVariants.{Outside}

@@ -1,8 +1,8 @@
 -- A header's lines, with other lines behind them, are taken again as the same header: `header_again`. Where the last header line was
 -- left out, the line behind must not be that line: it is the one that stood there, or starts with `size=`, or there is none. Assumes nothing.
-use Rattle.std.specs.Prelude.{◌≡◌, refl, List, [], ◌∷◌, ◌++◌, Bool, true, false, ℕ}
+use Rattle.std.specs.Prelude.{◌≡◌, refl, List, [], ◌∷◌, ◌++◌, Bool, true, false, ℕ, if◌then◌else◌}
 use Rattle.std.proofs.Common.{sym, ap, ◌∙◌, arith}
-use Rattle.spec.specs.Lists.{if◌then◌else◌, every}
+use Rattle.spec.specs.Lists.{every}
 use Rattle.laws.specs.Tests.{and2}
 use Rattle.session.specs.declared.Header.{Header}
 use Rattle.session.specs.declared.HeaderLine.{HeaderLine}

@@ -1,8 +1,7 @@
 -- What the other proofs need of a header line: `header_known`, by what it comes to; of one that starts with `size=`, `size_step`. And that
 -- the header is the one that a session reads: `as_session`. Session's `header_step` is opened here and in its `LineLaws` alone. Assumes nothing.
-use Rattle.std.specs.Prelude.{◌≡◌, refl, List, [], ◌∷◌, Bool, true, false, ◌&&◌, ℕ, suc, ◌≤◌, eqb, leb, length}
+use Rattle.std.specs.Prelude.{◌≡◌, refl, List, [], ◌∷◌, Bool, true, false, ◌&&◌, ℕ, suc, ◌≤◌, eqb, leb, length, if◌then◌else◌}
 use Rattle.std.proofs.Common.{sym, ap, ◌∙◌, arith, eqb-true, ne_eqb, leb-true}
-use Rattle.spec.specs.Lists.{if◌then◌else◌}
 use Rattle.laws.specs.Tests.{and_left, and_right}
 use Rattle.session.specs.declared.Decimal.{Decimal}
 use Rattle.session.specs.declared.Decimal.TheVariants.{Value, NotDecimal}

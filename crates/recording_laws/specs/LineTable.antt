@@ -1,15 +1,14 @@
 -- What a line after the header decides, by where the reader stands: a table for 10 and for a difference, and one for the end of the lines,
--- in plain propositions; and that a reader is decided so exactly if the table has it: `line_view`, `line-10`, `line-differs`, `end_view`,
+-- in plain propositions; and that a reader is decided so exactly if the table has it: `line_view`, `line_10`, `line_differs`, `end_view`,
 -- `end_12`, `end_same`. By cases on where it stands. Assumes nothing.
 use Rattle.std.proofs.Math.Path.{◌≡◌, refl, ap}
 use Rattle.std.proofs.Common.{◌∙◌, inr}
-use Rattle.std.specs.Prelude.{◌⊎◌, Bool, ℕ, suc, ◌+◌}
+use Rattle.std.specs.Prelude.{◌⊎◌, Bool, ℕ, suc, ◌+◌, if◌then◌else◌}
 use Rattle.std.proofs.Math.Logic.{inl}
 use mathlib.Core.List.{List, [], ◌∷◌}
 use Rattle.std.proofs.Math.Bool.{true, false, not}
 use native.Mathlib.Omega.{arith}
 use Rattle.std.proofs.Math.ListN.{drop}
-use Rattle.spec.specs.Lists.{if◌then◌else◌}
 use Rattle.spec.specs.Machine.{Machine}
 use Rattle.laws.specs.Tests.{tf}
 use Rattle.session.specs.declared.EventLine.{EventLine}

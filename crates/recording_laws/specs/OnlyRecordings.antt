@@ -1,13 +1,13 @@
 -- The reader says "same" of recordings alone: `same_is_recorded`, bytes that give "same" are what a terminal writes for some session's
 -- input. That input is the header lines and the event lines in them; the lines between were compared with what the machine prints.
 -- Assumes nothing.
-use Rattle.std.specs.Prelude.{◌≡◌, refl, Bool, true, false, not, ℕ, suc, ◌+◌, eqb, length}
+use Rattle.std.specs.Prelude.{◌≡◌, refl, Bool, true, false, not, ℕ, suc, ◌+◌, eqb, length, if◌then◌else◌}
 use Rattle.std.proofs.Common.{sym, ◌∙◌, arith}
 use Rattle.std.proofs.Math.Path.{ap, subst}
 use mathlib.Core.List.{List, [], ◌∷◌, ◌++◌, map, append-nil}
 use borrow.Author.Tests.{eq-eqb, eqb-true}
 use Rattle.std.proofs.Math.Seq.{append_snoc}
-use Rattle.spec.specs.Lists.{if◌then◌else◌, every, concat_map}
+use Rattle.spec.specs.Lists.{every, concat_map}
 use Rattle.spec.specs.Machine.{Machine}
 use Rattle.spec.specs.Schedule.{Event, starts, steps, event}
 use Rattle.laws.specs.Tests.{tf, and2}

@@ -1,13 +1,12 @@
 -- The opening's refusals of a recording's header, each exactly under its condition on the header's numbers: `refusal_1`, `refusal_2`,
 -- `refusal_3`, `refusal_11`. For a reader gives the opening's refusal (Conditions), and corollaries has when an opening gives it. Assumes nothing.
-use Rattle.std.specs.Prelude.{◌≡◌, ◌↔◌, List, [], Bool, ℕ, ◌*◌, ◌≤◌, leb}
+use Rattle.std.specs.Prelude.{◌≡◌, ◌↔◌, List, [], Bool, ℕ, ◌*◌, ◌≤◌, leb, if◌then◌else◌}
 use Rattle.std.proofs.Math.Path.{refl}
 use Rattle.std.proofs.Math.Bool.{true, false}
 use Rattle.std.proofs.Common.{arith}
 use borrow.Author.Tests.{le-leb, leb-true}
 use Rattle.std.proofs.Math.ListN.{length, replicate}
 use Rattle.std.proofs.lemmas.List.{length-replicate}
-use Rattle.spec.specs.Lists.{if◌then◌else◌}
 use Rattle.spec.specs.Sound.{within}
 use Rattle.laws.specs.Tests.{and_left, and_right, and_i}
 use Rattle.corollaries.specs.Tables.{Within, Records, OpeningRefused, is_1, is_2, is_3, is_11, opening_refused}

@@ -1,6 +1,6 @@
 -- Each line that a session prints is bytes without byte 10, closed by one: `output_closed`, `key_closed`. For it is put together of
 -- fixed words and of digits, which are at least 48. Assumes nothing.
-use Rattle.std.specs.Prelude.{◌≡◌, refl, List, [], ◌∷◌, ◌++◌, Bool, true, false, ℕ, zero, suc, ◌+◌, ◌/◌, ◌%◌, ltb}
+use Rattle.std.specs.Prelude.{◌≡◌, refl, List, [], ◌∷◌, ◌++◌, Bool, true, false, ℕ, zero, suc, ◌+◌, ◌/◌, ◌%◌, ltb, if◌then◌else◌}
 use Rattle.std.proofs.Common.{arith, ne_eqb}
 use Rattle.spec.specs.declared.Answer.{Answer}
 use Rattle.spec.specs.declared.Answer.TheVariants.{Yes, No, Full, Done, Lost, Limit}
@@ -8,7 +8,7 @@ use Rattle.spec.specs.declared.Occupancy.{Occupancy}
 use Rattle.spec.specs.declared.Occupancy.TheVariants.{NotGiven, Tags}
 use Rattle.spec.specs.declared.Output.{Output}
 use Rattle.spec.specs.declared.Output.TheVariants.{At, End, Refuse}
-use Rattle.spec.specs.Lists.{if◌then◌else◌, every}
+use Rattle.spec.specs.Lists.{every}
 use Rattle.session.specs.Keys.{comma, at_key, end_key, refuse_key}
 use Rattle.session.specs.Print.{decimal_digits, decimal, key_line, answer_word, occupancy_field, refusal_line, output_line}
 use Rattle.recording.specs.Recording.{close}

@@ -1,12 +1,12 @@
 -- Given one line after the other, and ended, the recorder writes the recording, and where there is none what the session prints:
 -- `recorder_writes`, which is a refusal's line, `refused_line`. By induction over the lines, since a run is its first event and the run after
 -- it; and no more than four header lines are kept, which have room. Assumes nothing.
-use Rattle.std.specs.Prelude.{◌≡◌, Bool, true, false, eqb, length, take, replicate}
+use Rattle.std.specs.Prelude.{◌≡◌, Bool, true, false, eqb, length, take, replicate, if◌then◌else◌}
 use Rattle.std.proofs.Math.Path.{refl, sym, ap}
 use Rattle.std.proofs.Common.{◌∙◌, arith, length-append, take_all}
 use mathlib.Core.List.{List, [], ◌∷◌, ◌++◌, map, append_assoc, append-nil}
-use Prim.Native.Nat.{ℕ, suc, ◌+◌, ◌*◌, ◌≤◌}
-use Rattle.spec.specs.Lists.{if◌then◌else◌, concat_map}
+use Prim.Native.Nat.{ℕ, suc, ◌*◌, ◌≤◌}
+use Rattle.spec.specs.Lists.{concat_map}
 use Rattle.spec.specs.Machine.{Machine}
 use Rattle.spec.specs.Entries.{Opened, list}
 use Rattle.spec.specs.Schedule.{Event, starts, steps, event}

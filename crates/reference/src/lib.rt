@@ -7,6 +7,8 @@
 // No function has a requirement: any words and numbers may be lent.
 // A function is best straight, its choices in small functions beside: what follows a choice is proved once for each way to it. And a function that may
 // store does little else: what it stores is worked out in functions that only read, which are proved in a third of the time.
+#![tactic(auto)]
+
 mod faults;
 mod places;
 mod sight;

@@ -1,11 +1,10 @@
 -- The refusals of lane against office as text (paper 02, U14), of any bytes: a table of them, each with its condition, and that one is printed exactly
 -- if the table has it (`game_refused`). When a verdict is 8 or 16 is said in `game/Theorems`. Assumes nothing.
-use Rattle.std.specs.Prelude.{ℕ, ◌<◌, ◌≡◌, Bool, true, false, ◌↔◌, eqb, get_or}
+use Rattle.std.specs.Prelude.{ℕ, ◌<◌, ◌≡◌, Bool, true, false, ◌↔◌, eqb, get_or, if◌then◌else◌}
 use Rattle.std.proofs.Math.Path.{refl}
 use Rattle.std.proofs.Common.{ap, arith}
 use mathlib.Core.List.{List, [], ◌∷◌}
 use borrow.Author.Tests.{eqb-true, eqb-false, eq-eqb, ne_eqb}
-use Rattle.spec.specs.Lists.{if◌then◌else◌}
 use Rattle.spec.specs.Schedule.{Event, run}
 use Rattle.session.specs.declared.Decimal.{Decimal}
 use Rattle.session.specs.declared.Decimal.TheVariants.{Value, NotDecimal}
@@ -22,7 +21,8 @@ use Rattle.game.specs.declared.Verdict.TheVariants.{LanesWin, OfficeHolds, Refus
 use Rattle.game.specs.Game.{winning_move, plies, verdict}
 use Rattle.game.specs.Text.{move_word, verdict_line, parse_game_line, Asked, asks, outside, first_event, event_then, game_then, line_then, asked}
 use Rattle.game.specs.Text.{game_line, opened_line, header_line, lines_answer, game_answer}
-use Rattle.game.specs.Theorems.{VerdictOf, spoilt, none_here, played, verdict_outcome, never_refused}
+use Rattle.game.specs.Theorems.{VerdictOf, spoilt, none_here, played, verdict_outcome}
+use Rattle.game.proofs.Theorems.{never_refused}
 use Rattle.refusal_laws.specs.LastLine.{Outcome, refuses, prints, refused_by, begins}
 use Rattle.refusal_laws.specs.Sessions.{NoEvent, opening_number}
 

@@ -1,8 +1,8 @@
 -- What the last line of a printed text tells: the byte before its `=`, and the number after it. By them a listing is told from a refusal, and
 -- two refusals from each other, whatever stands before them. Assumes nothing.
-use Rattle.std.specs.Prelude.{ℕ, zero, suc, ◌+◌, ◌*◌, ◌-◌, ◌/◌, ◌%◌, ◌<◌, ◌≡◌, refl, List, [], ◌∷◌, ◌++◌, Bool, true, false, not, ◌&&◌, ◌⊎◌, eqb, ltb, get_or, length}
+use Rattle.std.specs.Prelude.{ℕ, zero, suc, ◌+◌, ◌*◌, ◌-◌, ◌/◌, ◌%◌, ◌<◌, ◌≡◌, refl, List, [], ◌∷◌, ◌++◌, Bool, true, false, not, ◌&&◌, ◌⊎◌, eqb, ltb, get_or, length, if◌then◌else◌}
 use Rattle.std.proofs.Common.{sym, ap, ◌∙◌, append-nil, inl, inr, arith, ne_eqb, ltb-true, lt-ltb}
-use Rattle.spec.specs.Lists.{if◌then◌else◌, every}
+use Rattle.spec.specs.Lists.{every}
 use Rattle.laws.specs.Tests.{bool?}
 use Rattle.session.specs.Keys.{newline, size_key, tags_key, tag_key, refuse_key}
 use Rattle.session.specs.Print.{decimal_digits, decimal, key_line, refusal_line, tag_lines, listing_lines}

@@ -15,7 +15,8 @@ use Rattle.notes.specs.Orders.{Lane, first, second}
 use Rattle.notes.specs.Merge.{Found, order, none, Outcome as Merged, searched, refused, unfit, merge, search_all}
 use Rattle.notes.specs.Text.{parse_note_line, note_line, order_lines, outcome_lines, merge_lines, first_notes, second_notes, is_note, all_notes, notes_output}
 use Rattle.notes.specs.Text.{notes_transcript}
-use Rattle.notes.specs.Theorems.{Unfit, unfit_refused, refused_13}
+use Rattle.notes.specs.Theorems.{Unfit, unfit_refused}
+use Rattle.notes.proofs.Theorems.{refused_13}
 use Rattle.refusal_laws.specs.Any.{Any, not_every}
 use Rattle.refusal_laws.specs.LastLine.{Outcome, refuses, prints, refused_by, begins}
 

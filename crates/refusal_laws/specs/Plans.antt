@@ -13,7 +13,7 @@ use Rattle.laws.specs.Soundness.{within_facts}
 use Rattle.session.specs.Grammar.{InputLine, input_lines}
 use Rattle.session.specs.Print.{key_line, refusal_line}
 use Rattle.plans.specs.declared.Figures.{Figures}
-use Rattle.plans.specs.Plan.{PlanReply, planned, refused, plan}
+use Rattle.plans.specs.Plan.{PlanReply, plan}
 use Rattle.plan_laws.specs.Refusals.{VersionRight, PlanOf, other_version, longer_list, figured, plan_outcome, refused_11, refused_9}
 use Rattle.plan_text.specs.declared.Due.{Due}
 use Rattle.plan_text.specs.declared.Due.TheVariants.{Tasks, Version, Call, Nothing}

@@ -19,7 +19,7 @@ use Rattle.spec.specs.Sound.{sound}
 use Rattle.spec.specs.Listed.{listed}
 use Rattle.spec.specs.Entries.{opening, Reply, Written, list}
 use Rattle.laws.specs.Tests.{choose, or_none}
-use Rattle.laws.specs.EntriesKeep.{event_keeps}
+use Rattle.laws.proofs.EntriesKeep.{event_keeps}
 use Rattle.spec.specs.Schedule.{Event, event, run, run_opened, schedule}
 use Rattle.schedule_events.specs.Events.{events_of, listing_number}
 use Rattle.schedule_events.specs.EventLaws.{events_length, event_at, events_on, events_end}
@@ -93,7 +93,8 @@ outs_length y (e ∷ es) = ap suc (outs_length (event y e).machine es)
 
 -- ---- the whole
 
-module _ (g : Config) (ns bs ws os ts : List ℕ) (refusal : ℕ) (r : refusal ≡ (opening g ns bs).refusal) (y₀ : Machine) (o : y₀ ≡ (opening g ns bs).machine) where
+module _ (g : Config) (ns bs ws os ts : List ℕ) (refusal : ℕ) (r : refusal ≡ (opening g ns bs).refusal) (y₀ : Machine)
+    (o : y₀ ≡ (opening g ns bs).machine) where
   pub not_run : (refusal ≡ 0 → ⊥)
       → record { refusal = refusal; ran = 0; machine = y₀; outs = os; listing = Refused refusal; tags = ts } ≡ run_words g ns bs ws os ts
   unfolding run_words schedule run_opened list_opened concat_map

@@ -1,10 +1,10 @@
 -- A whole schedule as words, for callers outside Rattle: which of its events are run, and what is left of every slice.
 -- Assumes nothing.
-use Rattle.std.specs.Prelude.{ℕ, ◌/◌, min, not, List, eqb, length}
+use Rattle.std.specs.Prelude.{ℕ, ◌/◌, min, not, List, eqb, length, if◌then◌else◌}
 use Rattle.spec.specs.declared.Config.{Config}
 use Rattle.spec.specs.declared.Listing.{Listing}
 use Rattle.spec.specs.declared.Listing.TheVariants.{Refused}
-use Rattle.spec.specs.Lists.{if◌then◌else◌, concat_map}
+use Rattle.spec.specs.Lists.{concat_map}
 use Rattle.spec.specs.Numbers.{output_words}
 use Rattle.spec.specs.Machine.{Machine, machine_of, config_of, with_version, with_zero_withdrawn}
 use Rattle.spec.specs.Words.{overwrite}

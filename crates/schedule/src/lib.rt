@@ -1,4 +1,6 @@
 // A whole schedule in one call: the opening, then starts and steps given as words, then the list.
+#![tactic(auto)]
+
 ghost use Rattle.std.specs.Prelude.{◌≡◌, true, ◌*◌, ◌%◌, ◌≤◌, length};
 ghost use Rattle.spec.specs.Lists.{concat_map};
 ghost use Rattle.spec.specs.Numbers.{output_words};
@@ -21,7 +23,7 @@ use spec::{Config, Listing, State, Task};
 
 // What a run gives: the opening's refusal, or 0; the number of events run; the state; the list's answer, in whose place the refusal
 // of an opening stands.
-#[derive(Drop)]
+#[derive(Clone, Copy)]
 pub struct Outcome {
     pub refusal: u32,
     pub ran: usize,

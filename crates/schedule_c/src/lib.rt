@@ -1,6 +1,8 @@
 // Many events in one call for C, on an open set and as a whole schedule, in an archive of its own: there nothing but a run of events calls a step, so
 // that the compiler makes one function of both. include/yard.h has the layout and the numbers, `Runs` of yard_c and specs/Whole what the calls give
 // and leave.
+#![tactic(auto)]
+
 ghost use Rattle.std.specs.Prelude.{◌≡◌};
 ghost use Rattle.schedule.specs.Encoding.{c_config, run_words};
 ghost use Rattle.c_calls.specs.Calls.{called};
@@ -11,8 +13,7 @@ ghost use Rattle.schedule_c.specs.Whole.{c_result, c_result_of};
 const SPOILT: u32 = 264;
 
 // Runs the events that have room for their outputs. Memory is looked through once, before the first of them, and every event keeps it sound.
-#[unsafe(no_mangle)]
-pub extern "C" fn yard_run(
+pub fn yard_run(
     w: &mut [u32],
     ns: &mut [u32],
     bs: &mut [u32],
@@ -36,8 +37,7 @@ pub extern "C" fn yard_run(
 }
 
 // Opens, runs the events that have room for their outputs, and lists. Gives the number of tags listed, or 256 and the refusal's number.
-#[unsafe(no_mangle)]
-pub extern "C" fn schedule_run(
+pub fn schedule_run(
     tasks: u32,
     version: u32,
     withdrawn: u32,

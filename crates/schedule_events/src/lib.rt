@@ -1,12 +1,14 @@
 // The events of a schedule given as words: what an event's first word asks for, how many events have room, and the list's answer as
 // a number.
+#![tactic(auto)]
+
 ghost use Rattle.std.specs.Prelude.{◌≡◌, ℕ, ◌≤◌, ◌/◌, min};
 ghost use Rattle.schedule_events.specs.Events.{event_of, event_asked, listing_number};
 
 use spec::{Call, Listing};
 
 // What an event asks for, whichever task and tag it names.
-#[derive(Drop)]
+#[derive(Clone, Copy)]
 pub enum Asked {
     Start(Call),
     Step,

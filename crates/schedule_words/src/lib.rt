@@ -1,4 +1,6 @@
 // The outputs of a schedule given as words: an output's four words, and where they are written.
+#![tactic(auto)]
+
 ghost use Rattle.std.specs.Prelude.{◌≡◌, ◌*◌, ◌+◌, ◌≤◌, length};
 ghost use Rattle.spec.specs.Numbers.{answer_number, occupancy_number, output_words};
 ghost use Rattle.spec.specs.Words.{overwrite};

@@ -1,9 +1,8 @@
 -- Any bytes at all are answered: what a session prints is never empty, `answered`. Assumes nothing.
-use Rattle.std.specs.Prelude.{List, Bool, true, false, ℕ, ◌≤◌, eqb, length, replicate}
+use Rattle.std.specs.Prelude.{List, Bool, true, false, ℕ, ◌≤◌, eqb, length, replicate, if◌then◌else◌}
 use Rattle.std.proofs.Common.{arith, length-append}
 use Rattle.spec.specs.declared.Listing.{Listing}
 use Rattle.spec.specs.declared.Listing.TheVariants.{Count, Refused}
-use Rattle.spec.specs.Lists.{if◌then◌else◌}
 use Rattle.spec.specs.Machine.{Machine}
 use Rattle.spec.specs.Listed.{head_of, size_of}
 use Rattle.spec.specs.Entries.{Opened, list}

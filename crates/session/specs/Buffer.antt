@@ -1,7 +1,6 @@
 -- Bytes appended to a lent buffer, one after the other; those that find no room are left out. `written` says what that leaves
 -- of a buffer that is written from its first byte on. Assumes nothing.
-use Rattle.std.specs.Prelude.{ℕ, ◌+◌, min, ◌≡◌, List, [], ◌∷◌, ◌++◌, ltb, length, take, drop, set}
-use Rattle.spec.specs.Lists.{if◌then◌else◌}
+use Rattle.std.specs.Prelude.{ℕ, ◌+◌, min, ◌≡◌, List, [], ◌∷◌, ◌++◌, ltb, length, take, drop, set, if◌then◌else◌}
 
 -- a buffer's bytes, and the next place
 pub record Buffer : Type 0 where

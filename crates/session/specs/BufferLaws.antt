@@ -1,8 +1,7 @@
 -- What appending bytes leaves of a lent buffer: `append_written`, from the first byte on, and `append_rest`, from a place in
 -- the middle on, which is how a part of a buffer is lent. Assumes nothing.
-use Rattle.std.specs.Prelude.{◌≡◌, refl, List, [], ◌∷◌, ◌++◌, Bool, true, false, ℕ, suc, ◌+◌, ◌<◌, ◌≤◌, min, ltb, length, take, drop, set}
+use Rattle.std.specs.Prelude.{◌≡◌, refl, List, [], ◌∷◌, ◌++◌, Bool, true, false, ℕ, suc, ◌+◌, ◌<◌, ◌≤◌, min, ltb, length, take, drop, set, if◌then◌else◌}
 use Rattle.std.proofs.Common.{sym, ap, ◌∙◌, arith, lt-ltb, le-ltb, ltb-true, ltb-false, length-append, length-set, take-append-drop, length-take-le, take_all, take_at}
-use Rattle.spec.specs.Lists.{if◌then◌else◌}
 use Rattle.session.specs.Buffer.{Buffer, buffer, append_byte, append, Written}
 
 -- appended one after the other

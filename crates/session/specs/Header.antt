@@ -1,9 +1,8 @@
 -- The header of a session, a line at a time: "First `tasks=`, `nodes=`, `buckets=`, in that order". Paper 02, U3: "`version=` becomes
 -- the fourth header line; a session without it is version 1"; U9: "the header line `blank=no` after the version, or after the buckets where
 -- no version stands; those without it run under the old rule". Assumes nothing.
-use Rattle.std.specs.Prelude.{ℕ, List, [], ◌∷◌, Bool, true, false}
+use Rattle.std.specs.Prelude.{ℕ, List, [], ◌∷◌, Bool, true, false, if◌then◌else◌}
 use Rattle.spec.specs.declared.Config.{Config}
-use Rattle.spec.specs.Lists.{if◌then◌else◌}
 use Rattle.spec.specs.Machine.{config_of, with_version, with_zero_withdrawn, zero_config}
 use Rattle.session.specs.declared.Decimal.{Decimal}
 use Rattle.session.specs.declared.Decimal.TheVariants.{Value, NotDecimal}

@@ -1,7 +1,6 @@
 -- What a line says that is of no header line's form: `no_header_line`; and one that is too long or not closed: `outside_step`, and
 -- `outside_event` where it is an event's turn. Assumes nothing.
-use Rattle.std.specs.Prelude.{◌≡◌, false}
-use Rattle.spec.specs.Lists.{if◌then◌else◌}
+use Rattle.std.specs.Prelude.{◌≡◌, false, if◌then◌else◌}
 use Rattle.session.specs.declared.Decimal.TheVariants.{NotDecimal}
 use Rattle.session.specs.declared.EventLine.TheVariants.{Outside}
 use Rattle.session.specs.declared.Header.{Header}
@@ -31,9 +30,6 @@ outside_number Nodes l e = rw e
 outside_number Buckets l e = rw e
 outside_number Version l e = rw e
 outside_number Blank l e = rw e
-
-pub outside_step : (due : HeaderLine) (h : Header) (l : InputLine) → admissible l ≡ false → header_step due h l ≡ (if optional due then Absent h else Missing)
-outside_step due h l e = no_header_line due h l (λ d. outside_number d l e)
 
 pub outside_event : (l : InputLine) → admissible l ≡ false → parse_event_line l ≡ Outside
 unfolding parse_event_line

@@ -1,6 +1,6 @@
 -- The greatest lengths of the lines that a session prints, for an event and for the final listing of at most 64 tags. They tell a
 -- caller how much room to lend. Assumes nothing.
-use Rattle.std.specs.Prelude.{List, [], ◌∷◌, ◌++◌, Bool, true, false, ℕ, zero, suc, ◌+◌, ◌*◌, ◌/◌, ◌%◌, ◌≤◌, ltb, length}
+use Rattle.std.specs.Prelude.{List, [], ◌∷◌, ◌++◌, Bool, true, false, ℕ, zero, suc, ◌+◌, ◌*◌, ◌/◌, ◌%◌, ◌≤◌, ltb, length, if◌then◌else◌}
 use Rattle.std.proofs.Common.{arith, length-append}
 use Rattle.spec.specs.declared.Answer.{Answer}
 use Rattle.spec.specs.declared.Answer.TheVariants.{Yes, No, Full, Done, Lost, Limit}
@@ -8,7 +8,6 @@ use Rattle.spec.specs.declared.Occupancy.{Occupancy}
 use Rattle.spec.specs.declared.Occupancy.TheVariants.{NotGiven, Tags}
 use Rattle.spec.specs.declared.Output.{Output}
 use Rattle.spec.specs.declared.Output.TheVariants.{At, End, Refuse}
-use Rattle.spec.specs.Lists.{if◌then◌else◌}
 use Rattle.session.specs.Keys.{tag_key, size_key, tags_key}
 use Rattle.session.specs.Print.{decimal_digits, decimal, key_line, answer_word, occupancy_field, refusal_line, output_line, tag_lines, listing_lines}
 

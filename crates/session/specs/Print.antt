@@ -1,14 +1,13 @@
 -- The lines that a session prints, as bytes: "`at=task,next line`, or `end=task,answer,own steps`, or `refuse=number`; at the end
 -- of input `size=` the head's size, `tags=` their count, and a `tag=` each"; how full an ended insert's or remove's bucket is, "as a
 -- fourth field on those end lines only". Assumes nothing.
-use Rattle.std.specs.Prelude.{ℕ, zero, suc, ◌+◌, ◌/◌, ◌%◌, List, [], ◌∷◌, ◌++◌, ltb, length}
+use Rattle.std.specs.Prelude.{ℕ, zero, suc, ◌+◌, ◌/◌, ◌%◌, List, [], ◌∷◌, ◌++◌, ltb, length, if◌then◌else◌}
 use Rattle.spec.specs.declared.Answer.{Answer}
 use Rattle.spec.specs.declared.Answer.TheVariants.{Yes, No, Full, Done, Lost, Limit}
 use Rattle.spec.specs.declared.Occupancy.{Occupancy}
 use Rattle.spec.specs.declared.Occupancy.TheVariants.{NotGiven, Tags}
 use Rattle.spec.specs.declared.Output.{Output}
 use Rattle.spec.specs.declared.Output.TheVariants.{At, End, Refuse}
-use Rattle.spec.specs.Lists.{if◌then◌else◌}
 use Rattle.session.specs.Keys.{newline, comma, at_key, end_key, refuse_key, size_key, tags_key, tag_key, yes_word, no_word, full_word, done_word}
 use Rattle.session.specs.Keys.{lost_word, limit_word}
 

@@ -1,10 +1,9 @@
 -- What a session prints for an input, whole: `transcript`. The header is read, its numbers open the machine, the lines after it
 -- are a schedule, and the outputs of its run are printed, then the final listing. Assumes nothing.
-use Rattle.std.specs.Prelude.{ℕ, ◌*◌, List, [], ◌∷◌, ◌++◌, Bool, true, false, ◌&&◌, eqb, replicate}
+use Rattle.std.specs.Prelude.{ℕ, ◌*◌, List, [], ◌∷◌, ◌++◌, Bool, true, false, ◌&&◌, eqb, replicate, if◌then◌else◌}
 use Rattle.spec.specs.declared.Listing.{Listing}
 use Rattle.spec.specs.declared.Listing.TheVariants.{Count, Refused}
 use Rattle.spec.specs.declared.Output.{Output}
-use Rattle.spec.specs.Lists.{if◌then◌else◌}
 use Rattle.spec.specs.Machine.{Machine}
 use Rattle.spec.specs.Sound.{within}
 use Rattle.spec.specs.Listed.{listed, head_of, size_of}

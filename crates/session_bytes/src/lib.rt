@@ -1,5 +1,7 @@
 // Bytes, numbers and lines of a key and a number printed into a lent buffer: each function appends what its definition gives (Print
 // of session) from a place of the buffer on and gives the next place; bytes that find no room are left out (Buffer of session).
+#![tactic(auto)]
+
 ghost use Rattle.std.specs.Prelude.{◌≡◌, [], ◌∷◌, ◌++◌};
 ghost use Rattle.session.specs.Print.{decimal_digits, decimal, key_line, refusal_line};
 ghost use Rattle.session.specs.Buffer.{buffer, append_byte, append};

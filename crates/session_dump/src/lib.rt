@@ -1,5 +1,7 @@
 // A session over standard input; over standard output the memory that it leaves, for a fitter (docs/FITTERS.md), or the refusal with which it stopped.
 // `yarddump` is the whole program as a function that gives the exit status.
+#![tactic(auto)]
+
 ghost use Rattle.std.specs.Prelude.{◌≡◌, ◌+◌, ◌*◌, ◌≤◌, length};
 ghost use Rattle.session.specs.OutputLengths.{longest_line, longest_end};
 ghost use Rattle.stdio.specs.Outcomes.{IsStatus};
@@ -8,6 +10,7 @@ use session_run::Progress;
 use session_state::{Handled, Session};
 use stdio::input::Input;
 use stdio::output::Outcome;
+use stdio::source::Source;
 
 // What is printed between two reads, and then the dump. The `ensures` gives the length, which lending the array needs.
 fn dump_room() -> [u8; 524288]
@@ -83,22 +86,28 @@ fn finish(k: Progress, ns: &mut [u32], bs: &mut [u32], out: &mut [u8]) -> Outcom
     stdio::output::answer(b"dump", p, &out[..n])
 }
 
-fn run(room: &mut [u8], ns: &mut [u32], bs: &mut [u32], out: &mut [u8]) -> i32
+fn run<S: Source>(
+    from: &mut S,
+    room: &mut [u8],
+    ns: &mut [u32],
+    bs: &mut [u32],
+    out: &mut [u8],
+) -> i32
     requires { longest_line * length room.old + longest_end ≤ length out.old }
     ensures { IsStatus result }
 {
-    let k = session_run::read(true, false, room, ns, bs, out);
+    let k = session_run::read(from, true, false, room, ns, bs, out);
     let o = finish(k, ns, bs, out);
     stdio::output::status(o)
 }
 
 // The dump program.
-pub fn yarddump() -> i32
+pub fn yarddump<S: Source>(from: &mut S) -> i32
     ensures { IsStatus result }
 {
     let mut room = stdio::input::room();
     let mut ns = session_pools::node_words();
     let mut bs = session_pools::bucket_words();
     let mut out = dump_room();
-    run(&mut room, &mut ns, &mut bs, &mut out)
+    run(from, &mut room, &mut ns, &mut bs, &mut out)
 }

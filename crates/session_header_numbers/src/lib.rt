@@ -1,5 +1,7 @@
 // The number of a header line, read by the line's key: each function gives what the definition of that part of the grammar gives
 // (session/specs/Grammar, Header).
+#![tactic(auto)]
+
 ghost use Rattle.std.specs.Prelude.{◌≡◌};
 ghost use Rattle.session.specs.Grammar.{parse_keyed_number, closed_line, parse_header_line, parse_fixed_line};
 ghost use Rattle.session.specs.Header.{line_number};

@@ -1,5 +1,7 @@
 // Keys and words compared with fixed byte strings, and the call that stands after `start=task,`: each function gives what the
 // definition of that part of the grammar gives (session/specs/Grammar).
+#![tactic(auto)]
+
 ghost use Rattle.std.specs.Prelude.{◌≡◌};
 ghost use Rattle.session.specs.Grammar.{starts_with, equals, tagged_start, parse_call};
 

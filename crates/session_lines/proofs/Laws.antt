@@ -1,5 +1,6 @@
 -- Laws that the proofs of the functions cite, over plain lists and numbers: a start or a step over the session's part of the pools,
 -- the final listing over it, and what is done after an opening. Assumes nothing.
+use Rattle.std.specs.Prelude.{if◌then◌else◌}
 use mathlib.Core.Path.{◌≡◌, refl, sym, ap, subst, ◌∙◌}
 use mathlib.Core.List.{List, [], ◌++◌}
 use mathlib.Core.Bool.{Bool, true, false, not, ◌||◌}
@@ -12,7 +13,6 @@ use lib.Seq.{take_at}
 use Rattle.spec.specs.declared.Output.{Output}
 use Rattle.spec.specs.declared.Listing.{Listing}
 use Rattle.spec.specs.declared.Listing.TheVariants.{Count, Refused}
-use Rattle.spec.specs.Lists.{if◌then◌else◌}
 use Rattle.spec.specs.Machine.{Machine, machine_of}
 use Rattle.spec.specs.Words.{size}
 use Rattle.spec.specs.Listed.{listed, head_of, size_of}

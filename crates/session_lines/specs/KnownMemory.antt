@@ -1,12 +1,11 @@
 -- What is known of memory between two lines, so that no event scans it: where events are read `ok` says whether it is sound, and before the opening
 -- it is true, since an accepted opening leaves sound memory. No line changes it: `line_known`. Assumes nothing.
-use Rattle.std.specs.Prelude.{ℕ, ◌≡◌, Bool, false, eqb}
+use Rattle.std.specs.Prelude.{ℕ, ◌≡◌, Bool, false, eqb, if◌then◌else◌}
 use Rattle.std.proofs.Math.Path.{refl, sym, ap, subst}
 use Rattle.std.proofs.Common.{◌∙◌, eqb-true}
 use mathlib.Core.List.{List, []}
 use Rattle.std.proofs.Math.Bool.{true}
 use Rattle.spec.specs.declared.State.{State}
-use Rattle.spec.specs.Lists.{if◌then◌else◌}
 use Rattle.spec.specs.Machine.{Machine}
 use Rattle.spec.specs.Sound.{sound}
 use Rattle.spec.specs.Entries.{Opened, opening}

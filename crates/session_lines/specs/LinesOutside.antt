@@ -1,15 +1,15 @@
 -- A line that is too long or not closed is outside the grammar, whatever its bytes are (`outside_same`): the session stops (`outside_stops`). A session
 -- that has stopped prints nothing more, whatever follows (`stopped_prints_nothing`). Assumes nothing.
-use Rattle.std.specs.Prelude.{◌≡◌, refl, List, [], ◌∷◌, ◌++◌, Bool, true, false, ℕ, eqb}
+use Rattle.std.specs.Prelude.{◌≡◌, refl, List, [], ◌∷◌, ◌++◌, Bool, true, false, ℕ, eqb, if◌then◌else◌}
 use Rattle.std.proofs.Common.{sym, ap, ◌∙◌, append-nil}
-use Rattle.spec.specs.Lists.{if◌then◌else◌}
 use Rattle.spec.specs.Entries.{Opened}
 use Rattle.session.specs.declared.EventLine.TheVariants.{Outside}
 use Rattle.session.specs.declared.Header.{Header}
 use Rattle.session.specs.declared.HeaderStep.TheVariants.{Absent, Missing}
 use Rattle.session.specs.Grammar.{InputLine, admissible}
 use Rattle.session.specs.Header.{optional}
-use Rattle.session.specs.LineLaws.{outside_step, outside_event}
+use Rattle.session.specs.LineLaws.{outside_event}
+use Rattle.session.proofs.LineLaws.{outside_step}
 use Rattle.session.specs.Print.{refusal_line}
 use Rattle.session_state.specs.declared.Phase.{Phase}
 use Rattle.session_state.specs.declared.Phase.TheVariants.{Due, Events, Stopped}

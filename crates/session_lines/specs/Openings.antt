@@ -1,13 +1,12 @@
 -- The opening of a session over its part of lent pools is the opening of the definition: `opening_same`; and what an opening
 -- leaves is as long as what it was lent: `opening_lengths`. Assumes nothing.
-use Rattle.std.specs.Prelude.{◌≡◌, refl, Bool, true, false, not, ◌&&◌, ℕ, ◌-◌, ◌*◌, ◌/◌, ◌≤◌, leb, take, replicate}
+use Rattle.std.specs.Prelude.{◌≡◌, refl, Bool, true, false, not, ◌&&◌, ℕ, ◌-◌, ◌*◌, ◌/◌, ◌≤◌, leb, take, replicate, if◌then◌else◌}
 use Rattle.std.proofs.Common.{sym, ◌∙◌, arith, le-leb, leb-true, length-append, length-drop, length-take-le, take_at}
 use Rattle.std.proofs.Math.Path.{ap}
 use mathlib.Core.List.{List, [], ◌++◌}
 use Rattle.std.proofs.Math.ListN.{length, drop}
 use Rattle.std.proofs.lemmas.List.{length-replicate}
 use Rattle.spec.specs.declared.Config.{Config}
-use Rattle.spec.specs.Lists.{if◌then◌else◌}
 use Rattle.spec.specs.Machine.{Machine, machine_of}
 use Rattle.spec.specs.Sound.{within, version_known}
 use Rattle.spec.specs.Entries.{Opened, opening, pool_fits, not_opened, fresh_machine}

@@ -1,9 +1,8 @@
 -- How many bytes a session can print: at most `longest_line` for each line of its input (`line_bound`) and `longest_end` at its end (`end_bound`), so a
 -- caller can lend room for all of it. Assumes nothing.
-use Rattle.std.specs.Prelude.{◌≡◌, refl, List, [], ◌++◌, Bool, true, false, not, ◌||◌, ℕ, ◌≤◌, ltb, leb, length, drop, replicate}
+use Rattle.std.specs.Prelude.{◌≡◌, refl, List, [], ◌++◌, Bool, true, false, not, ◌||◌, ℕ, ◌≤◌, ltb, leb, length, drop, replicate, if◌then◌else◌}
 use Rattle.std.proofs.Common.{arith, ltb-false}
 use Rattle.spec.specs.declared.Listing.TheVariants.{Count, Refused}
-use Rattle.spec.specs.Lists.{if◌then◌else◌}
 use Rattle.spec.specs.Machine.{Machine}
 use Rattle.spec.specs.Sound.{sound}
 use Rattle.spec.specs.Listed.{listed, size_of, head_of}

@@ -15,7 +15,7 @@ use Rattle.laws.specs.Soundness.{sound_facts, run_of}
 use Rattle.laws.specs.AfterWrites.{after_task}
 use Rattle.laws.specs.StepRefusals.{step_sound_facts}
 use Rattle.laws.specs.WritesKeep.{write_keeps}
-use Rattle.laws.specs.LinesKeep.{effect_sound}
+use Rattle.laws.proofs.LinesKeep.{effect_sound}
 use Rattle.laws.specs.EntriesKeep.{StepOutcome, step_no_task, step_idle, step_unsound, step_all_held, step_accepted, step_outcome, StartOutcome}
 use Rattle.laws.specs.EntriesKeep.{start_no_task, start_running, start_withdrawn, start_accepted, start_outcome}
 

@@ -1,6 +1,6 @@
 -- Handled one after the other over lent pools of at least 64 nodes and 200 buckets, whatever they hold, an input's lines print
 -- its transcript: `lines_print_transcript`. Assumes nothing.
-use Rattle.std.specs.Prelude.{◌≡◌, ℕ, ◌≤◌, length}
+use Rattle.std.specs.Prelude.{◌≡◌, ℕ, ◌≤◌, length, if◌then◌else◌}
 use Rattle.std.proofs.Math.Path.{refl, ap}
 use Rattle.std.proofs.Common.{sym, ◌∙◌, arith}
 use mathlib.Core.List.{List, [], ◌∷◌, ◌++◌, append_assoc, append-nil}
@@ -8,7 +8,6 @@ use Rattle.std.proofs.Math.Bool.{Bool, true, false}
 use borrow.Author.Tests.{eq-eqb, ne_eqb, eqb-true, eqb-false}
 use Rattle.std.proofs.Math.Dec.{eqb}
 use Rattle.spec.specs.declared.State.{State}
-use Rattle.spec.specs.Lists.{if◌then◌else◌}
 use Rattle.spec.specs.Machine.{Machine, zero_config, state_of}
 use Rattle.spec.specs.Entries.{Opened, opening}
 use Rattle.spec.specs.Schedule.{Event, starts, steps, event, run}

@@ -3,7 +3,7 @@ ghost use Rattle.std.specs.Prelude.{◌≡◌, List, ℕ};
 ghost use Rattle.spec.specs.Sound.{sound};
 ghost use Rattle.session.specs.Grammar.{closed_line, parse_event_line};
 ghost use Rattle.session.specs.Buffer.{buffer, append};
-ghost use Rattle.spec.specs.Entries.{start as start_of, step as step_of_lem};
+ghost use Rattle.spec.specs.Entries.{start as start_of, step as step_of};
 ghost use Rattle.session_state.specs.Handling.{prints_last, session_machine, reply_effect, event_effect, final_output, SessionHandled, LineHandled};
 
 use session::EventLine;
@@ -34,7 +34,7 @@ fn step_task(
     out: &mut [u8],
 ) -> Handled
     requires { ok ≡ sound (session_machine s ns.old bs.old) }
-    ensures { LineHandled (reply_effect k (step_of_lem (session_machine s ns.old bs.old) k) s ns.old bs.old)
+    ensures { LineHandled (reply_effect k (step_of (session_machine s ns.old bs.old) k) s ns.old bs.old)
         result ns.new bs.new out.old out.new }
 {
     let header = s.header;

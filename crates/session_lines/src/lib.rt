@@ -1,5 +1,7 @@
 // A session, one line at a time: the session's state goes in by value and comes back, the pools and the buffer for what is
 // printed are lent. `handle_line` takes a line, `known_line` one where it is known whether memory is sound, `end_input` the end of the input.
+#![tactic(auto)]
+
 mod events;
 
 ghost use Rattle.session.specs.Grammar.{closed_line, parse_event_line};

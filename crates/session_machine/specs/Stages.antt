@@ -1,9 +1,8 @@
 -- What a line does where a header line is due, with the opening that it brings about: where the session stands then, and what the lent pools hold.
 -- Assumes nothing.
-use Rattle.std.specs.Prelude.{ℕ, ◌≡◌, refl, List, ◌++◌, Bool, true, false, eqb, drop}
+use Rattle.std.specs.Prelude.{ℕ, ◌≡◌, refl, List, ◌++◌, Bool, true, false, eqb, drop, if◌then◌else◌}
 use Rattle.std.proofs.Common.{sym, subst}
 use Rattle.spec.specs.declared.State.{State}
-use Rattle.spec.specs.Lists.{if◌then◌else◌}
 use Rattle.spec.specs.Machine.{machine_of}
 use Rattle.spec.specs.Entries.{Opened, opening}
 use Rattle.opening.specs.declared.Opened.{Opened as OpenedState}

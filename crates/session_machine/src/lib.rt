@@ -1,5 +1,7 @@
 // The machine of a session between two lines, in the part of the lent pools that the header's numbers name: the opening, which ends the header; a start
 // and a step where it is known whether memory is sound (known_memory), and the scan that says so.
+#![tactic(auto)]
+
 ghost use Rattle.std.specs.Prelude.{◌≡◌, List, ℕ};
 ghost use Rattle.spec.specs.Sound.{sound};
 ghost use Rattle.spec.specs.Entries.{opening, start, step};
@@ -18,7 +20,7 @@ use spec::{Call, State};
 // Where a session stands after a line where a header line was due: another one is due; the line completed the header, and the machine is open; the
 // machine is open without the line, which stands in the place of a header line that may be left out and is to be read as an event's; the opening was
 // refused with this number; or the header line is missing.
-#[derive(Drop)]
+#[derive(Clone, Copy)]
 pub enum Stage {
     NextDue(HeaderLine),
     OpenedBy,
@@ -28,7 +30,7 @@ pub enum Stage {
 }
 
 // That, with the header as far as it is read and the machine's state.
-#[derive(Drop)]
+#[derive(Clone, Copy)]
 pub struct Staged {
     pub stage: Stage,
     pub header: Header,

@@ -1,4 +1,6 @@
 // Reading the decimal numbers of a session: up to 4,294,967,295, without leading zeros (Grammar of session).
+#![tactic(auto)]
+
 ghost use Rattle.std.specs.Prelude.{◌≡◌, ◌<◌};
 ghost use Rattle.session.specs.Grammar.{parse_digits, parse_number};
 

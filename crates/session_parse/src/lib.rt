@@ -1,5 +1,7 @@
 // Reading the lines of a session, an event's and a header's: each function gives what the definition of that part of the grammar
 // gives (session/specs/Grammar, Header). `session_keys` has the keys and the calls, `session_header_numbers` a header line's number.
+#![tactic(auto)]
+
 ghost use Rattle.std.specs.Prelude.{◌≡◌, ◌≤◌, length};
 ghost use Rattle.session.specs.Grammar.{comma_position, parse_start, step_event, parse_event, closed_line, parse_event_line};
 ghost use Rattle.session.specs.Header.{line_number, with_number, optional, number_step, other_step, header_step};

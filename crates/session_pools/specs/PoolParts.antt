@@ -1,6 +1,5 @@
 -- The part of the lent pools that a session uses. Assumes nothing.
-use Rattle.std.specs.Prelude.{ℕ, ◌*◌, List, ◌&&◌, leb, length, take}
-use Rattle.spec.specs.Lists.{if◌then◌else◌}
+use Rattle.std.specs.Prelude.{ℕ, ◌*◌, List, ◌&&◌, leb, length, take, if◌then◌else◌}
 use Rattle.spec.specs.Sound.{within}
 use Rattle.session.specs.declared.Header.{Header}
 

@@ -1,4 +1,6 @@
 // The pools that a session uses: words for them, the parts of lent ones, and a node's size.
+#![tactic(auto)]
+
 ghost use Rattle.std.specs.Prelude.{◌≡◌, ◌≤◌, length, replicate};
 ghost use Rattle.spec.specs.Words.{size};
 ghost use Rattle.session_pools.specs.PoolParts.{extent};

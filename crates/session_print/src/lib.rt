@@ -1,5 +1,7 @@
 // Printing the lines of a session into a lent buffer: each function appends what the definition of that line gives
 // (specs/Print) from a place of the buffer on and gives the next place; bytes that find no room are left out (specs/Buffer).
+#![tactic(auto)]
+
 ghost use Rattle.std.specs.Prelude.{◌≡◌};
 ghost use Rattle.session.specs.Print.{answer_word, occupancy_field, output_line, tag_lines, listing_lines};
 ghost use Rattle.session.specs.Buffer.{buffer, append};

@@ -1,5 +1,6 @@
 -- What a reader prints in the part of the buffer that is lent to it stands behind what was there: for a line that a call gave (`took_line`, `took_none`),
 -- and at the end (`ended`). A session's lines and its end are such. Assumes nothing.
+use Rattle.std.specs.Prelude.{if◌then◌else◌}
 use Prim.Native.Nat.{ℕ, ◌+◌, ◌-◌, ◌<◌, ◌≤◌}
 use mathlib.Core.Path.{◌≡◌, refl, sym, ap, subst, ◌∙◌}
 use mathlib.Core.List.{List, [], ◌++◌, append-nil}
@@ -7,7 +8,6 @@ use mathlib.Core.Bool.{Bool, true, false}
 use native.Mathlib.Omega.{arith}
 use borrow.Author.Tests.{lt-leb}
 use lib.ListN.{length, take, drop}
-use Rattle.spec.specs.Lists.{if◌then◌else◌}
 use Rattle.session.specs.Buffer.{buffer, append}
 use Rattle.session.specs.Grammar.{InputLine, closed_line, open_line, admissible}
 use Rattle.session.specs.OutputLengths.{longest_line, longest_end}

@@ -1,5 +1,7 @@
 // A session over an input, standard input or bytes in memory: `text` gives what is printed, `yardrun` is the whole program as a function that gives the exit
 // status, and `read` serves any program that reads a session. In memory: one read of the input, one line, what that read prints, and the two pools.
+#![tactic(auto)]
+
 ghost use Rattle.std.specs.Prelude.{◌≡◌, true, ◌++◌, ◌+◌, ◌*◌, ◌≤◌, length, take};
 ghost use Rattle.session.specs.OutputLengths.{longest_line, longest_end};
 ghost use Rattle.session.specs.Transcript.{transcript};
@@ -11,9 +13,10 @@ ghost use Rattle.session_run.specs.Running.{running, begin, prints_on, Takes, Re
 use session_state::{Handled, Session};
 use stdio::input::Input;
 use stdio::output::Text;
+use stdio::source::Source;
 
 // A session and its input, of which no more is to be asked for, and how many bytes of what was printed are not written yet.
-#[derive(Drop)]
+#[derive(Clone, Copy)]
 pub struct Progress {
     pub session: Session,
     pub input: Input,
@@ -62,7 +65,8 @@ fn take_given(
 
 // Reads until the input ends, the session has stopped, or a read or a write fails. What is printed before a read is written before it, or where it is
 // not to be shown dropped; the rest is in the buffer.
-pub fn read(
+pub fn read<S: Source>(
+    from: &mut S,
     reads: bool,
     shown: bool,
     room: &mut [u8],
@@ -79,7 +83,7 @@ pub fn read(
     let mut s = session_state::new_session();
     let mut due = 0;
     while 0 < p.left {
-        let q = stdio::input::next_line(p, room);
+        let q = stdio::input::next_line(from, p, room);
         let t = take_given(s, due, q, ns, bs, out);
         s = t.session;
         let phase = s.phase;
@@ -113,12 +117,19 @@ fn finish(s: Session, p: Input, due: usize, ns: &mut [u32], bs: &mut [u32], out:
 
 // What is printed for an input: standard input if `reads`, else the bytes of the room. The pools hold at least 64 nodes and 200 buckets, whatever their words
 // are.
-fn text(reads: bool, room: &mut [u8], ns: &mut [u32], bs: &mut [u32], out: &mut [u8]) -> Text
+fn text<S: Source>(
+    from: &mut S,
+    reads: bool,
+    room: &mut [u8],
+    ns: &mut [u32],
+    bs: &mut [u32],
+    out: &mut [u8],
+) -> Text
     requires { (longest_line * length room.old + longest_end ≤ length out.old) × (2176 ≤ length ns.old) × (13200 ≤ length bs.old) }
     ensures prints { Prints transcript reads room.old result.input (take result.len out.new) }
     ensures len_in_bounds { result.len ≤ length out.new }
 {
-    let k = read(reads, true, room, ns, bs, out);
+    let k = read(from, reads, true, room, ns, bs, out);
     let s = k.session;
     let input = k.input;
     let len = finish(s, input, k.due, ns, bs, out);
@@ -126,13 +137,13 @@ fn text(reads: bool, room: &mut [u8], ns: &mut [u32], bs: &mut [u32], out: &mut 
 }
 
 // The session program: standard input to its end, or as far as the session goes.
-pub fn yardrun() -> i32
+pub fn yardrun<S: Source>(from: &mut S) -> i32
     ensures { Ran transcript result }
 {
     let mut room = stdio::input::room();
     let mut ns = session_pools::node_words();
     let mut bs = session_pools::bucket_words();
     let mut out = output_room();
-    let t = text(true, &mut room, &mut ns, &mut bs, &mut out);
+    let t = text(from, true, &mut room, &mut ns, &mut bs, &mut out);
     stdio::output::exit(b"run", t, &out)
 }

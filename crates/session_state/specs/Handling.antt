@@ -1,9 +1,8 @@
 -- What one line does to a session whose pools are lent whole, and what the end of the input prints: the definitions that the
 -- code is held to. That they print the paper's transcript is shown in session_lines, PrintsTranscript. Assumes nothing.
-use Rattle.std.specs.Prelude.{ℕ, ◌≡◌, refl, List, [], ◌∷◌, ◌++◌, Bool, true, false, eqb, drop, replicate}
+use Rattle.std.specs.Prelude.{ℕ, ◌≡◌, refl, List, [], ◌∷◌, ◌++◌, Bool, true, false, eqb, drop, replicate, if◌then◌else◌}
 use Rattle.std.proofs.Common.{arith}
 use Rattle.spec.specs.declared.State.{State}
-use Rattle.spec.specs.Lists.{if◌then◌else◌}
 use Rattle.spec.specs.Machine.{Machine, machine_of, zero_config, state_of}
 use Rattle.spec.specs.Entries.{Opened, opening, Reply, start, step, list}
 use Rattle.session.specs.declared.EventLine.{EventLine}

@@ -1,4 +1,6 @@
 // A session between two lines, and the refusal that stops it.
+#![tactic(auto)]
+
 ghost use Rattle.std.specs.Prelude.{◌≡◌};
 ghost use Rattle.session_state.specs.Handling.{session, new_session, handled, stopped, reads_events, has_stopped, SessionHandled};
 
@@ -6,7 +8,7 @@ use session::{Header, HeaderLine};
 use spec::State;
 
 // Where a session stands between two lines: a header line is due, events are read, or nothing more is printed.
-#[derive(Drop)]
+#[derive(Clone, Copy)]
 pub enum Phase {
     Due(HeaderLine),
     Events,
@@ -14,7 +16,7 @@ pub enum Phase {
 }
 
 // A session between two lines: the header as far as it is read, and the machine's state, all zeros before the opening.
-#[derive(Drop)]
+#[derive(Clone, Copy)]
 pub struct Session {
     pub phase: Phase,
     pub header: Header,
@@ -22,7 +24,7 @@ pub struct Session {
 }
 
 // The session after a line, and how many bytes the line printed.
-#[derive(Drop)]
+#[derive(Clone, Copy)]
 pub struct Handled {
     pub session: Session,
     pub printed: usize,

@@ -1,4 +1,6 @@
 // The number of a tag's place in a node, by what the set was opened with and the node's size.
+#![tactic(auto)]
+
 ghost use Rattle.std.specs.Prelude.{◌≡◌, ◌%◌};
 ghost use Rattle.spec.specs.Listed.{key, slot};
 

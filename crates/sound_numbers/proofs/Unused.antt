@@ -1,9 +1,9 @@
 -- A task from T on. Assumes nothing.
+use Rattle.std.specs.Prelude.{if◌then◌else◌}
 use mathlib.Core.Path.{◌≡◌, sym}
 use mathlib.Core.Bool.{Bool, true, false, not, ◌&&◌}
 use Prim.Native.Nat.{ℕ, ◌≤◌}
 use borrow.Author.Tests.{le-ltb}
-use Rattle.spec.specs.Lists.{if◌then◌else◌}
 use Rattle.spec.specs.Machine.{Machine}
 use Rattle.spec.specs.Sound.{zero_task, sound_running, sound_task}
 use Rattle.sound_records.proofs.Joined.{and_true, and-false}

@@ -1,5 +1,7 @@
 // Refusal 8 of the state's own numbers (what it keeps of its opening, its counts and what stands below them), and of a task that does
 // not run.
+#![tactic(auto)]
+
 ghost use Rattle.std.specs.Prelude.{◌≡◌, ℕ, ◌≤◌};
 ghost use Rattle.spec.specs.Machine.{Machine, machine_of};
 ghost use Rattle.spec.specs.Sound.{config_sound, sound_numbers, zero_task, sound_task};

@@ -1,5 +1,6 @@
 -- Counting neighbours that do not ascend, with no exit on the way: there is none exactly where all ascend. One law for a turn of the
 -- loop that counts, whichever way the test goes. Assumes nothing.
+use Rattle.std.specs.Prelude.{if◌then◌else◌}
 use mathlib.Core.Path.{◌≡◌, refl, sym, ap, ◌∙◌}
 use mathlib.Core.List.{List, [], ◌∷◌}
 use mathlib.Core.Bool.{Bool, true, false, ◌&&◌}
@@ -10,7 +11,7 @@ use borrow.Author.Tests.{le-ltb, lt-ltb, ne_eqb}
 use lib.Dec.{ltb, eqb}
 use lib.ListN.{length, get_or, drop, length-drop}
 use lib.Seq.{drop-cons}
-use Rattle.spec.specs.Lists.{if◌then◌else◌, ascending}
+use Rattle.spec.specs.Lists.{ascending}
 
 unfoldable pub falls : List ℕ → ℕ
 falls [] = 0

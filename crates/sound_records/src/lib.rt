@@ -1,5 +1,7 @@
 // The records of both pools, tested for soundness: a node, a bucket, and a scan of each pool, which ends with the first record that
 // is not sound.
+#![tactic(auto)]
+
 ghost use Rattle.std.specs.Prelude.{◌≡◌, ◌&&◌, ◌+◌, ◌-◌, ◌*◌, ◌≤◌, length, take, drop, leb};
 ghost use Rattle.spec.specs.Lists.{member, all_true, every, ascending};
 ghost use Rattle.spec.specs.Machine.{Machine};

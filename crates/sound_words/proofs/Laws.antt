@@ -1,4 +1,5 @@
 -- The words of a task and its record: in which words which task stands, and that words are zeros exactly if the task is idle. Assumes nothing.
+use Rattle.std.specs.Prelude.{if◌then◌else◌}
 use Prim.Native.Nat.{ℕ, zero, suc, ◌+◌, ◌*◌, ◌≤◌, ◌<◌}
 use mathlib.Core.Path.{◌≡◌, refl, sym, ap, ◌∙◌}
 use mathlib.Core.Logic.{◌⊎◌, inl, inr}
@@ -10,7 +11,7 @@ use lib.Dec.{eqb, ltb}
 use lib.ListN.{length, get_or, drop}
 use lib.Seq.{get_or-drop}
 use Rattle.spec.specs.declared.Task.{Task}
-use Rattle.spec.specs.Lists.{if◌then◌else◌, every, range}
+use Rattle.spec.specs.Lists.{every, range}
 use Rattle.spec.specs.Machine.{Machine, machine_of, idle, task_of}
 use Rattle.spec.specs.Sound.{task_count, zeros, sound_task, sound}
 use Rattle.laws.specs.Tests.{bool?, same_test, and_left, and_right, and3, if_true, if_false}

@@ -1,7 +1,8 @@
 // Refusal 8, as far as it does not depend on the entry called, of a state that a caller outside Rattle lends as words: tested on the words, with no
 // state made. And the state of such words once they are known to be sound.
-ghost use Rattle.std.specs.Prelude.{◌≡◌, List, true, ℕ, ◌+◌, ◌*◌, ◌≤◌, ◌<◌, eqb, length};
-ghost use Rattle.spec.specs.Lists.{if◌then◌else◌};
+#![tactic(auto)]
+
+ghost use Rattle.std.specs.Prelude.{◌≡◌, List, true, ℕ, ◌+◌, ◌*◌, ◌≤◌, ◌<◌, eqb, length, if◌then◌else◌};
 ghost use Rattle.spec.specs.Machine.{Machine, machine_of, idle};
 ghost use Rattle.spec.specs.Sound.{sound_numbers, sound_task, sound_tasks, sound};
 ghost use Rattle.soundness.specs.Told.{checked_of};

@@ -1,6 +1,5 @@
 -- What a check of all memory gives: whether it is sound, and a task's record where it is. Assumes nothing.
-use Rattle.std.specs.Prelude.{ℕ, Bool}
-use Rattle.spec.specs.Lists.{if◌then◌else◌}
+use Rattle.std.specs.Prelude.{ℕ, Bool, if◌then◌else◌}
 use Rattle.spec.specs.Machine.{Machine, idle, task_of}
 use Rattle.spec.specs.Sound.{sound}
 use Rattle.spec.specs.declared.Task.{Task}

@@ -1,5 +1,7 @@
 // Refusal 8, as far as it does not depend on the entry called: the state and both pools are sound. The state's numbers first, then
 // one pass over each pool, then the tasks.
+#![tactic(auto)]
+
 ghost use Rattle.std.specs.Prelude.{◌≡◌, false, not, ◌||◌, [], ◌∷◌, ◌≤◌, eqb};
 ghost use Rattle.spec.specs.Lists.{member, every};
 ghost use Rattle.spec.specs.Machine.{Machine, machine_of, task_of};
@@ -9,7 +11,7 @@ ghost use Rattle.soundness.specs.Told.{told, checked_of};
 use spec::{State, Task};
 
 // What a check of all memory gives: whether it is sound and, where it is, the record of one task; an idle record elsewhere.
-#[derive(Drop)]
+#[derive(Clone, Copy)]
 pub struct Checked {
     pub sound: bool,
     pub task: Task,

@@ -2,12 +2,11 @@
 -- empty, with no other count, in every schedule, whatever other tasks do between.": as a type, told from the events of a schedule and
 -- their outputs alone. It is more than paper 01's "A contains ends at the latest with its fifth own step.". Proved in the crate linear;
 -- what it allows and refuses is in ContainsExamples. Assumes nothing.
-use Rattle.std.specs.Prelude.{ℕ, suc, ◌≤◌, ◌≡◌, List, [], ◌∷◌, ◌⊎◌, eqb}
+use Rattle.std.specs.Prelude.{ℕ, suc, ◌≤◌, ◌≡◌, List, [], ◌∷◌, ◌⊎◌, eqb, if◌then◌else◌}
 use Rattle.spec.specs.declared.Call.{Call}
 use Rattle.spec.specs.declared.Call.TheVariants.{Contains, Grow}
 use Rattle.spec.specs.declared.Output.{Output}
 use Rattle.spec.specs.declared.Output.TheVariants.{At, End, Refuse}
-use Rattle.spec.specs.Lists.{if◌then◌else◌}
 use Rattle.spec.specs.Schedule.{Event, starts, steps}
 
 -- ---- a task's last started call, and how far it got

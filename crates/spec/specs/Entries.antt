@@ -1,6 +1,6 @@
 -- The entries: opening, start, step, list, show, each with its refusals in the order of "Who can cause a refusal", then the
 -- work. "A refusal gives only its number; state and slices keep every word." Assumes nothing.
-use Rattle.std.specs.Prelude.{ℕ, ◌+◌, ◌*◌, ◌-◌, ◌%◌, ◌/◌, min, List, [], ◌∷◌, ◌++◌, Bool, false, not, ◌&&◌, ◌||◌, ltb, leb, eqb, length, drop, replicate}
+use Rattle.std.specs.Prelude.{ℕ, ◌+◌, ◌*◌, ◌-◌, ◌%◌, ◌/◌, min, List, [], ◌∷◌, ◌++◌, Bool, false, not, ◌&&◌, ◌||◌, ltb, leb, eqb, length, drop, replicate, if◌then◌else◌}
 use Rattle.spec.specs.declared.Task.{Task}
 use Rattle.spec.specs.declared.Config.{Config}
 use Rattle.spec.specs.declared.Call.{Call}
@@ -11,7 +11,6 @@ use Rattle.spec.specs.declared.Output.{Output}
 use Rattle.spec.specs.declared.Output.TheVariants.{At, End, Refuse}
 use Rattle.spec.specs.declared.Listing.{Listing}
 use Rattle.spec.specs.declared.Listing.TheVariants.{Count, Refused}
-use Rattle.spec.specs.Lists.{if◌then◌else◌}
 use Rattle.spec.specs.Numbers.{call_number}
 use Rattle.spec.specs.Machine.{Machine, idle, fresh_task, with_own, zero_config, state_of, task_of, set_task}
 use Rattle.spec.specs.Words.{number, filled, count, tags, apply}

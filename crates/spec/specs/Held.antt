@@ -1,7 +1,7 @@
 -- "Held": which nodes and buckets are held, and which one is taken next. Assumes nothing.
-use Rattle.std.specs.Prelude.{ℕ, zero, suc, ◌+◌, ◌%◌, List, [], ◌∷◌, ◌++◌, map}
+use Rattle.std.specs.Prelude.{ℕ, zero, suc, ◌+◌, ◌%◌, List, [], ◌∷◌, ◌++◌, map, if◌then◌else◌}
 use Rattle.spec.specs.declared.Task.{Task}
-use Rattle.spec.specs.Lists.{if◌then◌else◌, member, range, concat_map}
+use Rattle.spec.specs.Lists.{member, range, concat_map}
 use Rattle.spec.specs.Machine.{Machine}
 use Rattle.spec.specs.Words.{link, number, filled, pred, places}
 use Rattle.spec.specs.Sound.{node_count, bucket_count}

@@ -1,10 +1,10 @@
 -- "One step, one line": what each line of Figure 2 does, a definition for each number in the figure's order; 52 is the second
 -- freeze of line 48. y is the machine, c the record of the task that steps. Assumes nothing.
-use Rattle.std.specs.Prelude.{ℕ, ◌+◌, ◌*◌, ◌%◌, ◌/◌, List, [], ◌∷◌, Bool, not, ◌||◌, ltb, eqb, length}
+use Rattle.std.specs.Prelude.{ℕ, ◌+◌, ◌*◌, ◌%◌, ◌/◌, List, [], ◌∷◌, Bool, not, ◌||◌, ltb, eqb, length, if◌then◌else◌}
 use Rattle.spec.specs.declared.Task.{Task}
 use Rattle.spec.specs.declared.Answer.{Answer}
 use Rattle.spec.specs.declared.Answer.TheVariants.{Yes, No, Full, Done, Lost, Limit}
-use Rattle.spec.specs.Lists.{if◌then◌else◌, member, filter, union, add_tag, remove_tag}
+use Rattle.spec.specs.Lists.{member, filter, union, add_tag, remove_tag}
 use Rattle.spec.specs.Machine.{Machine, with_line, with_i, with_t, with_s, with_b, with_m, with_n, with_new_node, with_new_bucket, without_places}
 use Rattle.spec.specs.Words.{number, filled, changeable, Write, nothing, set_head, set_place, clear_pred, freeze, put_tags, new_node, new_bucket}
 use Rattle.spec.specs.Sound.{resizes}

@@ -1,6 +1,6 @@
 -- "Listed tags": the tags in the set. Assumes nothing.
-use Rattle.std.specs.Prelude.{ℕ, ◌%◌, ◌/◌, List, [], Bool, ◌&&◌, eqb}
-use Rattle.spec.specs.Lists.{if◌then◌else◌, member, filter, concat_map, union}
+use Rattle.std.specs.Prelude.{ℕ, ◌%◌, ◌/◌, List, [], Bool, ◌&&◌, eqb, if◌then◌else◌}
+use Rattle.spec.specs.Lists.{member, filter, concat_map, union}
 use Rattle.spec.specs.declared.Config.{Config}
 use Rattle.spec.specs.Machine.{Machine}
 use Rattle.spec.specs.Words.{link, number, filled, size, pred, place, places, tags}

@@ -1,13 +1,8 @@
 -- A choice between two values, and lists of numbers: tests, and sets of tags as strictly ascending lists.
 -- Tests are joined by `if`, `&&` and `||`, which are calls, and not by `elim`: rewriting sees a call's arguments.
 -- Assumes nothing.
-use Rattle.std.specs.Prelude.{ℕ, zero, suc, Bool, true, false, ◌&&◌, ◌||◌, ltb, eqb}
+use Rattle.std.specs.Prelude.{ℕ, zero, suc, Bool, true, false, ◌&&◌, ◌||◌, ltb, eqb, if◌then◌else◌}
 use mathlib.Core.List.{List, [], ◌∷◌, ◌++◌, foldr}
-
-infixr 5 if◌then◌else◌
-abbrev pub if◌then◌else◌ : {A : Type 0} → Bool → A → A → A
-if◌then◌else◌ true a b = a
-if◌then◌else◌ false a b = b
 
 -- the number n stands in the list
 unfoldable pub member : ℕ → List ℕ → Bool

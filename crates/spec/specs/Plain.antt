@@ -1,10 +1,10 @@
 -- "The plain set that answers are held against": an ascending list of tags. Assumes nothing.
-use Rattle.std.specs.Prelude.{ℕ, List, Bool, leb, length}
+use Rattle.std.specs.Prelude.{ℕ, List, Bool, leb, length, if◌then◌else◌}
 use Rattle.spec.specs.declared.Answer.{Answer}
 use Rattle.spec.specs.declared.Answer.TheVariants.{Yes, No, Full, Done, Lost, Limit}
 use Rattle.spec.specs.declared.Call.{Call}
 use Rattle.spec.specs.declared.Call.TheVariants.{Insert, Remove, Contains, Grow, Shrink}
-use Rattle.spec.specs.Lists.{if◌then◌else◌, member, add_tag, remove_tag}
+use Rattle.spec.specs.Lists.{member, add_tag, remove_tag}
 
 -- paper 02, U1: an insert of a tag that is there "ends no, whatever the count; full is left for absent tags", and yes for those
 -- that find room: of the number of tags in the set and whether the tag is there. "The plain set .. changes likewise": line 36

@@ -1,9 +1,8 @@
 -- "Schedules": starts and steps, each given what the one before left, from what an accepted opening leaves. Assumes nothing.
-use Rattle.std.specs.Prelude.{ℕ, List, [], ◌∷◌, eqb}
+use Rattle.std.specs.Prelude.{ℕ, List, [], ◌∷◌, eqb, if◌then◌else◌}
 use Rattle.spec.specs.declared.Call.{Call}
 use Rattle.spec.specs.declared.Config.{Config}
 use Rattle.spec.specs.declared.Output.{Output}
-use Rattle.spec.specs.Lists.{if◌then◌else◌}
 use Rattle.spec.specs.Machine.{Machine}
 use Rattle.spec.specs.Entries.{Opened, opening, Reply, start, step}
 

@@ -1,9 +1,9 @@
 -- Refusal 8, as far as it does not depend on the entry called: the state and both pools are sound. Each condition of paper 01's
 -- sentence on spoilt memory has a name, in the sentence's order within each record. Assumes nothing.
-use Rattle.std.specs.Prelude.{ℕ, zero, suc, ◌+◌, ◌*◌, ◌-◌, List, [], ◌∷◌, Bool, true, not, ◌&&◌, ◌||◌, ltb, leb, eqb, length, get_or, take, drop}
+use Rattle.std.specs.Prelude.{ℕ, zero, suc, ◌+◌, ◌*◌, ◌-◌, List, [], ◌∷◌, Bool, true, not, ◌&&◌, ◌||◌, ltb, leb, eqb, length, get_or, take, drop, if◌then◌else◌}
 use Rattle.spec.specs.declared.Task.{Task}
 use Rattle.spec.specs.declared.Config.{Config}
-use Rattle.spec.specs.Lists.{if◌then◌else◌, member, all_true, every, ascending}
+use Rattle.spec.specs.Lists.{member, all_true, every, ascending}
 use Rattle.spec.specs.Machine.{Machine}
 use Rattle.spec.specs.Words.{number, filled, size}
 

@@ -1,4 +1,6 @@
 // A call that starts.
+#![tactic(auto)]
+
 ghost use Rattle.std.specs.Prelude.{◌≡◌};
 ghost use Rattle.spec.specs.Entries.{started};
 

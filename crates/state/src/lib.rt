@@ -1,5 +1,7 @@
 // A task's record and the state are built here and nowhere else in the code, as specs/Machine of the definitions does, so that a
 // later field is added in this file alone.
+#![tactic(auto)]
+
 ghost use Rattle.std.specs.Prelude.{◌≡◌, ◌-◌};
 ghost use Rattle.spec.specs.Machine.{config_of, with_version, with_zero_withdrawn, zero_config, idle, fresh_task, state_of};
 

@@ -1,11 +1,11 @@
 -- The state as 113 words, for callers outside Rattle, in the order of a dump (docs/FITTERS.md): T, the version, 1 if tag 0 is withdrawn, H, B, the head,
 -- the node and the bucket last taken, the task chosen last; then eight tasks of 13 words: 1 if it runs, call, tag, line, i, own steps, and its seven
 -- places. Assumes nothing.
-use Rattle.std.specs.Prelude.{ℕ, ◌+◌, ◌*◌, ◌%◌, Bool, not, ◌&&◌, List, [], ◌∷◌, ◌++◌, map, eqb, leb, length, get_or}
+use Rattle.std.specs.Prelude.{ℕ, ◌+◌, ◌*◌, ◌%◌, Bool, not, ◌&&◌, List, [], ◌∷◌, ◌++◌, map, eqb, leb, length, get_or, if◌then◌else◌}
 use Rattle.spec.specs.declared.Task.{Task}
 use Rattle.spec.specs.declared.State.{State}
 use Rattle.spec.specs.Machine.{idle}
-use Rattle.spec.specs.Lists.{if◌then◌else◌, concat_map, every, range}
+use Rattle.spec.specs.Lists.{concat_map, every, range}
 
 -- ---- a state's words
 

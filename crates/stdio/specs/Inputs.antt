@@ -1,7 +1,6 @@
 -- An input by lines: what is given of it call by call, against the paper's lines. What is read from standard input no contract can say: `read` stands for
 -- it, and the rest follows from it. An input in memory has all of its bytes at hand. Assumes nothing.
-use Rattle.std.specs.Prelude.{ℕ, ◌+◌, ◌-◌, ◌<◌, ◌≤◌, ◌≡◌, List, [], ◌∷◌, ◌++◌, Bool, true, false, not, ◌&&◌, ◌||◌, eqb, ltb, length, take, drop}
-use Rattle.spec.specs.Lists.{if◌then◌else◌}
+use Rattle.std.specs.Prelude.{ℕ, ◌+◌, ◌-◌, ◌<◌, ◌≤◌, ◌≡◌, List, [], ◌∷◌, ◌++◌, Bool, true, false, not, ◌&&◌, ◌||◌, eqb, ltb, length, take, drop, if◌then◌else◌}
 use Rattle.session.specs.Grammar.{InputLine, closed_line, split_lines}
 use Rattle.partial_line.specs.declared.PartialLine.{PartialLine}
 use Rattle.partial_line.specs.PartialLines.{partial, empty_line, line_bytes}

@@ -1,7 +1,6 @@
 -- What a program's run comes to, and its exit status. What is read and written no contract can say: `written` below stands for whether a write
 -- succeeded, and the rest follows from it. Assumes nothing.
-use Rattle.std.specs.Prelude.{ℕ, zero, suc, ◌+◌, ◌-◌, ◌*◌, ◌≡◌, refl, List, [], ◌∷◌, map, Bool, true, false, not, ◌&&◌, eqb, ltb, ℤ, pos, length, get_or, take, drop}
-use Rattle.spec.specs.Lists.{if◌then◌else◌}
+use Rattle.std.specs.Prelude.{ℕ, zero, suc, ◌+◌, ◌-◌, ◌*◌, ◌≡◌, refl, List, [], ◌∷◌, map, Bool, true, false, not, ◌&&◌, eqb, ltb, ℤ, pos, length, get_or, take, drop, if◌then◌else◌}
 use Rattle.session.specs.Ascii.{codes, ascii}
 use Rattle.session.specs.Keys.{newline}
 use Rattle.session.specs.Grammar.{starts_with}

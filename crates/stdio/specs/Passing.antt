@@ -1,8 +1,7 @@
 -- What is printed between two reads does not change what a reader comes to, whether it could be written or not. Assumes nothing.
-use Rattle.std.specs.Prelude.{ℕ, ◌≤◌, List, Bool, true, false, not, ◌&&◌, ltb}
+use Rattle.std.specs.Prelude.{ℕ, ◌≤◌, List, Bool, true, false, not, ◌&&◌, ltb, if◌then◌else◌}
 use Rattle.std.proofs.Math.Path.{◌≡◌, refl, sym, ap}
 use Rattle.std.proofs.Common.{subst, ◌∙◌, arith}
-use Rattle.spec.specs.Lists.{if◌then◌else◌}
 use Rattle.session.specs.Grammar.{InputLine}
 use Rattle.stdio.specs.declared.input.Given.{Given}
 use Rattle.stdio.specs.declared.input.Given.TheVariants.{Part, Line, TooLong, Settled, Ended, ReadFailed, WriteFailed}

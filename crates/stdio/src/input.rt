@@ -1,15 +1,15 @@
 // An input by lines, standard input or bytes in memory: `next_line` gives what is known of the next one after at most one read. No line is kept beyond its
 // 41st byte, and no byte is read after one that fixed the answer.
-ghost use Rattle.std.specs.Prelude.{◌≡◌, ◌≤◌, length};
-ghost use Rattle.spec.specs.Lists.{if◌then◌else◌};
+ghost use Rattle.std.specs.Prelude.{◌≡◌, ◌≤◌, length, if◌then◌else◌};
 ghost use Rattle.stdio.specs.Inputs.{given_number, is_line, is_long, at_end, failed, unclosed_end, cut_off, leaves_out, begun_line};
 ghost use Rattle.stdio.specs.Inputs.{line_number, given_of, left_of, begin, with_given, settled_if, stopped_at, Fits, Taken, Gives};
 
+use crate::source::Source;
 use partial_line::PartialLine;
 
 // What the last call gave: a part of a line, which may go on; a line that byte 10 closed; 41 bytes of one, which is too long however it goes on. Then, where
 // no more is asked for: a line that fixed the answer; the end of the input, in the middle of a line if that has bytes; a read or a write that failed.
-#[derive(Drop)]
+#[derive(Clone, Copy)]
 pub enum Given {
     Part,
     Line,
@@ -23,7 +23,7 @@ pub enum Given {
 // Standard input as far as it is handed on. The bytes of the room from `at` to `end` are read and not handed on yet; `reads` says whether more may be
 // read (it is false over an input that is in memory); `number` is the number of the line at hand, from 1. A proved loop has to end, and nothing says that
 // an input does: `left` is counted down from a number that no run uses up, and is 0 where no more is to be asked for.
-#[derive(Drop)]
+#[derive(Clone, Copy)]
 pub struct Input {
     pub at: usize,
     pub end: usize,
@@ -268,7 +268,7 @@ pub fn stopped(
 }
 
 // What is known of the next line, after at most one read, for which nothing may be at hand.
-pub fn next_line(p: Input, room: &mut [u8]) -> Input
+pub fn next_line<S: Source>(from: &mut S, p: Input, room: &mut [u8]) -> Input
     requires { Fits p room.old }
     ensures { Gives p room.old result room.new }
 {
@@ -287,11 +287,11 @@ pub fn next_line(p: Input, room: &mut [u8]) -> Input
     if !reads {
         return stopped(h, number, reads, 0, 0, Given::Ended);
     }
-    let got = libc::read(0, room);
-    if got < 0 {
+    let got = from.read(room);
+    if got.failed {
         return stopped(h, number, reads, 0, 0, Given::ReadFailed);
     }
-    let count = io::count(got, room);
+    let count = got.count;
     if count == 0 {
         return stopped(h, number, reads, 0, 0, Given::Ended);
     }

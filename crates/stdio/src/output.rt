@@ -8,7 +8,7 @@ use crate::input::{Given, Input};
 use crate::words;
 
 // The answer is yes; it is no; the input was refused; a read or a write failed.
-#[derive(Drop)]
+#[derive(Clone, Copy)]
 pub enum Outcome {
     Yes,
     No,
@@ -17,7 +17,7 @@ pub enum Outcome {
 }
 
 // The input, and how many bytes of what was printed are not written yet.
-#[derive(Drop)]
+#[derive(Clone, Copy)]
 pub struct Passed {
     pub input: Input,
     pub due: usize,
@@ -151,7 +151,7 @@ pub fn status(o: Outcome) -> i32
 }
 
 // The input where no more is asked for, and how many bytes of the buffer are the text that is to be written then.
-#[derive(Drop)]
+#[derive(Clone, Copy)]
 pub struct Text {
     pub input: Input,
     pub len: usize,

@@ -6,6 +6,7 @@ ghost use Rattle.stdio.specs.Inputs.{Fits};
 ghost use Rattle.stdio.specs.LongLines.{resumed, passed, line_of, Closes};
 
 use crate::input::{Given, Input};
+use crate::source::Source;
 use partial_line::PartialLine;
 
 // The bytes of the line that are at hand are passed over, and n calls are left.
@@ -59,14 +60,14 @@ fn back(p: Input, q: Input) -> Input
 }
 
 // Reads on to the byte 10 that closes a line that is too long, or to the end of the input.
-pub fn close_line(p: Input, room: &mut [u8]) -> Input
+pub fn close_line<S: Source>(from: &mut S, p: Input, room: &mut [u8]) -> Input
     requires { Fits p room.old × (p.given ≡ TooLong) × (0 < length (line_bytes p.line)) }
     ensures { Closes p room.old result room.new }
 {
     let mut q = resume(p, 18446744073709551615);
     while 0 < q.left {
         let n = q.left - 1;
-        let t = crate::input::next_line(q, room);
+        let t = crate::input::next_line(from, q, room);
         let d = pass(t, n);
         q = d;
     }

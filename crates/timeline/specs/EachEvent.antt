@@ -1,6 +1,6 @@
 -- Each event has its row, accepted or refused, and each row is one line: `event_row` says which, `row_is_one_line` that it has one byte 10, and
 -- `as_many_rows` that so many events print as many lines. Assumes nothing.
-use Rattle.std.specs.Prelude.{◌≡◌, List, [], ◌∷◌, ◌++◌, Bool, true, false, ℕ, zero, suc, ◌+◌, ◌/◌, ◌%◌, min, eqb, ltb, length, get_or}
+use Rattle.std.specs.Prelude.{◌≡◌, List, [], ◌∷◌, ◌++◌, Bool, true, false, ℕ, zero, suc, ◌+◌, ◌/◌, ◌%◌, min, eqb, ltb, length, get_or, if◌then◌else◌}
 use Rattle.std.proofs.Math.Path.{refl, ap, subst}
 use Rattle.std.proofs.Common.{sym, ◌∙◌, arith, ne_eqb}
 use Rattle.spec.specs.declared.Answer.{Answer}
@@ -12,7 +12,6 @@ use Rattle.spec.specs.declared.Output.{Output}
 use Rattle.spec.specs.declared.Output.TheVariants.{At, End, Refuse}
 use Rattle.spec.specs.declared.State.{State}
 use Rattle.spec.specs.declared.Task.{Task}
-use Rattle.spec.specs.Lists.{if◌then◌else◌}
 use Rattle.spec.specs.Machine.{idle}
 use Rattle.spec.specs.Schedule.{Event, starts, steps, event}
 use Rattle.laws.specs.Tests.{tf, and_left, and_right}

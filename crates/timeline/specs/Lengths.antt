@@ -1,11 +1,10 @@
 -- How many bytes a timeline prints at most: for a row, for a line of the input and for its end. They tell a caller how much room to lend. Assumes
 -- nothing.
-use Rattle.std.specs.Prelude.{◌≡◌, refl, List, [], ◌++◌, Bool, true, false, ℕ, zero, suc, ◌+◌, ◌*◌, ◌≤◌, min, length}
+use Rattle.std.specs.Prelude.{◌≡◌, refl, List, [], ◌++◌, Bool, true, false, ℕ, zero, suc, ◌+◌, ◌*◌, ◌≤◌, min, length, if◌then◌else◌}
 use Rattle.std.proofs.Common.{arith, length-append}
 use Rattle.spec.specs.declared.Output.{Output}
 use Rattle.spec.specs.declared.State.{State}
 use Rattle.spec.specs.declared.Task.{Task}
-use Rattle.spec.specs.Lists.{if◌then◌else◌}
 use Rattle.session.specs.declared.EventLine.{EventLine}
 use Rattle.session.specs.declared.EventLine.TheVariants.{Start, Step, Outside}
 use Rattle.session.specs.Grammar.{InputLine, open_line, parse_event_line}

@@ -1,7 +1,6 @@
 -- A timeline, a line of the session's input at a time: the session goes on as it does (Handling of session_state), and before what it prints for an
 -- event's line stand the row's columns, after an opening that is accepted the first row. Assumes nothing.
-use Rattle.std.specs.Prelude.{ℕ, ◌≡◌, List, [], ◌++◌, Bool, true, false}
-use Rattle.spec.specs.Lists.{if◌then◌else◌}
+use Rattle.std.specs.Prelude.{ℕ, ◌≡◌, List, [], ◌++◌, Bool, true, false, if◌then◌else◌}
 use Rattle.session.specs.declared.EventLine.{EventLine}
 use Rattle.session.specs.Buffer.{buffer, append}
 use Rattle.session.specs.Grammar.{InputLine, open_line, parse_event_line}

@@ -1,5 +1,7 @@
 // A session as rows: a column for each task shows where it stands when the event comes, and then stands what the session prints for the event
 // (docs/FITTERS.md). `take_line` takes a line of the input, `finish` its end; specs/ has the rows.
+#![tactic(auto)]
+
 mod rows;
 
 ghost use Rattle.std.specs.Prelude.{◌≡◌, length};
@@ -9,14 +11,14 @@ ghost use Rattle.timeline.specs.Lines.{new_timeline, timeline_line, timeline_end
 use session_state::Session;
 
 // A timeline between two lines: its session, and how many events it had.
-#[derive(Drop)]
+#[derive(Clone, Copy)]
 pub struct Timeline {
     pub session: Session,
     pub events: u32,
 }
 
 // The timeline after a line, and how many bytes were printed for it.
-#[derive(Drop)]
+#[derive(Clone, Copy)]
 pub struct Taken {
     pub timeline: Timeline,
     pub printed: usize,

@@ -1,10 +1,9 @@
 -- A timeline as a reader that prints as it goes (stdio, Streams): where it stands, and what is printed if some lines follow. For an input in memory that is
 -- printed exactly (`timeline_exact`). Assumes nothing.
-use Rattle.std.specs.Prelude.{ℕ, ◌≡◌, refl, Bool, true, false, not, replicate}
+use Rattle.std.specs.Prelude.{ℕ, ◌≡◌, refl, Bool, true, false, not, replicate, if◌then◌else◌}
 use Rattle.std.proofs.Common.{sym, ◌∙◌}
 use Rattle.std.proofs.Math.Path.{ap}
 use mathlib.Core.List.{List, [], ◌∷◌, ◌++◌, append-nil}
-use Rattle.spec.specs.Lists.{if◌then◌else◌}
 use Rattle.session.specs.Grammar.{InputLine, closed_line, open_line, input_lines, admissible}
 use Rattle.session.specs.OutputLengths.{longest_end}
 use Rattle.session_state.specs.declared.Phase.TheVariants.{Stopped}

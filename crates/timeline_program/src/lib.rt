@@ -1,5 +1,7 @@
 // yardtimeline: a session as rows (timeline), over standard input or bytes in memory: `text` gives what is printed, `yardtimeline` is the whole program as a
 // function that gives the exit status. In memory: one read of the input, one line, what that read prints, and the two pools.
+#![tactic(auto)]
+
 ghost use Rattle.std.specs.Prelude.{◌≡◌, ◌++◌, ◌+◌, ◌*◌, ◌≤◌, length, take};
 ghost use Rattle.session.specs.OutputLengths.{longest_end};
 ghost use Rattle.stdio.specs.Readers.{last_lines};
@@ -10,10 +12,11 @@ ghost use Rattle.timeline_program.specs.Running.{running, begin, timeline_output
 use stdio::input;
 use stdio::input::Input;
 use stdio::output::Text;
+use stdio::source::Source;
 use timeline::{Taken, Timeline};
 
 // A timeline and its input, of which no more is to be asked for, and how many bytes of what was printed are not written yet.
-#[derive(Drop)]
+#[derive(Clone, Copy)]
 struct Progress {
     timeline: Timeline,
     input: Input,
@@ -53,7 +56,14 @@ fn take_given(
 
 // Reads until the input ends, the session has stopped, or a read or a write fails. What is printed before a read is written before it; the rest is in the
 // buffer.
-fn read(reads: bool, room: &mut [u8], ns: &mut [u32], bs: &mut [u32], out: &mut [u8]) -> Progress
+fn read<S: Source>(
+    from: &mut S,
+    reads: bool,
+    room: &mut [u8],
+    ns: &mut [u32],
+    bs: &mut [u32],
+    out: &mut [u8],
+) -> Progress
     requires { longest_rows * length room.old + longest_end ≤ length out.old }
     ensures reads { Reads reads room.old (begin ns.old bs.old) result.input room.new
         (running result.timeline ns.new bs.new) result.due out.new }
@@ -63,7 +73,7 @@ fn read(reads: bool, room: &mut [u8], ns: &mut [u32], bs: &mut [u32], out: &mut 
     let mut t = timeline::new_timeline();
     let mut due = 0;
     while 0 < p.left {
-        let q = input::next_line(p, room);
+        let q = input::next_line(from, p, room);
         let d = take_given(t, q, due, ns, bs, out);
         t = d.timeline;
         let session = t.session;
@@ -100,12 +110,19 @@ fn finish(
 }
 
 // What is printed for an input: standard input if `reads`, else the bytes of the room.
-fn text(reads: bool, room: &mut [u8], ns: &mut [u32], bs: &mut [u32], out: &mut [u8]) -> Text
+fn text<S: Source>(
+    from: &mut S,
+    reads: bool,
+    room: &mut [u8],
+    ns: &mut [u32],
+    bs: &mut [u32],
+    out: &mut [u8],
+) -> Text
     requires { longest_rows * length room.old + longest_end ≤ length out.old }
     ensures prints { Prints (timeline_over ns.old bs.old) reads room.old result.input (take result.len out.new) }
     ensures len_in_bounds { result.len ≤ length out.new }
 {
-    let k = read(reads, room, ns, bs, out);
+    let k = read(from, reads, room, ns, bs, out);
     let t = k.timeline;
     let input = k.input;
     let len = finish(t, input, k.due, ns, bs, out);
@@ -120,13 +137,13 @@ fn output_room() -> [u8; 228980]
 }
 
 // The program, and its exit status.
-pub fn yardtimeline() -> i32
+pub fn yardtimeline<S: Source>(from: &mut S) -> i32
     ensures { Ran timeline_transcript result }
 {
     let mut room = input::room();
     let mut ns = session_pools::node_words();
     let mut bs = session_pools::bucket_words();
     let mut out = output_room();
-    let t = text(true, &mut room, &mut ns, &mut bs, &mut out);
+    let t = text(from, true, &mut room, &mut ns, &mut bs, &mut out);
     stdio::output::exit(b"timeline", t, &out)
 }

@@ -1,6 +1,5 @@
 -- What stands in a row of the timeline before the session's line, for a line of the input that is handled; and the first row. Assumes nothing.
-use Rattle.std.specs.Prelude.{ℕ, ◌+◌, List, [], Bool, ltb}
-use Rattle.spec.specs.Lists.{if◌then◌else◌}
+use Rattle.std.specs.Prelude.{ℕ, ◌+◌, List, [], Bool, ltb, if◌then◌else◌}
 use Rattle.session.specs.declared.EventLine.{EventLine}
 use Rattle.session.specs.declared.EventLine.TheVariants.{Start, Step, Outside}
 use Rattle.session_state.specs.declared.Session.{Session}

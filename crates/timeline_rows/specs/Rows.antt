@@ -1,11 +1,10 @@
 -- The rows of a timeline, as bytes: for each event its number, a column for each task, and then the line that the session prints for it. A column
 -- shows where its task stands when the event comes: `.` if it runs no call, else the line that it does next. The task that the event names is marked
 -- by `*`. Assumes nothing.
-use Rattle.std.specs.Prelude.{ℕ, zero, suc, ◌+◌, ◌/◌, ◌%◌, min, ◌≡◌, refl, List, [], ◌∷◌, ◌++◌, Bool, eqb, get_or}
+use Rattle.std.specs.Prelude.{ℕ, zero, suc, ◌+◌, ◌/◌, ◌%◌, min, ◌≡◌, refl, List, [], ◌∷◌, ◌++◌, Bool, eqb, get_or, if◌then◌else◌}
 use Rattle.spec.specs.declared.Output.{Output}
 use Rattle.spec.specs.declared.State.{State}
 use Rattle.spec.specs.declared.Task.{Task}
-use Rattle.spec.specs.Lists.{if◌then◌else◌}
 use Rattle.spec.specs.Machine.{idle}
 use Rattle.session.specs.Ascii.{codes, ascii}
 use Rattle.session.specs.Print.{output_line}

@@ -1,1 +1,2 @@
 // The rows of a timeline: specs/ has the definitions and rows of them. The code is in timeline.
+#![tactic(auto)]

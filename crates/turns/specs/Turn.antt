@@ -1,8 +1,8 @@
 -- One turn of the dispatcher (paper 02, U7). Assumes nothing.
-use Rattle.std.specs.Prelude.{ℕ, List, not, eqb}
+use Rattle.std.specs.Prelude.{ℕ, List, not, eqb, if◌then◌else◌}
 use Rattle.spec.specs.declared.Output.{Output}
 use Rattle.spec.specs.declared.Output.TheVariants.{At, End, Refuse}
-use Rattle.spec.specs.Lists.{if◌then◌else◌, filter, range}
+use Rattle.spec.specs.Lists.{filter, range}
 use Rattle.spec.specs.Machine.{Machine, with_chosen, task_of}
 use Rattle.spec.specs.Words.{number, filled}
 use Rattle.spec.specs.Sound.{task_count, sound}

@@ -1,8 +1,8 @@
 -- Turns one after the other, as long as there is something to run, and their words. They are a run of the moves `turns` (`turns_are_moves`): what the crate
 -- dispatcher promises of every run holds of them. Assumes nothing.
-use Rattle.std.specs.Prelude.{ℕ, zero, suc, ◌*◌, ◌<◌, ◌≤◌, ◌≡◌, refl, Bool, true, false, ◌&&◌, List, [], ◌∷◌, map, ltb, length, replicate}
+use Rattle.std.specs.Prelude.{ℕ, zero, suc, ◌*◌, ◌<◌, ◌≤◌, ◌≡◌, refl, Bool, true, false, ◌&&◌, List, [], ◌∷◌, map, ltb, length, replicate, if◌then◌else◌}
 use Rattle.std.proofs.Common.{ap, arith}
-use Rattle.spec.specs.Lists.{if◌then◌else◌, concat_map}
+use Rattle.spec.specs.Lists.{concat_map}
 use Rattle.spec.specs.Numbers.{output_words}
 use Rattle.spec.specs.Machine.{Machine}
 use Rattle.spec.specs.Words.{overwrite}

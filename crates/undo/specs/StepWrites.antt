@@ -1,12 +1,12 @@
 -- A step changes no word but those of the two records that Undo names for its line: a write changes words of the record that it names
 -- alone, and a line's write names one of these two. Assumes nothing.
-use Rattle.std.specs.Prelude.{ℕ, ◌+◌, ◌*◌, ◌≤◌, ◌<◌, ◌≡◌, List, [], ◌∷◌, Bool, true, false, eqb, length}
+use Rattle.std.specs.Prelude.{ℕ, ◌+◌, ◌*◌, ◌≤◌, ◌<◌, ◌≡◌, List, [], ◌∷◌, Bool, true, false, eqb, length, if◌then◌else◌}
 use Rattle.std.proofs.Math.Path.{refl, ap}
 use Rattle.std.proofs.Common.{sym, arith}
 use Rattle.spec.specs.declared.Task.{Task}
 use Rattle.spec.specs.declared.Answer.{Answer}
 use Rattle.spec.specs.declared.Answer.TheVariants.{Yes, No, Full, Done, Lost, Limit}
-use Rattle.spec.specs.Lists.{if◌then◌else◌, member}
+use Rattle.spec.specs.Lists.{member}
 use Rattle.spec.specs.Machine.{Machine, with_state, with_nodes, with_buckets, with_head, with_last_node, with_last_bucket, task_of, set_task, with_own, idle}
 use Rattle.spec.specs.Words.{number, filled, overwrite, node_of, bucket_of}
 use Rattle.spec.specs.Words.{Write, nothing, set_head, set_place, clear_pred, freeze, put_tags, new_node, new_bucket, apply}
@@ -27,7 +27,7 @@ use Rattle.laws.specs.WritesKeep.{WriteSound, sound_place, sound_put, sound_new_
 use Rattle.laws.specs.StepRefusals.{step_sound_facts}
 use Rattle.laws.specs.AfterWrites.{after_task}
 use Rattle.laws.specs.CallLines.{All, every_line, pick_one, one_of_all}
-use Rattle.laws.specs.LinesKeep.{effect_sound}
+use Rattle.laws.proofs.LinesKeep.{effect_sound}
 use Rattle.laws.specs.EntriesKeep.{StepOutcome, step_no_task, step_idle, step_unsound, step_all_held, step_accepted, step_outcome}
 use Rattle.held.specs.Held.{node_to_take, bucket_to_take}
 use Rattle.held.proofs.Taking.{node_in, bucket_sound}

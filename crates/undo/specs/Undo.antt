@@ -1,8 +1,7 @@
 -- The records whose words a step may change, what is kept of them, and what putting it back leaves. That it leaves what was there before
 -- the step is shown in StepUndone. Assumes nothing.
-use Rattle.std.specs.Prelude.{ℕ, ◌*◌, ◌/◌, List, ltb, eqb, length, take, drop, replicate}
+use Rattle.std.specs.Prelude.{ℕ, ◌*◌, ◌/◌, List, ltb, eqb, length, take, drop, replicate, if◌then◌else◌}
 use Rattle.spec.specs.declared.Task.{Task}
-use Rattle.spec.specs.Lists.{if◌then◌else◌}
 use Rattle.spec.specs.Machine.{Machine}
 use Rattle.spec.specs.Words.{number, overwrite}
 use Rattle.pool.specs.Pool.{bucket_at, store_bucket}

@@ -1,5 +1,7 @@
 // The words that a step may change, kept before it and put back after it (paper 02, U14: "Lent memory holds afterwards what it held
 // before"). A step writes words of at most one record: of a node at lines 24, 27 and 50, of a bucket at 36, 44, 48, 49 and 52.
+#![tactic(auto)]
+
 ghost use Rattle.std.specs.Prelude.{◌≡◌, List, ℕ, ◌≤◌, length, take};
 ghost use Rattle.spec.specs.Machine.{machine_of};
 ghost use Rattle.undo.specs.Undo.{node_words, store_words, written_node, written_bucket, kept_of, nodes_back, buckets_back};
@@ -9,7 +11,7 @@ use pool::NODE_WORDS;
 use spec::{State, Task};
 
 // A node and a bucket, by their numbers, and the words that they held.
-#[derive(Drop)]
+#[derive(Clone, Copy)]
 pub struct Kept {
     pub node: u32,
     pub words: [u32; NODE_WORDS],

@@ -15,7 +15,7 @@ use Rattle.line_moves.specs.declared.Moved.{Moved}
 use Rattle.lines.specs.Reply.{changes, settled}
 use Rattle.schedule_words.proofs.Laws.{output_length}
 use Rattle.state_words.specs.StateWords.{state_words, state_of_words, state_fits}
-use Rattle.state_words.specs.RoundTrip.{words_again}
+use Rattle.state_words.proofs.RoundTrip.{words_again}
 use Rattle.state_words.specs.Changes.{changed}
 use Rattle.yard_answers.specs.Answers.{out_number, out_left}
 

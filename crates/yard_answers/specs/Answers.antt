@@ -1,9 +1,8 @@
 -- What a call for C answers: a number, in which 256 and a refusal's number stand for a refusal, and words, which a refusal leaves as they were.
 -- Assumes nothing.
-use Rattle.std.specs.Prelude.{ℕ, ◌+◌, List, ◌∷◌, eqb}
+use Rattle.std.specs.Prelude.{ℕ, ◌+◌, List, ◌∷◌, eqb, if◌then◌else◌}
 use Rattle.spec.specs.declared.Output.{Output}
 use Rattle.spec.specs.declared.Output.TheVariants.{At, End, Refuse}
-use Rattle.spec.specs.Lists.{if◌then◌else◌}
 use Rattle.spec.specs.Numbers.{output_words}
 use Rattle.turns.specs.declared.Turn.{Turn}
 use Rattle.turns.specs.declared.Turn.TheVariants.{Idle, Of, Refused}

@@ -1,5 +1,7 @@
 // What a call for C answers, put into words that the caller lends: a number and an answer's words, and the state's words after a move. specs/Answers
 // has the numbers and the words.
+#![tactic(auto)]
+
 ghost use Rattle.std.specs.Prelude.{◌≡◌, true, ◌∷◌, ◌+◌, ◌*◌, ◌≤◌, length};
 ghost use Rattle.spec.specs.Numbers.{output_words};
 ghost use Rattle.spec.specs.Machine.{state_chosen};

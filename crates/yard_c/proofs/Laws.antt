@@ -31,7 +31,7 @@ use Rattle.lines.specs.Reply.{settled, moved_reply}
 use Rattle.schedule_events.specs.Events.{listing_number, events_of}
 use Rattle.schedule.specs.Encoding.{decoded, room_for}
 use Rattle.state_words.specs.StateWords.{state_words, state_of_words, state_fits}
-use Rattle.state_words.specs.RoundTrip.{words_again}
+use Rattle.state_words.proofs.RoundTrip.{words_again}
 use Rattle.yard_answers.proofs.Laws.{over_five}
 use Rattle.yard_answers.specs.Answers.{open_number, out_number, out_left, turn_number, turn_left}
 use Rattle.yard_answers.specs.CallLaws.{Ready, ready_test, one_word}
@@ -200,7 +200,8 @@ module _ (w out ns bs : List ℕ) where
   unfolding c_show
   show_none k h e = rw (ready_test h, e)
 
-  pub show_some : (k : ℕ) → Ready state_fits w out 1 → ¬ (length (show y k) ≡ 0) → called (length (show y k)) w ns bs (set out 0 (66 * k + 2)) ≡ c_show w k ns bs out
+  pub show_some : (k : ℕ) → Ready state_fits w out 1 → ¬ (length (show y k) ≡ 0)
+      → called (length (show y k)) w ns bs (set out 0 (66 * k + 2)) ≡ c_show w k ns bs out
   unfolding c_show
   show_some k h d = rw (ready_test h, ne_eqb _ 0 d) (ap (λ (v : List ℕ). called (length (show y k)) w ns bs v) (one_word out (66 * k + 2) h.room))
 

@@ -17,7 +17,8 @@ use Rattle.turns.specs.Turn.{Turned, next_task, after_step, turn_to, turn}
 use Rattle.schedule.specs.Encoding.{decoded}
 use Rattle.state_words.specs.StateWords.{state_fits}
 use Rattle.state_words.specs.RoundTrip.{Stored, words_fit}
-use Rattle.state_words.specs.EntriesStore.{words_stored, opening_stored, start_stored, step_stored}
+use Rattle.state_words.specs.EntriesStore.{opening_stored, start_stored}
+use Rattle.state_words.proofs.EntriesStore.{words_stored, step_stored}
 use Rattle.turns.specs.Turns.{names, Turns, turns_of, turns_written}
 use Rattle.c_calls.specs.Calls.{Called, machine_in, c_open, c_reply, c_start, c_step, c_turn}
 use Rattle.c_calls.specs.Runs.{c_run, c_turns}

@@ -4,7 +4,7 @@
 use Prim.Native.Nat.{ℕ, suc, ◌+◌, ◌/◌, ◌≤◌, ◌<◌, min}
 use Rattle.std.proofs.Math.Path.{◌≡◌, refl}
 use Rattle.std.proofs.Common.{ap, inl, inr}
-use Rattle.std.specs.Prelude.{◌↔◌, ◌⊎◌, Bool, false, not, ◌&&◌, ◌||◌, leb}
+use Rattle.std.specs.Prelude.{◌↔◌, ◌⊎◌, Bool, false, not, ◌&&◌, ◌||◌, leb, if◌then◌else◌}
 use Rattle.std.proofs.Math.Bool.{true}
 use mathlib.Core.List.{List, [], ◌∷◌}
 use native.Mathlib.Omega.{arith}
@@ -17,7 +17,7 @@ use Rattle.spec.specs.declared.Listing.{Listing}
 use Rattle.spec.specs.declared.Listing.TheVariants as listing
 use Rattle.spec.specs.declared.Output.{Output}
 use Rattle.spec.specs.declared.Output.TheVariants.{At, End, Refuse}
-use Rattle.spec.specs.Lists.{if◌then◌else◌, member}
+use Rattle.spec.specs.Lists.{member}
 use Rattle.spec.specs.Machine.{Machine, task_of}
 use Rattle.spec.specs.Words.{tags}
 use Rattle.spec.specs.Sound.{task_count, bucket_count, sound}

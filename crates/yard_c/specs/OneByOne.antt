@@ -1,9 +1,9 @@
 -- Many events or turns in one call give what the calls for them give one by one. Assumes nothing.
-use Rattle.std.specs.Prelude.{ℕ, zero, suc, ◌+◌, ◌-◌, ◌/◌, ◌≤◌, min, ◌≡◌, refl, true, List, [], ◌∷◌, ◌++◌, leb, eqb, length, replicate}
+use Rattle.std.specs.Prelude.{ℕ, zero, suc, ◌+◌, ◌-◌, ◌/◌, ◌≤◌, min, ◌≡◌, refl, true, List, [], ◌∷◌, ◌++◌, leb, eqb, length, replicate, if◌then◌else◌}
 use Rattle.std.proofs.Common.{sym, ap, ◌∙◌, arith, le-leb, ne_eqb}
 use Rattle.spec.specs.declared.Output.{Output}
 use Rattle.spec.specs.declared.Output.TheVariants.{At, End, Refuse}
-use Rattle.spec.specs.Lists.{if◌then◌else◌, concat_map}
+use Rattle.spec.specs.Lists.{concat_map}
 use Rattle.spec.specs.Numbers.{output_words}
 use Rattle.spec.specs.Machine.{Machine}
 use Rattle.spec.specs.Words.{overwrite}
@@ -14,8 +14,9 @@ use Rattle.turns.specs.declared.Turn.TheVariants.{Idle, Of, Refused}
 use Rattle.turns.specs.Turn.{turn}
 use Rattle.schedule.specs.Encoding.{decoded}
 use Rattle.state_words.specs.StateWords.{state_words, state_fits}
-use Rattle.state_words.specs.RoundTrip.{Stored, words_again, state_again, words_fit}
-use Rattle.state_words.specs.EntriesStore.{words_stored}
+use Rattle.state_words.specs.RoundTrip.{Stored, words_fit}
+use Rattle.state_words.proofs.RoundTrip.{words_again, state_again}
+use Rattle.state_words.proofs.EntriesStore.{words_stored}
 use Rattle.yard_answers.specs.Answers.{out_number, out_left, turn_number, turn_left}
 use Rattle.turns.specs.Turns.{names, Turns, turns_of, turn_words, turns_written}
 use Rattle.c_calls.specs.Calls.{Called, called, machine_in, c_reply, c_start, c_step, c_turn}

@@ -4,7 +4,7 @@
 use Rattle.std.specs.Prelude.{ℕ, ◌≡◌, refl, true, not, ◌&&◌, length, get_or}
 use Rattle.std.proofs.Math.Path.{ap}
 use Rattle.std.proofs.Common.{◌∙◌, arith}
-use mathlib.Core.List.{List, [], ◌∷◌}
+use mathlib.Core.List.{List, ◌∷◌}
 use Rattle.std.proofs.lemmas.Bool.{not-false}
 use Rattle.std.proofs.Math.Dec.{eqb}
 use Rattle.std.proofs.Math.ListN.{set}
@@ -18,7 +18,7 @@ use Rattle.turns.specs.declared.Turn.TheVariants.{Idle, Of, Refused}
 use Rattle.turns.specs.Turn.{turn, refusal_of}
 use Rattle.corollaries.specs.Turns.{refused_turn_changes_nothing, seven_moves_the_last_chosen}
 use Rattle.state_words.specs.StateWords.{state_words, state_fits}
-use Rattle.state_words.specs.RoundTrip.{words_again}
+use Rattle.state_words.proofs.RoundTrip.{words_again}
 use Rattle.yard_answers.specs.Answers.{turn_number, turn_left}
 use Rattle.c_calls.specs.Calls.{Called, called, machine_in, c_turn}
 

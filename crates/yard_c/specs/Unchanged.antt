@@ -26,7 +26,7 @@ use Rattle.corollaries.specs.Unchanged.{refused_start_changes_nothing, refused_s
 use Rattle.corollaries.specs.Turns.{turn_names_none, refused_turn_changes_nothing}
 use Rattle.schedule_events.specs.Events.{listing_number}
 use Rattle.state_words.specs.StateWords.{state_words, state_fits}
-use Rattle.state_words.specs.RoundTrip.{words_again}
+use Rattle.state_words.proofs.RoundTrip.{words_again}
 use Rattle.yard_answers.specs.Answers.{open_number, out_number, out_left, turn_number, turn_left}
 use Rattle.yard_answers.specs.CallLaws.{opens_with_0}
 use Rattle.turns.specs.Turns.{turns_most, turns_written}

@@ -1,5 +1,7 @@
 // The yard set for C: one call at a time, and many turns in one call, over words that the caller lends: the state's 113 words, both
 // pools, and the answer's words. include/yard.h has the layout and the numbers, specs/Calls and specs/Runs what each call gives and leaves.
+#![tactic(auto)]
+
 ghost use Rattle.std.specs.Prelude.{◌≡◌, [], ◌/◌, min};
 ghost use Rattle.spec.specs.declared.Call.TheVariants.{Insert, Remove, Contains, Grow, Shrink};
 ghost use Rattle.schedule.specs.Encoding.{c_config};
@@ -14,8 +16,7 @@ const SPOILT: u32 = 264;
 // ---- opening
 
 // Opens the set on both pools and writes the state's words.
-#[unsafe(no_mangle)]
-pub extern "C" fn yard_open(
+pub fn yard_open(
     tasks: u32,
     version: u32,
     withdrawn: u32,
@@ -63,8 +64,7 @@ fn started(
 }
 
 // Starts an insert for a task; and so on: a function for each call, so that there is no bad call.
-#[unsafe(no_mangle)]
-pub extern "C" fn yard_start_insert(
+pub fn yard_start_insert(
     w: &mut [u32],
     k: u32,
     tag: u32,
@@ -78,8 +78,7 @@ pub extern "C" fn yard_start_insert(
     started(w, k, Call::Insert, tag, ns, bs, out)
 }
 
-#[unsafe(no_mangle)]
-pub extern "C" fn yard_start_remove(
+pub fn yard_start_remove(
     w: &mut [u32],
     k: u32,
     tag: u32,
@@ -93,8 +92,7 @@ pub extern "C" fn yard_start_remove(
     started(w, k, Call::Remove, tag, ns, bs, out)
 }
 
-#[unsafe(no_mangle)]
-pub extern "C" fn yard_start_contains(
+pub fn yard_start_contains(
     w: &mut [u32],
     k: u32,
     tag: u32,
@@ -108,28 +106,14 @@ pub extern "C" fn yard_start_contains(
     started(w, k, Call::Contains, tag, ns, bs, out)
 }
 
-#[unsafe(no_mangle)]
-pub extern "C" fn yard_start_grow(
-    w: &mut [u32],
-    k: u32,
-    ns: &[u32],
-    bs: &[u32],
-    out: &mut [u32],
-) -> u32
+pub fn yard_start_grow(w: &mut [u32], k: u32, ns: &[u32], bs: &[u32], out: &mut [u32]) -> u32
     ensures { called result w.new ns.now bs.now out.new
         ≡ c_start Grow w.old k 0 ns.now bs.now out.old }
 {
     started(w, k, Call::Grow, 0, ns, bs, out)
 }
 
-#[unsafe(no_mangle)]
-pub extern "C" fn yard_start_shrink(
-    w: &mut [u32],
-    k: u32,
-    ns: &[u32],
-    bs: &[u32],
-    out: &mut [u32],
-) -> u32
+pub fn yard_start_shrink(w: &mut [u32], k: u32, ns: &[u32], bs: &[u32], out: &mut [u32]) -> u32
     ensures { called result w.new ns.now bs.now out.new
         ≡ c_start Shrink w.old k 0 ns.now bs.now out.old }
 {
@@ -137,14 +121,7 @@ pub extern "C" fn yard_start_shrink(
 }
 
 // Steps a task by one line.
-#[unsafe(no_mangle)]
-pub extern "C" fn yard_step(
-    w: &mut [u32],
-    k: u32,
-    ns: &mut [u32],
-    bs: &mut [u32],
-    out: &mut [u32],
-) -> u32
+pub fn yard_step(w: &mut [u32], k: u32, ns: &mut [u32], bs: &mut [u32], out: &mut [u32]) -> u32
     ensures { called result w.new ns.new bs.new out.new
         ≡ c_step w.old k ns.old bs.old out.old }
 {
@@ -159,8 +136,7 @@ pub extern "C" fn yard_step(
 }
 
 // One turn of the dispatcher, as `turn` of dispatch has it. Only the words that change are written.
-#[unsafe(no_mangle)]
-pub extern "C" fn yard_turn(w: &mut [u32], ns: &mut [u32], bs: &mut [u32], out: &mut [u32]) -> u32
+pub fn yard_turn(w: &mut [u32], ns: &mut [u32], bs: &mut [u32], out: &mut [u32]) -> u32
     ensures { called result w.new ns.new bs.new out.new
         ≡ c_turn w.old ns.old bs.old out.old }
 {
@@ -193,8 +169,7 @@ pub extern "C" fn yard_turn(w: &mut [u32], ns: &mut [u32], bs: &mut [u32], out: 
 // ---- list and show
 
 // Writes the tags in the set, ascending.
-#[unsafe(no_mangle)]
-pub extern "C" fn yard_list(w: &[u32], ns: &[u32], bs: &[u32], out: &mut [u32]) -> u32
+pub fn yard_list(w: &[u32], ns: &[u32], bs: &[u32], out: &mut [u32]) -> u32
     ensures { called result w.now ns.now bs.now out.new
         ≡ c_list w.now ns.now bs.now out.old }
 {
@@ -207,8 +182,7 @@ pub extern "C" fn yard_list(w: &[u32], ns: &[u32], bs: &[u32], out: &mut [u32]) 
 }
 
 // How many tags bucket k has, and where the first of them stands.
-#[unsafe(no_mangle)]
-pub extern "C" fn yard_show(w: &[u32], k: u32, ns: &[u32], bs: &[u32], out: &mut [u32]) -> u32
+pub fn yard_show(w: &[u32], k: u32, ns: &[u32], bs: &[u32], out: &mut [u32]) -> u32
     ensures { called result w.now ns.now bs.now out.new
         ≡ c_show w.now k ns.now bs.now out.old }
 {
@@ -237,8 +211,7 @@ fn turns_room(n: usize) -> usize
 }
 
 // Takes the turns that have room for their words, up to the first that finds nothing to run. Memory is looked through once, before the first of them.
-#[unsafe(no_mangle)]
-pub extern "C" fn yard_turns(w: &mut [u32], ns: &mut [u32], bs: &mut [u32], outs: &mut [u32]) -> u32
+pub fn yard_turns(w: &mut [u32], ns: &mut [u32], bs: &mut [u32], outs: &mut [u32]) -> u32
     ensures { called result w.new ns.new bs.new outs.new
         ≡ c_turns w.old ns.old bs.old outs.old }
 {

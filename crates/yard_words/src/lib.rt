@@ -1,4 +1,6 @@
 // The state as words lent by a caller outside Rattle, and back: docs/FITTERS.md has the order, specs/StateWords the definitions.
+#![tactic(auto)]
+
 ghost use Rattle.std.specs.Prelude.{◌≡◌, true, ◌+◌, ◌≤◌, ◌<◌, length};
 ghost use Rattle.spec.specs.Words.{overwrite};
 ghost use Rattle.state_words.specs.StateWords.{bit, first_words, task_words, state_words, task_at, tasks_of_words, state_of_words, task_fits, state_fits};

@@ -1,4 +1,9 @@
 // yardmattered: over standard input a session; over standard output the step that mattered (mattered_text::program).
-fn main() {
-    mattered_text::program::yardmattered();
+#![tactic(auto)]
+
+use stdio::source::Reader;
+
+fn main(rt: HostRuntime) {
+    let mut from = Reader::new(rt.stdin());
+    mattered_text::program::yardmattered(&mut from);
 }

@@ -1,4 +1,9 @@
 // yardplan: how many records so many tasks need, and what a list of calls comes to, over standard input and output.
-fn main() {
-    plan_text::program::yardplan();
+#![tactic(auto)]
+
+use stdio::source::Reader;
+
+fn main(rt: HostRuntime) {
+    let mut from = Reader::new(rt.stdin());
+    plan_text::program::yardplan(&mut from);
 }

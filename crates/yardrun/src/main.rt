@@ -1,5 +1,10 @@
-// yardrun: a session over standard input and standard output (`session_run`). A program of Rattle has no exit status; programs/yard.c is the
-// same program with one.
-fn main() {
-    session_run::yardrun();
+// yardrun: a session over standard input and standard output (`session_run`). It ends with status 0, as do its like
+// for the other commands; `yard` gives their exit statuses.
+#![tactic(auto)]
+
+use stdio::source::Reader;
+
+fn main(rt: HostRuntime) {
+    let mut from = Reader::new(rt.stdin());
+    session_run::yardrun(&mut from);
 }

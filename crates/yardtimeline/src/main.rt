@@ -1,4 +1,9 @@
 // yardtimeline: a session as rows, its input on standard input and the rows on standard output (timeline_program).
-fn main() {
-    timeline_program::yardtimeline();
+#![tactic(auto)]
+
+use stdio::source::Reader;
+
+fn main(rt: HostRuntime) {
+    let mut from = Reader::new(rt.stdin());
+    timeline_program::yardtimeline(&mut from);
 }

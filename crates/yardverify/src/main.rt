@@ -1,4 +1,9 @@
 // yardverify: what a reader of recordings answers, the recording on standard input and `same`, `line=N` or `refuse=N` on standard output.
-fn main() {
-    reader::program::yardverify();
+#![tactic(auto)]
+
+use stdio::source::Reader;
+
+fn main(rt: HostRuntime) {
+    let mut from = Reader::new(rt.stdin());
+    reader::program::yardverify(&mut from);
 }

@@ -8,9 +8,9 @@ use Rattle.bucket.proofs.answered.Tie as tie
 
 returns : tie.Need-returns
 returns c =
-    let a = c.before.args in
+    let a = c.args in
     let given : ℕ → Changed = λ n. record { bucket = a.b; answer = a.answer; count = n } in
-    ap given c.count.ensures.0
+    ap given c.count-n.ensures.0
 
-pub answered-spec : {M : Type 1} → statement M
-answered-spec = tie.close (tie.spec (λ c κs. search rules) (λ c. search rules) returns)
+pub answered_spec : {M : Type 1} → statement M
+answered_spec = tie.close (tie.spec (λ c κs. search rules) (λ c. search rules) returns)

@@ -11,22 +11,22 @@ use borrow.Author.Rules.{rules}
 use Rattle.bucket.proofs.opened.Statement.{statement}
 use Rattle.bucket.proofs.opened.Tie as tie
 
-len : (c : tie.Start) → length c.args.t1.words ≡ 66
+len : (c : tie.Start) → length c.args.b.words ≡ 66
 len c = search rules
 
 copied-requires : tie.Need-copied-requires
-copied-requires c κs = let e = len c.before.before.before in omega arith
+copied-requires c κs = let e = len c.before.before in omega arith
 
 returns : tie.Need-returns
 returns c =
-    let a = c.before.before.before.before.args in
-    let ws = a.t1.words in
-    fresh_words 1 ws c.copied.result (len c.before.before.before.before)
-    (c.copied.ensures ∙ ap (λ (n : ℕ). paste (set (set (replicate 66 0) 0 1) 1 n) 2 (drop 2 ws) n) c.before.before.before.count.ensures.0)
+    let a = c.args in
+    let ws = a.b.words in
+    fresh_words 1 ws c.copied.result (len c.before.before.before)
+    (c.copied.ensures ∙ ap (λ (n : ℕ). paste (set (set (replicate 66 0) 0 1) 1 n) 2 (drop 2 ws) n) c.count-n.ensures.0)
     ∙ words_bucket 1 (tags_in ws)
 
-pub opened-spec : {M : Type 1} → statement M
-opened-spec =
+pub opened_spec : {M : Type 1} → statement M
+opened_spec =
     tie.close
     (tie.spec
     (λ c κs. search rules)

@@ -17,44 +17,44 @@ use Rattle.bucket_copies.proofs.next.Tie as tie
 from : (ws : List ℕ) (i : ℕ) → i < length (tags_in ws) → drop i (tags_in ws) ≡ get_or ws (2 + i) 0 ∷ drop (suc i) (tags_in ws)
 from ws i h = drop-cons (tags_in ws) i 0 h ∙ rw (tag_at ws i h)
 
-returns : tie.Need-returns
+returns : tie.Need-returns-then-n-i
 unfolding next_of
 returns c =
-    let a = c.before.before.before.args in
+    let a = c.args in
     c.take.ensures ∙ rw (drop_of_length-le (tags_in a.w.now) {i = a.i} (omega arith), from a.v.now a.j (omega arith))
 
-returns_2 : tie.Need-returns-2
+returns_2 : tie.Need-returns-then-m-j
 unfolding next_of
 returns_2 c =
-    let a = c.before.before.before.before.args in
-    c.take2.ensures ∙ rw (from a.w.now a.i (omega arith), drop_of_length-le (tags_in a.v.now) {i = a.j} (omega arith))
+    let a = c.args in
+    c.take-then-m-j.ensures ∙ rw (from a.w.now a.i (omega arith), drop_of_length-le (tags_in a.v.now) {i = a.j} (omega arith))
 
-returns_3 : tie.Need-returns-3
+returns_3 : tie.Need-returns-then-x-y
 unfolding next_of
 returns_3 c =
-    let a = c.before.before.before.before.before.before.args in
-    c.take3.ensures ∙ rw (from a.w.now a.i (omega arith), from a.v.now a.j (omega arith), lt-ltb _ _ c.before.if3.true)
+    let a = c.args in
+    c.take-then-x-y.ensures ∙ rw (from a.w.now a.i (omega arith), from a.v.now a.j (omega arith), lt-ltb _ _ c.if-x-y.true)
 
-returns_4 : tie.Need-returns-4
+returns_4 : tie.Need-returns-then-x-y-2
 unfolding next_of
 returns_4 c =
     let at-3 = c.before.before in
-    let a = at-3.before.before.before.before.before.args in
-    c.take4.ensures
+    let a = at-3.args in
+    c.take-then-x-y-2.ensures
     ∙ rw
-    (from a.w.now a.i (omega arith), from a.v.now a.j (omega arith), le-ltb _ _ at-3.if3.false, eq-eqb _ _ c.before.if4.true)
+    (from a.w.now a.i (omega arith), from a.v.now a.j (omega arith), le-ltb _ _ at-3.if-x-y.false, eq-eqb _ _ c.if-x-y-2.true)
 
-returns-5 : tie.Need-returns-5
+returns-5 : tie.Need-returns
 unfolding next_of
 returns-5 c =
     let at-3 = c.before.before in
-    let a = at-3.before.before.before.before.before.args in
-    c.take5.ensures
+    let a = at-3.args in
+    c.take-2.ensures
     ∙ rw
-    (from a.w.now a.i (omega arith), from a.v.now a.j (omega arith), le-ltb _ _ at-3.if3.false, ne_eqb _ _ c.before.if4.false)
+    (from a.w.now a.i (omega arith), from a.v.now a.j (omega arith), le-ltb _ _ at-3.if-x-y.false, ne_eqb _ _ c.if-x-y-2.false)
 
-pub next-spec : {M : Type 1} → statement M
-next-spec =
+pub next_spec : {M : Type 1} → statement M
+next_spec =
     tie.close
     (tie.spec
     (λ c. search rules)

@@ -9,62 +9,62 @@ use Rattle.bucket_search.proofs.Laws.{tag_at, rank_here, rank_on, rank_end, rank
 use Rattle.bucket_search.proofs.position.Statement.{statement}
 use Rattle.bucket_search.proofs.position.Tie as tie
 
-abbrev invariant-loop : tie.invariant-loop
+abbrev invariant-loop : tie.invariant-loop-p
 invariant-loop w n tag p₀ p = (p ≤ n) × (p + rank tag (drop p (tags_in w)) ≡ rank tag (tags_in w))
 
-abbrev decreases-loop : tie.decreases-loop
+abbrev decreases-loop : tie.decreases-loop-p
 decreases-loop w n tag p₀ p = n - p
 
-within : (c : tie.In-loop invariant-loop decreases-loop) → c.before.loop.p < length (tags_in c.before.before.args.w.now)
+within : (c : tie.In-loop-p invariant-loop decreases-loop) → c.loop-p.p < length (tags_in c.args.w.now)
 within c = omega arith
 
-loop_holds : tie.Need-loop-init invariant-loop decreases-loop
+loop_holds : tie.Need-loop-p-init invariant-loop decreases-loop
 loop_holds c = (omega arith, omega arith)
 
-cast-if1 : tie.Need-overflow-cast-if1 invariant-loop decreases-loop
+cast-if1 : tie.Need-overflow_cast-p invariant-loop decreases-loop
 cast-if1 c = omega arith
 
-add-if1 : tie.Need-overflow-add-if1 invariant-loop decreases-loop
+add-if1 : tie.Need-overflow_add-p invariant-loop decreases-loop
 add-if1 c = omega arith
 
-mul-if1 : tie.Need-overflow-mul-if1 invariant-loop decreases-loop
+mul-if1 : tie.Need-offset_bounds-w-p invariant-loop decreases-loop
 mul-if1 c = omega arith
 
-element-copy-out-if1 : tie.Need-element-copy-out-if1 invariant-loop decreases-loop
+element-copy-out-if1 : tie.Need-bounds-w-p invariant-loop decreases-loop
 element-copy-out-if1 c = omega arith
 
-returns : tie.Need-returns invariant-loop decreases-loop
+returns : tie.Need-returns-then-tag-w invariant-loop decreases-loop
 returns c =
-    let w = c.before.before in
-    let tag = w.before.before.args.tag in
-    let ws = w.before.before.args.w.now in
+    let w = c.before.before.before in
+    let tag = w.args.tag in
+    let ws = w.args.w.now in
     let e = tag_at ws _ (within w) in
-    let r = rank_here tag (tags_in ws) w.before.loop.p (within w) (omega arith) in
+    let r = rank_here tag (tags_in ws) w.loop-p.p (within w) (omega arith) in
     (omega arith, (omega arith, λ up. omega (arith, rank_counts_below tag (tags_in ws) up)))
 
-add-p : tie.Need-overflow-add-p invariant-loop decreases-loop
+add-p : tie.Need-overflow_add-p-in-loop-p invariant-loop decreases-loop
 add-p c = omega arith
 
-loop_less : tie.Need-loop-smaller invariant-loop decreases-loop
+loop_less : tie.Need-loop-p-smaller invariant-loop decreases-loop
 loop_less c = omega arith
 
-loop_again : tie.Need-loop-preserved invariant-loop decreases-loop
+loop_again : tie.Need-loop-p-preserved invariant-loop decreases-loop
 loop_again c =
-    let w = c.before.before in
-    let ws = w.before.before.args.w.now in
+    let w = c.before.before.before in
+    let ws = w.args.w.now in
     let e = tag_at ws _ (within w) in
-    let r = rank_on w.before.before.args.tag (tags_in ws) w.before.loop.p (within w) (omega arith) in
+    let r = rank_on w.args.tag (tags_in ws) w.loop-p.p (within w) (omega arith) in
     (omega arith, omega arith)
 
-returns_2 : tie.Need-returns-2 invariant-loop decreases-loop
+returns_2 : tie.Need-returns invariant-loop decreases-loop
 returns_2 c =
-    let tag = c.before.before.args.tag in
-    let ws = c.before.before.args.w.now in
-    let r = rank_end tag (tags_in ws) c.before.loop.p (omega arith) in
+    let tag = c.args.tag in
+    let ws = c.args.w.now in
+    let r = rank_end tag (tags_in ws) c.loop-p.p (omega arith) in
     (omega arith, (omega arith, λ up. omega (arith, rank_counts_below tag (tags_in ws) up)))
 
-pub position-spec : {M : Type 1} → statement M
-position-spec =
+pub position_spec : {M : Type 1} → statement M
+position_spec =
     tie.close
     (tie.spec
     invariant-loop

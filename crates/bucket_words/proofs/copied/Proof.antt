@@ -10,44 +10,44 @@ use Rattle.bucket_words.proofs.Laws.{paste_more}
 use Rattle.bucket_words.proofs.copied.Statement.{statement}
 use Rattle.bucket_words.proofs.copied.Tie as tie
 
-abbrev invariant-loop : tie.invariant-loop
+abbrev invariant-loop : tie.invariant-loop-i
 invariant-loop at s from n out₀ i₀ out i = (i ≤ n) × (out ≡ paste out₀ at (drop from s) i)
 
-abbrev decreases-loop : tie.decreases-loop
+abbrev decreases-loop : tie.decreases-loop-i
 decreases-loop at s from n out₀ i₀ out i = n - i
 
 len : (c : tie.Start invariant-loop decreases-loop) → length c.args.d ≡ 66
 len c = search rules
 
-loop_holds : tie.Need-loop-init invariant-loop decreases-loop
+loop_holds : tie.Need-loop-i-init invariant-loop decreases-loop
 loop_holds c = (omega arith, paste-zero c.args.d c.args.at (drop c.args.from c.args.s.now))
 
-add-out : tie.Need-overflow-add-out invariant-loop decreases-loop
+add-out : tie.Need-overflow_add-out invariant-loop decreases-loop
 add-out c = omega arith
 
-element-copy-out-out : tie.Need-element-copy-out-out invariant-loop decreases-loop
+element-copy-out-out : tie.Need-bounds-s-from invariant-loop decreases-loop
 element-copy-out-out c = omega arith
 
-add-out-2 : tie.Need-overflow-add-out-2 invariant-loop decreases-loop
+add-out-2 : tie.Need-overflow_add-out-in-loop-i invariant-loop decreases-loop
 add-out-2 c = omega arith
 
-array-write-out : tie.Need-array-write-out invariant-loop decreases-loop
+array-write-out : tie.Need-bounds-out-at invariant-loop decreases-loop
 array-write-out c = omega arith
 
-loop_again : tie.Need-loop-preserved invariant-loop decreases-loop
+loop_again : tie.Need-loop-i-preserved invariant-loop decreases-loop
 loop_again c =
-    let a = c.before.before.before.args in
-    let l = c.before.before.loop in
-    (omega arith, paste_more a.d a.at a.from a.s.now l.i l.out l.invariant.1 (omega (arith, len c.before.before.before)) (omega arith))
+    let a = c.args in
+    let l = c.loop-i in
+    (omega arith, paste_more a.d a.at a.from a.s.now l.i l.out l.invariant.1 (omega (arith, len c.before.before.before.before)) (omega arith))
 
 returns : tie.Need-returns invariant-loop decreases-loop
 returns c =
-    let l = c.before.loop in
-    let e : l.i ≡ c.before.before.args.n = omega arith in
+    let l = c.loop-i in
+    let e : l.i ≡ c.args.n = omega arith in
     rw (← e) l.invariant.1
 
-pub copied-spec : {M : Type 1} → statement M
-copied-spec =
+pub copied_spec : {M : Type 1} → statement M
+copied_spec =
     tie.close
     (tie.spec
     invariant-loop

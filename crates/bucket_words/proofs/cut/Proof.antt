@@ -6,18 +6,18 @@ use borrow.Author.Rules.{rules}
 use Rattle.bucket_words.proofs.cut.Statement.{statement}
 use Rattle.bucket_words.proofs.cut.Tie as tie
 
-copied-requires : tie.Need-copied-requires
+copied-requires : tie.Need-copied-out-requires
 copied-requires c κs = omega arith
 
-copied-requires-2 : tie.Need-copied-requires-2
+copied-requires-2 : tie.Need-copied-requires
 copied-requires-2 c κs = omega arith
 
 returns : tie.Need-returns
 returns c =
     let s = c.before.before in
     let a = s.args in
-    cut_bucket 1 a.n a.p a.w.now s.requires.0 s.requires.1 c.before.copied.result c.copied2.result a.tag s.requires.2
-    s.requires.3 s.requires.4 s.requires.5 c.before.copied.ensures c.copied2.ensures
+    cut_bucket 1 a.n a.p a.w.now s.requires.0 s.requires.1 c.copied-out.result c.copied.result a.tag s.requires.2
+    s.requires.3 s.requires.4 s.requires.5 c.copied-out.ensures c.copied.ensures
 
 pub cut_spec : {M : Type 1} → statement M
 cut_spec =

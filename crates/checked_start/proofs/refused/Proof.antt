@@ -6,7 +6,7 @@ use Rattle.checked_start.proofs.refused.Tie as tie
 
 returns : tie.Need-returns
 unfolding refusal
-returns c = λ s at_head at_node at-bucket. rw (at_head, at_node, at-bucket, c.idle.ensures)
+returns c = λ s at_head at_node at-bucket. rw (at_head, at_node, at-bucket, c.idle-x.ensures)
 
-pub refused-spec : {M : Type 1} → statement M
-refused-spec = tie.close (tie.spec (λ c κs. search rules) returns)
+pub refused_spec : {M : Type 1} → statement M
+refused_spec = tie.close (tie.spec (λ c κs. search rules) returns)

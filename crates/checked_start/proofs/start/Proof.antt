@@ -6,7 +6,7 @@ use Rattle.checked_start.proofs.start.Tie as tie
 
 returns : tie.Need-returns
 returns c =
-    let a = c.before.before.args in
+    let a = c.args in
     λ ns bs e. c.start_of.ensures a.s ns bs refl refl refl refl e
 
 pub start_spec : {M : Type 1} → statement M

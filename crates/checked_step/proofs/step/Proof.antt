@@ -21,15 +21,15 @@ use Rattle.checked_step.proofs.step.Tie as tie
 
 -- ---- what is known at a place
 
-abbrev start : tie.After-barred → tie.Start
+abbrev start : tie.After-barred-why → tie.Start
 start p = p.before.before.before.before
 
-abbrev machine : tie.After-barred → Machine
+abbrev machine : tie.After-barred-why → Machine
 machine p = let a = (start p).args in machine_of a.s a.ns.now a.bs.now
 
 -- past the refusals
-module _ (p : tie.Else2) where
-  abbrev b : tie.After-barred
+module _ (p : tie.Else-not-running) where
+  abbrev b : tie.After-barred-why
   b = p.before.before.before
 
   abbrev y : Machine
@@ -42,87 +42,87 @@ module _ (p : tie.Else2) where
   d = (start b).args.d
 
   passed : (sound y ≡ true) × (k < y.state.config.tasks)
-  passed = (b.barred.ensures y (tells y k d (start b).pre) refl).passed p.before.before.if1.left
+  passed = (b.barred-why.ensures y (tells y k d (start b).requires) refl).passed p.if-why-ne0.false
 
   same : d.task ≡ task_of y k
-  same = reads y k d (start b).pre passed.0
+  same = reads y k d (start b).requires passed.0
 
   running : d.task.running ≡ true
-  running = not-false _ p.if2.left
+  running = not-false _ p.if-not-running.false-raw
 
   goes : step y k ≡ step_running y k d.task
-  goes = step_goes y k passed.0 passed.1 (runs_as y k d (start b).pre passed.0 running) ∙ ap (step_running y k) (sym same)
+  goes = step_goes y k passed.0 passed.1 (runs_as y k d (start b).requires passed.0 running) ∙ ap (step_running y k) (sym same)
 
   facts : RunFacts y k d.task
-  facts = facts_as y k d (start b).pre passed.0 running
+  facts = facts_as y k d (start b).requires passed.0 running
 
   runs : (ls : List ℕ) → member d.task.line ls ≡ true → Runs y k d.task ls
   runs ls at = record { is_sound = passed.0; task = facts; at_line = at }
 
 -- ---- the refusals
 
-returns : tie.Need-returns
+returns : tie.Need-returns-then-why-ne0
 returns c =
     let p = c.before.before in
     let a = (start p).args in
-    let bars = p.barred.ensures (machine p) (tells (machine p) a.k a.d (start p).requires) refl in
-    refusing _ c.refused.ensures (bars.steps c.before.if1.true)
+    let bars = p.barred-why.ensures (machine p) (tells (machine p) a.k a.d (start p).requires) refl in
+    refusing _ c.refused.ensures (bars.steps c.if-why-ne0.true)
 
-returns_2 : tie.Need-returns-2
+returns_2 : tie.Need-returns-then-not-running
 returns_2 c =
     let at-if1 = c.before.before.before in
     let p = at-if1.before in
     let y = machine p in
     let a = (start p).args in
-    let passed = (p.barred.ensures y (tells y a.k a.d (start p).requires) refl).passed at-if1.if1.false in
-    let rests = runs_as y a.k a.d (start p).requires passed.0 (not-true _ c.before.if2.true) in
-    refusing 6 c.refused2.ensures (step_idle y _ passed.0 passed.1 rests)
+    let passed = (p.barred-why.ensures y (tells y a.k a.d (start p).requires) refl).passed at-if1.if-why-ne0.false in
+    let rests = runs_as y a.k a.d (start p).requires passed.0 (not-true _ c.if-not-running.true-raw) in
+    refusing 6 c.refused-then-not-running.ensures (step_idle y _ passed.0 passed.1 rests)
 
 -- ---- the four procedures
 
 step-requires : tie.Need-step-requires
 step-requires c κs =
-    let at-if3 = c.before.before in
+    let at-if3 = c in
     let p = at-if3.before in
-    runs p contains_lines (at_contains _ _ (facts p).line at-if3.if3.true)
+    runs p contains_lines (at_contains _ _ (facts p).line at-if3.if-line-lt20.true)
 
-returns_3 : tie.Need-returns-3
-returns_3 c = gives_as (sym (goes c.before.before.before.before)) c.step.ensures
+returns_3 : tie.Need-returns-then-line-lt20
+returns_3 c = gives_as (sym (goes c.before.before)) c.step.ensures
 
-step-requires-2 : tie.Need-step-requires-2
+step-requires-2 : tie.Need-step-requires-then-line-lt32
 step-requires-2 c κs =
     let at-if4 = c.before in
     let p = at-if4.before.before in
-    (_, runs p resize_lines (at_resize _ _ (facts p).line at-if4.before.if3.false at-if4.if4.true))
+    (_, runs p resize_lines (at_resize _ _ (facts p).line at-if4.if-line-lt20.false at-if4.if-line-lt32.true))
 
-returns_4 : tie.Need-returns-4
+returns_4 : tie.Need-returns-then-line-lt32
 returns_4 c =
     let called = c.before.before in
-    gives_as (sym (goes called.before.before.before.before)) (called.step2.ensures _)
+    gives_as (sym (goes called.before.before.before.before)) (called.step-then-line-lt32.ensures _)
 
-step-requires-3 : tie.Need-step-requires-3
+step-requires-3 : tie.Need-step-requires-then-line-lt39
 step-requires-3 c κs =
-    let at-if5 = c.before.before in
+    let at-if5 = c.before in
     let p = at-if5.before.before.before in
-    runs p apply_lines (at_apply _ _ (facts p).line at-if5.before.if4.false at-if5.if5.true)
+    runs p apply_lines (at_apply _ _ (facts p).line at-if5.if-line-lt32.false at-if5.if-line-lt39.true)
 
-returns-5 : tie.Need-returns-5
+returns-5 : tie.Need-returns-then-line-lt39
 returns-5 c =
     let called = c.before.before in
     let at-if5 = called.before.before.before in
-    gives_as (sym (goes at-if5.before.before.before)) called.step3.ensures
+    gives_as (sym (goes at-if5.before.before)) called.step-then-line-lt39.ensures
 
-step-requires-4 : tie.Need-step-requires-4
+step-requires-4 : tie.Need-step-requires-2
 step-requires-4 c κs =
     let at-if5 = c.before.before in
     let p = at-if5.before.before.before in
-    runs p init_bucket_lines (at_init_bucket _ _ (facts p).line at-if5.if5.false)
+    runs p init_bucket_lines (at_init_bucket _ _ (facts p).line at-if5.if-line-lt39.false)
 
-returns-6 : tie.Need-returns-6
+returns-6 : tie.Need-returns
 returns-6 c =
     let called = c.before.before.before.before in
     let at-if5 = called.before.before.before in
-    gives_as (sym (goes at-if5.before.before.before)) called.step4.ensures
+    gives_as (sym (goes at-if5.before.before.before)) called.step-2.ensures
 
 pub step_spec : {M : Type 1} → statement M
 step_spec =

@@ -4,10 +4,10 @@ use Rattle.compare.proofs.run.Statement.{statement}
 use Rattle.compare.proofs.run.Tie as tie
 use borrow.Author.Rules.{rules}
 
-abbrev invariant-loop : tie.invariant-loop
+abbrev invariant-loop : tie.invariant-loop-left
 invariant-loop text m₀ ns₀ bs₀ left₀ m ns bs left = (left ≤ 10000000)
 
-abbrev decreases-loop : tie.decreases-loop
+abbrev decreases-loop : tie.decreases-loop-left
 decreases-loop text m₀ ns₀ bs₀ left₀ m ns bs left = left
 
 pub run_spec : {M : Type 1} → statement M

@@ -7,28 +7,28 @@ use borrow.Author.Rules.{rules}
 use Rattle.coop.proofs.start.Statement.{statement}
 use Rattle.coop.proofs.start.Tie as tie
 
-returns : tie.Need-returns
+returns : tie.Need-returns-then-not-sound
 unfolding entries.start
 returns c =
     let at-if1 = c.before in
-    rw (sym at-if1.before.sound.ensures ∙ not-true _ at-if1.if1.true) (c.refused.ensures _)
+    rw (sym at-if1.sound.ensures ∙ not-true _ at-if1.if-not-sound.true-raw) (c.refused.ensures _)
 
-returns_2 : tie.Need-returns-2
+returns_2 : tie.Need-returns-then-s-k
 unfolding entries.start
 returns_2 c =
     let at-if2 = c.before in
     let at-if1 = at-if2.before.before in
-    let passes = sym at-if1.before.sound.ensures ∙ not-false _ at-if1.if1.false in
-    rw (passes, le-ltb _ _ at-if2.if2.true) (c.refused2.ensures _)
+    let passes = sym at-if1.sound.ensures ∙ not-false _ at-if1.if-not-sound.false-raw in
+    rw (passes, le-ltb _ _ at-if2.if-s-k.true) (c.refused-then-s-k.ensures _)
 
-returns_3 : tie.Need-returns-3
+returns_3 : tie.Need-returns
 unfolding entries.start start_of_task
 returns_3 c =
     let at-if2 = c.before in
     let at-if1 = at-if2.before.before in
-    let a = at-if1.before.before.before.args in
-    let passes = sym at-if1.before.sound.ensures ∙ not-false _ at-if1.if1.false in
-    rw (passes, lt-ltb _ _ at-if2.if2.false) (c.start_of_task.ensures a.vs.now)
+    let a = at-if1.args in
+    let passes = sym at-if1.sound.ensures ∙ not-false _ at-if1.if-not-sound.false-raw in
+    rw (passes, lt-ltb _ _ at-if2.if-s-k.false) (c.start_of_task.ensures a.vs.now)
 
 pub start_spec : {M : Type 1} → statement M
 start_spec =

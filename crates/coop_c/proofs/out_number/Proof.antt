@@ -7,25 +7,25 @@ use borrow.Author.Rules.{rules}
 use Rattle.coop_c.proofs.out_number.Statement.{statement}
 use Rattle.coop_c.proofs.out_number.Tie as tie
 
-add-result : tie.Need-overflow-add-result
+add-result : tie.Need-overflow_add-result
 unfolding out_number
 add-result c =
-    let at-o = c.before in
-    let entry = at-o.before.before in
-    let z : out_number (Refuse at-o.o.given.0.0) ≤ 511 = rw at-o.o.given.1 at entry.requires in omega arith
+    let at-o = c in
+    let entry = at-o in
+    let z : out_number (Refuse at-o.in-Refuse.why) ≤ 511 = rw at-o.in-Refuse.is at entry.requires in omega arith
 
-returns : tie.Need-returns
+returns : tie.Need-returns-in-At
 unfolding out_number
-returns c = rw c.enum_told.given.1
+returns c = rw c.in-At.is
 
-returns_2 : tie.Need-returns-2
+returns_2 : tie.Need-returns-in-End
 unfolding out_number
-returns_2 c = rw c.enum-told2.given.1
+returns_2 c = rw c.in-End.is
 
-returns_3 : tie.Need-returns-3
+returns_3 : tie.Need-returns-in-Refuse
 unfolding out_number
-returns_3 c = rw c.before.o.given.1
+returns_3 c = rw c.in-Refuse.is
 
-pub out-number-spec : {M : Type 1} → statement M
-out-number-spec =
+pub out_number_spec : {M : Type 1} → statement M
+out_number_spec =
     tie.close (tie.spec (λ c. search rules) (λ c. search rules) (λ c. search rules) add-result returns returns_2 returns_3)

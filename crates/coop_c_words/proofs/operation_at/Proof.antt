@@ -9,8 +9,8 @@ returns : tie.Need-returns
 unfolding operation_at
 returns c = refl
 
-pub operation-at-spec : {M : Type 1} → statement M
-operation-at-spec =
+pub operation_at_spec : {M : Type 1} → statement M
+operation_at_spec =
     tie.close
     (tie.spec
     (λ c. search rules)

@@ -10,8 +10,8 @@ returns : tie.Need-returns
 unfolding operation_fits bit_fits
 returns c = refl
 
-pub operation-fits-spec : {M : Type 1} → statement M
-operation-fits-spec =
+pub operation_fits_spec : {M : Type 1} → statement M
+operation_fits_spec =
     tie.close
     (tie.spec
     (λ c. search rules)

@@ -7,27 +7,27 @@ use borrow.Author.Rules.{rules}
 use Rattle.coop_c_words.proofs.operations_of_words.Statement.{statement}
 use Rattle.coop_c_words.proofs.operations_of_words.Tie as tie
 
-abbrev invariant-loop : tie.invariant-loop
+abbrev invariant-loop : tie.invariant-loop-k
 invariant-loop w all₀ k₀ all k = Filled (λ j. operation_at w (operation_place j)) 64 all k
 
-abbrev decreases-loop : tie.decreases-loop
+abbrev decreases-loop : tie.decreases-loop-k
 decreases-loop w all₀ k₀ all k = 64 - k
 
-loop_holds : tie.Need-loop-init invariant-loop decreases-loop
+loop_holds : tie.Need-loop-k-init invariant-loop decreases-loop
 loop_holds c = filled_none _ 64 _ refl
 
-loop_again : tie.Need-loop-preserved invariant-loop decreases-loop
+loop_again : tie.Need-loop-k-preserved invariant-loop decreases-loop
 loop_again c =
     let at_read = c.before in
     let at-loop = at_read.before in
-    filled_on _ 64 _ _ at-loop.loop.invariant at_read.loop-test.true _ c.operation-at2.ensures
+    filled_on _ 64 _ _ at-loop.loop-k.invariant at_read.loop-k-test.true _ c.operation_at-op.ensures
 
 returns : tie.Need-returns invariant-loop decreases-loop
 unfolding operations_of_words
-returns c = filled_all _ 64 _ _ c.before.loop.invariant c.loop-test.false
+returns c = filled_all _ 64 _ _ c.loop-k.invariant c.loop-k-test.false
 
-pub operations-of-words-spec : {M : Type 1} → statement M
-operations-of-words-spec =
+pub operations_of_words_spec : {M : Type 1} → statement M
+operations_of_words_spec =
     tie.close
     (tie.spec
     invariant-loop

@@ -26,12 +26,12 @@ returns c =
     let v = operation_words a.op in
     let l : 5 ≤ length (drop i p) = rw (length-drop i p) (omega (arith, entry.requires)) in
     let fits : write_front (drop i p) v ≡ overwrite (drop i p) 0 v = rw (le-leb 5 (length (drop i p)) l) in
-    let e : at-write.write-over.new.0 ≡ write_front (drop i p) v =
-    rw (bit3.bit3.ensures, bit2.bit2.ensures, bit1.bit.ensures, rest p i) at at-write.write-over.ensures in
-    back p i v at-write.write-over.new.0 (e ∙ fits)
+    let e : at-write.write_over.new.part ≡ write_front (drop i p) v =
+    rw (bit3.bit-3.ensures, bit2.bit-2.ensures, bit1.bit.ensures, rest p i) at at-write.write_over.ensures in
+    back p i v at-write.write_over.new.part (e ∙ fits)
 
-pub put-operation-spec : {M : Type 1} → statement M
-put-operation-spec =
+pub put_operation_spec : {M : Type 1} → statement M
+put_operation_spec =
     tie.close
     (tie.spec
     (λ c κs. search rules)

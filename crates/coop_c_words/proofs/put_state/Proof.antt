@@ -18,10 +18,10 @@ returns c =
     let s = entry.args.s in
     let then-tasks : List ℕ → List ℕ = λ u. overwrite u 325 (tasks_words s.task) in
     let then-operations : List ℕ → List ℕ = λ u. overwrite u 5 (operations_words s.operation) in
-    at_tasks.put-tasks.ensures ∙ ap then-tasks at-operations.put-operations.ensures
+    at_tasks.put_tasks.ensures ∙ ap then-tasks at-operations.put_operations.ensures
     ∙ ap (λ (u : List ℕ). then-tasks (then-operations u)) at_first.put_first.ensures ∙ whole s entry.args.w.now entry.requires
 
-pub put-state-spec : {M : Type 1} → statement M
-put-state-spec =
+pub put_state_spec : {M : Type 1} → statement M
+put_state_spec =
     tie.close
     (tie.spec (λ c κs. search rules) (λ c κs. search rules) (λ c κs. search rules) (λ c. search rules) returns)

@@ -7,18 +7,18 @@ use borrow.Author.Rules.{rules}
 use Rattle.coop_c_words.proofs.state_fits.Statement.{statement}
 use Rattle.coop_c_words.proofs.state_fits.Tie as tie
 
-returns : tie.Need-returns
+returns : tie.Need-returns-then-w-ne-STATE_WORDS
 unfolding state_fits
-returns c = rw (ne_eqb _ _ c.if1.true)
+returns c = rw (ne_eqb _ _ c.if-w-ne-STATE_WORDS.true)
 
-returns_2 : tie.Need-returns-2
+returns_2 : tie.Need-returns
 unfolding state_fits bit_fits
 returns_2 c =
     let at-operations = c.before in
-    let long = eq-eqb _ 397 at-operations.before.before.if1.false in
-    rw (c.tasks_fit.ensures, at-operations.operations_fit.ensures, long) refl
+    let long = eq-eqb _ 397 at-operations.if-w-ne-STATE_WORDS.false in
+    rw (c.tasks_fit-tasks.ensures, at-operations.operations_fit-operations.ensures, long) refl
 
-pub state-fits-spec : {M : Type 1} → statement M
-state-fits-spec =
+pub state_fits_spec : {M : Type 1} → statement M
+state_fits_spec =
     tie.close
     (tie.spec returns (λ c. search rules) (λ c κs. search rules) (λ c κs. search rules) returns_2)

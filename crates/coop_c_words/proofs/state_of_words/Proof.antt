@@ -9,10 +9,10 @@ returns : tie.Need-returns
 unfolding state_of_words
 returns c =
     let at_tasks = c.before.before.before.before.before in
-    rw (at_tasks.tasks_of_words.ensures, at_tasks.before.operations_of_words.ensures) refl
+    rw (at_tasks.tasks_of_words-task.ensures, at_tasks.operations_of_words-operation.ensures) refl
 
-pub state-of-words-spec : {M : Type 1} → statement M
-state-of-words-spec =
+pub state_of_words_spec : {M : Type 1} → statement M
+state_of_words_spec =
     tie.close
     (tie.spec
     (λ c κs. search rules)

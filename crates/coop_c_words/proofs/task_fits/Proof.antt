@@ -10,8 +10,8 @@ returns : tie.Need-returns
 unfolding task_fits bit_fits own_fits
 returns c = refl
 
-pub task-fits-spec : {M : Type 1} → statement M
-task-fits-spec =
+pub task_fits_spec : {M : Type 1} → statement M
+task_fits_spec =
     tie.close
     (tie.spec
     (λ c. search rules)

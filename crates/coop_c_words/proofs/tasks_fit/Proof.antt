@@ -8,35 +8,35 @@ use borrow.Author.Rules.{rules}
 use Rattle.coop_c_words.proofs.tasks_fit.Statement.{statement}
 use Rattle.coop_c_words.proofs.tasks_fit.Tie as tie
 
-abbrev invariant-loop : tie.invariant-loop
+abbrev invariant-loop : tie.invariant-loop-k
 invariant-loop w k₀ k = (k ≤ 8) × Passed (λ j. task_fits w (task_place j)) 8 k
 
-abbrev decreases-loop : tie.decreases-loop
+abbrev decreases-loop : tie.decreases-loop-k
 decreases-loop w k₀ k = 8 - k
 
-loop_holds : tie.Need-loop-init invariant-loop decreases-loop
+loop_holds : tie.Need-loop-k-init invariant-loop decreases-loop
 loop_holds c = (search rules, passed_none _ 8)
 
-returns : tie.Need-returns invariant-loop decreases-loop
+returns : tie.Need-returns-then-not-task_fits invariant-loop decreases-loop
 unfolding tasks_fit
 returns c =
     let at-fits = c.before in
     let at_test = at-fits.before in
-    fails _ 8 _ at_test.before.loop.invariant.1 at_test.loop-test.true (sym at-fits.task_fits.ensures ∙ not-true _ c.if1.true)
+    fails _ 8 _ at_test.loop-k.invariant.1 at_test.loop-k-test.true (sym at-fits.task_fits.ensures ∙ not-true _ c.if-not-task_fits.true-raw)
 
-loop_again : tie.Need-loop-preserved invariant-loop decreases-loop
+loop_again : tie.Need-loop-k-preserved invariant-loop decreases-loop
 loop_again c =
     let at-fits = c.before in
     let at_test = at-fits.before in
-    let passes = sym at-fits.task_fits.ensures ∙ not-false _ c.if1.false in
-    (search rules, passed_on _ 8 _ at_test.before.loop.invariant.1 at_test.loop-test.true passes)
+    let passes = sym at-fits.task_fits.ensures ∙ not-false _ c.if-not-task_fits.false-raw in
+    (search rules, passed_on _ 8 _ at_test.loop-k.invariant.1 at_test.loop-k-test.true passes)
 
-returns_2 : tie.Need-returns-2 invariant-loop decreases-loop
+returns_2 : tie.Need-returns invariant-loop decreases-loop
 unfolding tasks_fit
-returns_2 c = passed_all _ 8 _ c.before.loop.invariant.1 c.loop-test.false
+returns_2 c = passed_all _ 8 _ c.loop-k.invariant.1 c.loop-k-test.false
 
-pub tasks-fit-spec : {M : Type 1} → statement M
-tasks-fit-spec =
+pub tasks_fit_spec : {M : Type 1} → statement M
+tasks_fit_spec =
     tie.close
     (tie.spec
     invariant-loop

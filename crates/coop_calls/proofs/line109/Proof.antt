@@ -17,8 +17,8 @@ returns c =
     let start = at-with-flag.before in
     let a = start.args in
     λ vs.
-    let raised = ap (λ (z : Machine). accept z a.k a.c.own (moves (to_line 120 a.c))) (at-with-flag.with_flag.ensures vs) in
-    c.go-line.ensures vs ∙ raised ∙ sym (plain (machine_of a.s vs) a.k a.c 109 start.requires refl)
+    let raised = ap (λ (z : Machine). accept z a.k a.c.own (moves (to_line 120 a.c))) (at-with-flag.with_flag-t.ensures vs) in
+    c.go_line.ensures vs ∙ raised ∙ sym (plain (machine_of a.s vs) a.k a.c 109 start.requires refl)
 
-pub line109-spec : {M : Type 1} → statement M
-line109-spec = tie.close (tie.spec (λ c κs. search rules) (λ c κs. search rules) returns)
+pub line109_spec : {M : Type 1} → statement M
+line109_spec = tie.close (tie.spec (λ c κs. search rules) (λ c κs. search rules) returns)

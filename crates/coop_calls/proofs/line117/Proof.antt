@@ -21,8 +21,8 @@ returns c =
     let a = start.args in
     λ vs.
     let y = machine_of a.s vs in
-    let r = at-yes-no.yes_no.ensures ∙ ap (λ (q : Operation). yes_no q.resp) (at-operation.operation.ensures vs) in
+    let r = at-yes-no.yes_no-a.ensures ∙ ap (λ (q : Operation). yes_no q.resp) (at-operation.operation-op.ensures vs) in
     c.end.ensures vs ∙ ap (λ (x : Answer). accept y a.k a.c.own (answers x)) r ∙ sym (plain (machine_of a.s vs) a.k a.c 117 start.requires refl)
 
-pub line117-spec : {M : Type 1} → statement M
-line117-spec = tie.close (tie.spec (λ c κs. search rules) (λ c κs. search rules) (λ c κs. search rules) returns)
+pub line117_spec : {M : Type 1} → statement M
+line117_spec = tie.close (tie.spec (λ c κs. search rules) (λ c κs. search rules) (λ c κs. search rules) returns)

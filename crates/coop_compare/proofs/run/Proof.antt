@@ -6,10 +6,10 @@ use borrow.Author.Rules.{rules}
 use lib.ListN.{length}
 use mathlib.Core.Path.{◌≡◌}
 
-abbrev invariant-loop : tie.invariant-loop
+abbrev invariant-loop : tie.invariant-loop-i
 invariant-loop text m₀ i₀ m i = (i ≤ length text) × (length m ≡ length m₀)
 
-abbrev decreases-loop : tie.decreases-loop
+abbrev decreases-loop : tie.decreases-loop-i
 decreases-loop text m₀ i₀ m i = length text - i
 
 pub run_spec : {M : Type 1} → statement M

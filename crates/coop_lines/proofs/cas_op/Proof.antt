@@ -7,21 +7,21 @@ use borrow.Author.Rules.{rules}
 use Rattle.coop_lines.proofs.cas_op.Statement.{statement}
 use Rattle.coop_lines.proofs.cas_op.Tie as tie
 
-returns : tie.Need-returns
-returns c = (λ s. sym (not-true _ c.if1.true) ∙ c.before.no_op.ensures s, refl)
+returns : tie.Need-returns-then-not-no_op
+returns c = (λ s. sym (not-true _ c.if-not-no_op.true-raw) ∙ c.no_op.ensures s, refl)
 
-returns_2 : tie.Need-returns-2
+returns_2 : tie.Need-returns
 returns_2 c =
     let at-set-op-word = c.before.before in
     let at-number-of = at-set-op-word.before.before in
     let at-if1 = at-number-of.before in
-    let a = at-if1.before.before.before.before.args in
+    let a = at-if1.args in
     let vs = a.vs.now in
-    let written = at-set-op-word.set-op-word.ensures ∙ ap (λ (k : ℕ). set vs (66 * k) a.m) at-number-of.number_of.ensures in
-    (λ s. sym (not-false _ at-if1.if1.false) ∙ at-if1.before.no_op.ensures s, written)
+    let written = at-set-op-word.set_op_word.ensures ∙ ap (λ (k : ℕ). set vs (66 * k) a.m) at-number-of.number_of-k.ensures in
+    (λ s. sym (not-false _ at-if1.if-not-no_op.false-raw) ∙ at-if1.no_op.ensures s, written)
 
-pub cas-op-spec : {M : Type 1} → statement M
-cas-op-spec =
+pub cas_op_spec : {M : Type 1} → statement M
+cas_op_spec =
     tie.close
     (tie.spec
     (λ c κs. search rules)

@@ -3,11 +3,11 @@ use borrow.Author.Rules.{rules}
 use Rattle.coop_lines.proofs.choose.Statement.{statement}
 use Rattle.coop_lines.proofs.choose.Tie as tie
 
-returns : tie.Need-returns
-returns c = λ vs. rw c.before.if1.true (c.go-line.ensures vs)
+returns : tie.Need-returns-then-b
+returns c = λ vs. rw c.if-b.true (c.go_line.ensures vs)
 
-returns_2 : tie.Need-returns-2
-returns_2 c = λ vs. rw c.before.if1.false (c.go-line2.ensures vs)
+returns_2 : tie.Need-returns
+returns_2 c = λ vs. rw c.if-b.false (c.go_line-2.ensures vs)
 
 pub choose_spec : {M : Type 1} → statement M
 choose_spec = tie.close (tie.spec (λ c κs. search rules) returns (λ c κs. search rules) returns_2)

@@ -14,8 +14,8 @@ returns c =
     let at-idle = c.before in
     let at-one-more = at-idle.before in
     let start = at-one-more.before in
-    let reply : Machine → Reply = λ m. record { out = End start.args.a at-one-more.one-more-own-step.result; machine = m } in
-    λ vs. rw (← at-one-more.one-more-own-step.ensures, ← at-idle.idle.ensures) (ap reply (c.with_task.ensures vs))
+    let reply : Machine → Reply = λ m. record { out = End start.args.a at-one-more.one_more_own_step-n.result; machine = m } in
+    λ vs. rw (← at-one-more.one_more_own_step-n.ensures, ← at-idle.idle-w.ensures) (ap reply (c.with_task-t.ensures vs))
 
-pub end-spec : {M : Type 1} → statement M
-end-spec = tie.close (tie.spec (λ c κs. search rules) (λ c κs. search rules) (λ c κs. search rules) returns)
+pub end_spec : {M : Type 1} → statement M
+end_spec = tie.close (tie.spec (λ c κs. search rules) (λ c κs. search rules) (λ c κs. search rules) returns)

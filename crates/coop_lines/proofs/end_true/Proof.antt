@@ -13,8 +13,8 @@ returns : tie.Need-returns
 unfolding accept apply_all
 returns c =
     let at-set-returned = c.before in
-    let a = at-set-returned.before.args in
-    λ vs. c.end.ensures vs ∙ ap (λ (z : Machine). accept z a.k a.c.own (answers Yes)) (at-set-returned.set_returned.ensures vs)
+    let a = at-set-returned.args in
+    λ vs. c.end.ensures vs ∙ ap (λ (z : Machine). accept z a.k a.c.own (answers Yes)) (at-set-returned.set_returned-t.ensures vs)
 
-pub end-true-spec : {M : Type 1} → statement M
-end-true-spec = tie.close (tie.spec (λ c κs. search rules) (λ c κs. search rules) returns)
+pub end_true_spec : {M : Type 1} → statement M
+end_true_spec = tie.close (tie.spec (λ c κs. search rules) (λ c κs. search rules) returns)

@@ -14,7 +14,7 @@ returns c =
     let at-one-more = c.before in
     let start = at-one-more.before in
     let reply : Machine → Reply = λ m. record { out = At start.args.x.line; machine = m } in
-    λ vs. rw (← at-one-more.one-more-own-step.ensures) (ap reply (c.with_task.ensures vs))
+    λ vs. rw (← at-one-more.one_more_own_step.ensures) (ap reply (c.with_task-t.ensures vs))
 
-pub go-spec : {M : Type 1} → statement M
-go-spec = tie.close (tie.spec (λ c κs. search rules) (λ c κs. search rules) returns)
+pub go_spec : {M : Type 1} → statement M
+go_spec = tie.close (tie.spec (λ c κs. search rules) (λ c κs. search rules) returns)

@@ -8,5 +8,5 @@ returns : tie.Need-returns
 unfolding to_help
 returns c = λ vs. c.go.ensures vs
 
-pub go-help-spec : {M : Type 1} → statement M
-go-help-spec = tie.close (tie.spec (λ c κs. search rules) returns)
+pub go_help_spec : {M : Type 1} → statement M
+go_help_spec = tie.close (tie.spec (λ c κs. search rules) returns)

@@ -8,5 +8,5 @@ returns : tie.Need-returns
 unfolding to_line
 returns c = λ vs. c.go.ensures vs
 
-pub go-line-spec : {M : Type 1} → statement M
-go-line-spec = tie.close (tie.spec (λ c κs. search rules) returns)
+pub go_line_spec : {M : Type 1} → statement M
+go_line_spec = tie.close (tie.spec (λ c κs. search rules) returns)

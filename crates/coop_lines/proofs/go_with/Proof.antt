@@ -8,5 +8,5 @@ returns : tie.Need-returns
 unfolding to_line_with
 returns c = λ vs. c.go.ensures vs
 
-pub go-with-spec : {M : Type 1} → statement M
-go-with-spec = tie.close (tie.spec (λ c κs. search rules) returns)
+pub go_with_spec : {M : Type 1} → statement M
+go_with_spec = tie.close (tie.spec (λ c κs. search rules) returns)

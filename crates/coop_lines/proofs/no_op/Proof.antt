@@ -12,7 +12,7 @@ returns : tie.Need-returns
 returns c =
     let at-number-of = c.before in
     let start = at-number-of.before.before in
-    λ s. ap (λ (m : ℕ). eqb m 0) (c.op_word.ensures s ∙ ap (op_word (machine_of s start.args.vs.now)) at-number-of.number_of.ensures)
+    λ s. ap (λ (m : ℕ). eqb m 0) (c.op_word-m.ensures s ∙ ap (op_word (machine_of s start.args.vs.now)) at-number-of.number_of-k.ensures)
 
-pub no-op-spec : {M : Type 1} → statement M
-no-op-spec = tie.close (tie.spec (λ c κs. search rules) (λ c κs. search rules) returns)
+pub no_op_spec : {M : Type 1} → statement M
+no_op_spec = tie.close (tie.spec (λ c κs. search rules) (λ c κs. search rules) returns)

@@ -12,28 +12,28 @@ use borrow.Author.Rules.{rules}
 use Rattle.coop_opening.proofs.open.Statement.{statement}
 use Rattle.coop_opening.proofs.open.Tie as tie
 
-returns : tie.Need-returns
+returns : tie.Need-returns-then-not-within
 unfolding opening not_opened
 returns c =
     let at-if1 = c.before in
-    rw (sym at-if1.before.within.ensures ∙ not-true _ at-if1.if1.true, c.fresh-state.ensures)
+    rw (sym at-if1.within.ensures ∙ not-true _ at-if1.if-not-within.true-raw, c.fresh_state-z.ensures)
 
-returns_2 : tie.Need-returns-2
+returns_2 : tie.Need-returns-then-not-fits
 unfolding opening not_opened
 returns_2 c =
     let at-if2 = c.before in
     let at-if1 = at-if2.before.before in
-    let T_fits = sym at-if1.before.within.ensures ∙ not-false _ at-if1.if1.false in
-    rw (T_fits, sym at-if2.before.fits2.ensures ∙ not-true _ at-if2.if2.true, c.fresh-state2.ensures)
+    let T_fits = sym at-if1.within.ensures ∙ not-false _ at-if1.if-not-within.false-raw in
+    rw (T_fits, sym at-if2.before.fits.ensures ∙ not-true _ at-if2.if-not-fits.true-raw, c.fresh_state-z-then-not-fits.ensures)
 
-cast-v : tie.Need-overflow-cast-v
+cast-v : tie.Need-overflow_cast-v
 cast-v c =
     let at-if2 = c.before.before.before.before in
     let start = at-if2.before.before.before.before.before in
-    let p = pool_of (length start.args.vs.now) (sym at-if2.before.fits2.ensures ∙ not-false _ at-if2.if2.false) in
+    let p = pool_of (length start.args.vs.now) (sym at-if2.before.fits.ensures ∙ not-false _ at-if2.if-not-fits.false-raw) in
     omega arith
 
-returns_3 : tie.Need-returns-3
+returns_3 : tie.Need-returns
 unfolding opening fresh_machine
 returns_3 c =
     let at_zero = c.before.before.before in
@@ -41,10 +41,10 @@ returns_3 c =
     let at-if1 = at-if2.before.before in
     let start = at-if1.before.before.before in
     let n = length start.args.vs.now in
-    let T_fits = sym at-if1.before.within.ensures ∙ not-false _ at-if1.if1.false in
-    let pool_fits : pool_fits 66 1024 n ≡ true = sym at-if2.before.fits2.ensures ∙ not-false _ at-if2.if2.false in
+    let T_fits = sym at-if1.within.ensures ∙ not-false _ at-if1.if-not-within.false-raw in
+    let pool_fits : pool_fits 66 1024 n ≡ true = sym at-if2.before.fits.ensures ∙ not-false _ at-if2.if-not-fits.false-raw in
     let whole : 66 * (n / 66) ≡ n = (pool_of n pool_fits).whole in
-    rw (T_fits, pool_fits, c.fresh-state3.ensures, at_zero.zero.ensures, whole)
+    rw (T_fits, pool_fits, c.fresh_state-z-2.ensures, at_zero.zero.ensures, whole)
 
 pub open_spec : {M : Type 1} → statement M
 open_spec =

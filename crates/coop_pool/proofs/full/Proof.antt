@@ -4,23 +4,23 @@ use borrow.Author.Rules.{rules}
 use Rattle.coop_pool.proofs.full.Statement.{statement}
 use Rattle.coop_pool.proofs.full.Tie as tie
 
-returns : tie.Need-returns
+returns : tie.Need-returns-in-Yes
 unfolding is_full
-returns c = rw c.enum_told.given.1
+returns c = rw c.in-Yes.is
 
-returns_2 : tie.Need-returns-2
+returns_2 : tie.Need-returns-in-No
 unfolding is_full
-returns_2 c = rw c.enum-told2.given.1
+returns_2 c = rw c.in-No.is
 
-returns_3 : tie.Need-returns-3
+returns_3 : tie.Need-returns-in-Frozen
 unfolding is_full
-returns_3 c = rw c.enum-told3.given.1
+returns_3 c = rw c.in-Frozen.is
 
-returns_4 : tie.Need-returns-4
+returns_4 : tie.Need-returns-in-Full
 unfolding is_full
-returns_4 c = rw c.enum-told4.given.1
+returns_4 c = rw c.in-Full.is
 
-pub full-spec : {M : Type 1} → statement M
-full-spec =
+pub full_spec : {M : Type 1} → statement M
+full_spec =
     tie.close
     (tie.spec (λ c. search rules) (λ c. search rules) (λ c. search rules) (λ c. search rules) returns returns_2 returns_3 returns_4)

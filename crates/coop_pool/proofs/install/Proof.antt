@@ -21,5 +21,5 @@ returns c =
     let words = at-store-at.store_at.ensures ∙ store_here vs a.k start.requires a.v ∙ ap (λ (l : List ℕ). overwrite vs (66 * a.k) l) e in
     c.with_node.ensures _ ∙ ap (λ (l : List ℕ). with_node a.k (machine_of a.s l)) words
 
-pub install-spec : {M : Type 1} → statement M
-install-spec = tie.close (tie.spec (λ c κs. search rules) (λ c κs. search rules) (λ c. search rules) returns)
+pub install_spec : {M : Type 1} → statement M
+install_spec = tie.close (tie.spec (λ c κs. search rules) (λ c κs. search rules) (λ c. search rules) returns)

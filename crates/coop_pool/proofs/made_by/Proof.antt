@@ -14,9 +14,9 @@ returns c =
     let start = at-opened.before in
     let a = start.args in
     let ts = tags_in a.b.words in
-    let m = makes a.op ts start.requires.0 start.requires.1 at-opened.opened.result at-opened.opened.ensures in
-    rw (at-full.full.ensures, c.freeze.ensures) (ap made_from at-changed-by.changed-by.ensures ∙ m)
+    let m = makes a.op ts start.requires.0 start.requires.1 at-opened.opened-p.result at-opened.opened-p.ensures in
+    rw (at-full.full-f.ensures, c.freeze-v.ensures) (ap made_from at-changed-by.changed_by-d.ensures ∙ m)
 
-pub made-by-spec : {M : Type 1} → statement M
-made-by-spec =
+pub made_by_spec : {M : Type 1} → statement M
+made_by_spec =
     tie.close (tie.spec (λ c κs. search rules) (λ c κs. search rules) (λ c κs. search rules) (λ c κs. search rules) returns)

@@ -17,12 +17,12 @@ few_in : (w : List ℕ) (k : ℕ) → Tagged w k → length (tags w k) ≤ 64
 unfolding tags
 few_in w k v = let f = few_tags w k v.few in rw (length-take (count w k) (drop (66 * k + 2) w)) (omega arith)
 
-made-by-requires : tie.Need-made-by-requires
+made-by-requires : tie.Need-made_by-requires
 made-by-requires c κs =
     let start = c.before.before in
     let a = start.args in
     let v = start.requires in
-    let same = ap (λ (b : Bucket). tags_in b.words) c.load.ensures ∙ tags_at a.vs.now a.k v.few v.fits in
+    let same = ap (λ (b : Bucket). tags_in b.words) c.load-b.ensures ∙ tags_at a.vs.now a.k v.few v.fits in
     rw same (few_in a.vs.now a.k v, ascending_tags a.vs.now a.k v.few v.up)
 
 returns : tie.Need-returns
@@ -31,8 +31,8 @@ returns c =
     let start = at_load.before.before in
     let a = start.args in
     let v = start.requires in
-    let same = ap (λ (b : Bucket). tags_in b.words) at_load.load.ensures ∙ tags_at a.vs.now a.k v.few v.fits in
+    let same = ap (λ (b : Bucket). tags_in b.words) at_load.load-b.ensures ∙ tags_at a.vs.now a.k v.few v.fits in
     c.made_by.ensures ∙ ap (made a.op) same
 
-pub made-of-spec : {M : Type 1} → statement M
-made-of-spec = tie.close (tie.spec (λ c κs. search rules) made-by-requires returns)
+pub made_of_spec : {M : Type 1} → statement M
+made_of_spec = tie.close (tie.spec (λ c κs. search rules) made-by-requires returns)

@@ -10,23 +10,23 @@ use borrow.Author.Rules.{rules}
 use Rattle.coop_pool.proofs.set_op_word.Statement.{statement}
 use Rattle.coop_pool.proofs.set_op_word.Tie as tie
 
-returns : tie.Need-returns
+returns : tie.Need-returns-then-vs-at
 returns c =
     let start = c.before.before in
     let a = start.args in
-    sym (set_out a.vs.now (66 * a.k) a.m c.if1.true)
+    sym (set_out a.vs.now (66 * a.k) a.m c.if-vs-at.true)
 
-returns_2 : tie.Need-returns-2
+returns_2 : tie.Need-returns
 returns_2 c =
     let at-put = c.before.before in
     let at-if1 = at-put.before.before in
     let start = at-if1.before.before in
     let a = start.args in
     let e = at-put.put.ensures ∙ ap (λ (l : List ℕ). set l 0 a.m) (rest a.vs.now (66 * a.k)) in
-    back_set a.vs.now (66 * a.k) a.m at-put.put.new.0 at-if1.if1.false e
+    back_set a.vs.now (66 * a.k) a.m at-put.put.new.s at-if1.if-vs-at.false e
 
-pub set-op-word-spec : {M : Type 1} → statement M
-set-op-word-spec =
+pub set_op_word_spec : {M : Type 1} → statement M
+set_op_word_spec =
     tie.close
     (tie.spec
     (λ c. search rules)

@@ -9,31 +9,31 @@ use borrow.Author.Rules.{rules}
 use Rattle.coop_schedule.proofs.run.Statement.{statement}
 use Rattle.coop_schedule.proofs.run.Tie as tie
 
-returns : tie.Need-returns
+returns : tie.Need-returns-then-refusal-ne0
 returns c =
     let at_open = c.before.before.before.before in
-    let a = at_open.before.before.before.before.before.args in
-    let o = at_open.«open».ensures in
-    let d = c.if1.true in
+    let a = at_open.args in
+    let o = at_open.open-o.ensures in
+    let d = c.if-refusal-ne0.true in
     let refused =
     not_run a.t a.vs.now a.events.now a.outs.now _ (ap (λ (x : Opened). x.refusal) o) _ (ap (λ (x : Opened). x.machine) o) d in
     (refused, (λ z. absurd (d z), (λ z. absurd (d z), λ z. absurd (d z))))
 
-returns_2 : tie.Need-returns-2
+returns_2 : tie.Need-returns
 returns_2 c =
     let at_events = c.before.before.before.before in
     let at_number = at_events.before.before.before in
     let at-if1 = at_number.before in
     let at_open = at-if1.before.before.before.before in
-    let a = at_open.before.before.before.before.before.args in
+    let a = at_open.args in
     let vs = a.vs.now in
-    let refusal = ap (λ (x : Opened). x.refusal) at_open.«open».ensures in
-    let machine = ap (λ (x : Opened). x.machine) at_open.«open».ensures in
-    let z = at-if1.if1.false in
-    let r = at_events.run-events.ensures in
+    let refusal = ap (λ (x : Opened). x.refusal) at_open.open-o.ensures in
+    let machine = ap (λ (x : Opened). x.machine) at_open.open-o.ensures in
+    let z = at-if1.if-refusal-ne0.false in
+    let r = at_events.run_events-z.ensures in
     let ok = sym refusal ∙ z in
     let es = decoded a.events.now a.outs.now in (
-      all_run a.t vs a.events.now a.outs.now _ refusal _ machine z _ at_number.number_of_events.ensures _ r.0 _ r.1,
+      all_run a.t vs a.events.now a.outs.now _ refusal _ machine z _ at_number.number_of_events-n.ensures _ r.0 _ r.1,
       (λ e. linearizable a.t vs ok es, (λ e. at_most_once a.t vs ok es, λ e. never_8 a.t vs ok es)),
     )
 

@@ -5,25 +5,25 @@ use borrow.Author.Rules.{rules}
 use Rattle.coop_schedule.proofs.run_event.Statement.{statement}
 use Rattle.coop_schedule.proofs.run_event.Tie as tie
 
-returns : tie.Need-returns
+returns : tie.Need-returns-in-Start
 unfolding event event_asked
 returns c =
-    let at_call = c.before.before.before in
-    let at-asked = at_call.before.before in
-    let a = at-asked.before.before.args in
-    rw (at-asked.asked_by.ensures a.task a.n a.tag, at_call.call.given.1) c.start.ensures
+    let at_call = c.before in
+    let at-asked = at_call.before in
+    let a = at-asked.args in
+    rw (at-asked.asked_by.ensures a.task a.n a.tag, at_call.in-Start.is) c.start.ensures
 
-returns_2 : tie.Need-returns-2
+returns_2 : tie.Need-returns-in-Step
 unfolding event event_asked
 returns_2 c =
     let at-step = c.before.before in
     let at_told = at-step.before.before in
-    let at-asked = at_told.before.before in
-    let a = at-asked.before.before.args in
-    rw (at-asked.asked_by.ensures a.task a.n a.tag, at_told.enum_told.given.1) at-step.step.ensures
+    let at-asked = at_told.before in
+    let a = at-asked.args in
+    rw (at-asked.asked_by.ensures a.task a.n a.tag, at_told.in-Step.is) at-step.step.ensures
 
-pub run-event-spec : {M : Type 1} → statement M
-run-event-spec =
+pub run_event_spec : {M : Type 1} → statement M
+run_event_spec =
     tie.close
     (tie.spec
     (λ c κs. search rules)

@@ -13,20 +13,20 @@ use borrow.Author.Rules.{rules}
 use Rattle.coop_schedule.proofs.run_events.Statement.{statement}
 use Rattle.coop_schedule.proofs.run_events.Tie as tie
 
-abbrev invariant-loop : tie.invariant-loop
+abbrev invariant-loop : tie.invariant-loop-i
 invariant-loop n events vs₀ outs₀ t₀ i₀ vs outs t i =
     (i ≤ n) × (length vs ≡ length vs₀) × (length outs ≡ length outs₀)
     × Rest (machine_of t₀ vs₀) outs₀ (events_of n events) (machine_of t vs) outs (4 * i) (events_of (n - i) (drop (4 * i) events))
 
-abbrev decreases-loop : tie.decreases-loop
+abbrev decreases-loop : tie.decreases-loop-i
 decreases-loop n events vs₀ outs₀ t₀ i₀ vs outs t i = n - i
 
-loop_holds : tie.Need-loop-init invariant-loop decreases-loop
+loop_holds : tie.Need-loop-i-init invariant-loop decreases-loop
 loop_holds c =
-    let a = c.before.before.before.args in
+    let a = c.args in
     (omega arith, refl, refl, rest_start a.events.now a.n 0 _ _)
 
-loop_again : tie.Need-loop-preserved invariant-loop decreases-loop
+loop_again : tie.Need-loop-i-preserved invariant-loop decreases-loop
 loop_again c =
     let at-write = c.before.before.before in
     let at_words = at-write.before.before in
@@ -36,24 +36,24 @@ loop_again c =
     let start = at-loop.before.before.before.before in
     let a = start.args in
     let room = start.requires.1 in
-    let l = at-loop.loop in
-    let m = at_event.run_event in
-    let o = at-write.write-words in
-    let written = o.ensures ∙ ap (λ (w : List ℕ). overwrite l.outs (4 * l.i) w) at_words.output_words.ensures in (
+    let l = at-loop.loop-i in
+    let m = at_event.run_event-r in
+    let o = at-write.write_words in
+    let written = o.ensures ∙ ap (λ (w : List ℕ). overwrite l.outs (4 * l.i) w) at_words.output_words-w.ensures in (
       omega arith,
-      m.auto.1.1.1.1.1.0 ∙ l.invariant.1,
-      o.auto.0 ∙ l.invariant.2,
-      turn a.events.now a.n l.i at_test.loop-test.true (omega arith) l.invariant.3 _ m.ensures _ written,
+      m.auto.vs ∙ l.invariant.1,
+      o.auto.outs ∙ l.invariant.2,
+      turn a.events.now a.n l.i at_test.loop-i-test.true (omega arith) l.invariant.3 _ m.ensures _ written,
     )
 
 returns : tie.Need-returns invariant-loop decreases-loop
 returns c =
-    let l = c.before.loop in
-    let a = c.before.before.before.before.before.args in
+    let l = c.loop-i in
+    let a = c.args in
     finished a.events.now a.n l.i (omega arith) l.invariant.3
 
-pub run-events-spec : {M : Type 1} → statement M
-run-events-spec =
+pub run_events_spec : {M : Type 1} → statement M
+run_events_spec =
     tie.close
     (tie.spec
     invariant-loop

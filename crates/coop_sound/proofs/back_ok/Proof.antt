@@ -5,19 +5,19 @@ use borrow.Author.Rules.{rules}
 use Rattle.coop_sound.proofs.back_ok.Statement.{statement}
 use Rattle.coop_sound.proofs.back_ok.Tie as tie
 
-returns : tie.Need-returns
+returns : tie.Need-returns-then-among
 unfolding back_of_line help_lines
 returns c =
     let at-is-invoke = c.before.before.before in
     let at-if1 = at-is-invoke.before in
-    rw (at-is-invoke.is-invoke.ensures, sym at-if1.before.among.ensures ∙ at-if1.if1.true)
+    rw (at-is-invoke.is_invoke-i.ensures, sym at-if1.among.ensures ∙ at-if1.if-among.true)
 
-returns_2 : tie.Need-returns-2
+returns_2 : tie.Need-returns
 unfolding back_of_line help_lines
 returns_2 c =
     let at-if1 = c.before in
-    rw (sym at-if1.before.among.ensures ∙ at-if1.if1.false)
+    rw (sym at-if1.among.ensures ∙ at-if1.if-among.false)
 
-pub back-ok-spec : {M : Type 1} → statement M
-back-ok-spec =
+pub back_ok_spec : {M : Type 1} → statement M
+back_ok_spec =
     tie.close (tie.spec (λ c. search rules) (λ c κs. search rules) (λ c κs. search rules) returns returns_2)

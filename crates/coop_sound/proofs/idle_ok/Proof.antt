@@ -10,5 +10,5 @@ returns : tie.Need-returns
 unfolding zeros zero_task every
 returns c = c.zero_words.ensures
 
-pub idle-ok-spec : {M : Type 1} → statement M
-idle-ok-spec = tie.close (tie.spec (λ c. search rules) (λ c. search rules) (λ c κs. search rules) returns)
+pub idle_ok_spec : {M : Type 1} → statement M
+idle_ok_spec = tie.close (tie.spec (λ c. search rules) (λ c. search rules) (λ c κs. search rules) returns)

@@ -9,8 +9,8 @@ use Rattle.coop_sound.proofs.invoked.Tie as tie
 
 returns : tie.Need-returns
 returns c =
-    let a = c.before.before.args in
-    λ y ks. ap (λ (k : ℕ). not (eqb k 0)) c.word.ensures ∙ sym (ks.each a.n)
+    let a = c.args in
+    λ y ks. ap (λ (k : ℕ). not (eqb k 0)) c.word-k.ensures ∙ sym (ks.each a.n)
 
-pub invoked-spec : {M : Type 1} → statement M
-invoked-spec = tie.close (tie.spec (λ c κs. search rules) returns)
+pub invoked_spec : {M : Type 1} → statement M
+invoked_spec = tie.close (tie.spec (λ c κs. search rules) returns)

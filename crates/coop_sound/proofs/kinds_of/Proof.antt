@@ -15,11 +15,11 @@ use borrow.Author.Rules.{rules}
 use Rattle.coop_sound.proofs.kinds_of.Statement.{statement}
 use Rattle.coop_sound.proofs.kinds_of.Tie as tie
 
-abbrev invariant-loop : tie.invariant-loop
+abbrev invariant-loop : tie.invariant-loop-k
 invariant-loop ops kinds₀ k₀ kinds k =
     (k ≤ 64) × (length kinds ≡ 64) × ((n : ℕ) → n < k → get_or kinds n 0 ≡ (get_or ops n never_invoked).kind)
 
-abbrev decreases-loop : tie.decreases-loop
+abbrev decreases-loop : tie.decreases-loop-k
 decreases-loop ops kinds₀ k₀ kinds k = 64 - k
 
 len : (c : tie.Start invariant-loop decreases-loop) → length c.args.s.operation ≡ 64
@@ -35,14 +35,14 @@ stored kinds ops k v e h before n below = go (ℕ_discrete n k)
     go (yes q) = rw q (get_or-set_same kinds k v 0 h ∙ e)
     go (no d) = get_or-set_other kinds k n v 0 d ∙ before n (omega (arith, d))
 
-loop_holds : tie.Need-loop-init invariant-loop decreases-loop
+loop_holds : tie.Need-loop-k-init invariant-loop decreases-loop
 loop_holds c = (omega arith, refl, λ n h. absurd (omega arith))
 
-loop_again : tie.Need-loop-preserved invariant-loop decreases-loop
+loop_again : tie.Need-loop-k-preserved invariant-loop decreases-loop
 loop_again c =
     let at-loop = c.before.before in
     let start = at-loop.before.before in
-    let l = at-loop.loop in
+    let l = at-loop.loop-k in
     let ops = start.args.s.operation in
     let in-ops : l.k < length ops = omega (arith, len start) in
     let read = ap (λ (q : Operation). q.kind) (same_default ops l.k _ never_invoked in-ops) in
@@ -53,11 +53,11 @@ unfolding operation_of
 returns c =
     let at-loop = c.before in
     let start = at-loop.before.before in
-    let i = at-loop.loop.invariant in
+    let i = at-loop.loop-k.invariant in
     λ vs. kinds_all (machine_of start.args.s vs) _ i.1 (λ n h. i.2 n (omega arith))
 
-pub kinds-of-spec : {M : Type 1} → statement M
-kinds-of-spec =
+pub kinds_of_spec : {M : Type 1} → statement M
+kinds_of_spec =
     tie.close
     (tie.spec
     invariant-loop

@@ -9,41 +9,41 @@ use borrow.Author.Rules.{rules}
 use Rattle.coop_sound.proofs.line_ok.Statement.{statement}
 use Rattle.coop_sound.proofs.line_ok.Tie as tie
 
-returns : tie.Need-returns
+returns : tie.Need-returns-then-call-lt-INVOKE_INSERT
 unfolding member
-returns c = rw (lines_none c.before.args.call (omega arith))
+returns c = rw (lines_none c.args.call (omega arith))
 
-returns_2 : tie.Need-returns-2
+returns_2 : tie.Need-returns-then-call-le-INVOKE_REMOVE
 returns_2 c =
     let at-if2 = c.before.before in
-    rw (lines_invoke at-if2.before.before.args.call (omega arith) (omega arith)) c.among.ensures
+    rw (lines_invoke at-if2.args.call (omega arith) (omega arith)) c.among.ensures
 
-returns_3 : tie.Need-returns-3
+returns_3 : tie.Need-returns-then-call-le-FREEZE
 returns_3 c =
     let at-if2 = c.before.before.before in
-    rw (lines_freeze at-if2.before.before.args.call (omega arith) (omega arith)) c.among2.ensures
+    rw (lines_freeze at-if2.args.call (omega arith) (omega arith)) c.among-then-call-le-FREEZE.ensures
 
-returns_4 : tie.Need-returns-4
+returns_4 : tie.Need-returns-then-call-le-HAS_MEMBER
 returns_4 c =
     let at-if2 = c.before.before.before.before in
-    rw (lines_member at-if2.before.before.args.call (omega arith) (omega arith)) c.among3.ensures
+    rw (lines_member at-if2.args.call (omega arith) (omega arith)) c.among-then-call-le-HAS_MEMBER.ensures
 
 alone : (b : Bool) → b ≡ (b || false)
 alone true = refl
 alone false = refl
 
-returns-5 : tie.Need-returns-5
+returns-5 : tie.Need-returns-then-call-le-GET_RESPONSE
 unfolding member
 returns-5 c =
-    let a = c.before.before.before.before.before.args in
+    let a = c.args in
     rw (lines_response a.call (omega arith) (omega arith)) (alone (eqb a.line 117))
 
-returns-6 : tie.Need-returns-6
+returns-6 : tie.Need-returns
 unfolding member
-returns-6 c = rw (lines_past c.before.before.before.before.before.args.call (omega arith))
+returns-6 c = rw (lines_past c.args.call (omega arith))
 
-pub line-ok-spec : {M : Type 1} → statement M
-line-ok-spec =
+pub line_ok_spec : {M : Type 1} → statement M
+line_ok_spec =
     tie.close
     (tie.spec
     returns

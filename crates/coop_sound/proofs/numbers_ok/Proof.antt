@@ -8,6 +8,6 @@ returns : tie.Need-returns
 unfolding sound_numbers
 returns c = cc
 
-pub numbers-ok-spec : {M : Type 1} → statement M
-numbers-ok-spec =
+pub numbers_ok_spec : {M : Type 1} → statement M
+numbers_ok_spec =
     tie.close (tie.spec (λ c κs. search rules) (λ c κs. search rules) (λ c. search rules) (λ c. search rules) returns)

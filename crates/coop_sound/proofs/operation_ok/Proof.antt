@@ -8,5 +8,5 @@ returns : tie.Need-returns
 unfolding sound_operation
 returns c = refl
 
-pub operation-ok-spec : {M : Type 1} → statement M
-operation-ok-spec = tie.close (tie.spec returns)
+pub operation_ok_spec : {M : Type 1} → statement M
+operation_ok_spec = tie.close (tie.spec returns)

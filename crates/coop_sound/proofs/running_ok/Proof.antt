@@ -10,9 +10,9 @@ returns c =
     let at-op-ok = c.before.before.before.before.before in
     let at-back-ok = at-op-ok.before in
     let at-line-ok = at-back-ok.before in
-    λ vs ks. rw (at-line-ok.line_ok.ensures, at-back-ok.back-ok.ensures, at-op-ok.op_ok.ensures vs, c.helped-ok.ensures _ ks)
+    λ vs ks. rw (at-line-ok.line_ok-l.ensures, at-back-ok.back_ok-b.ensures, at-op-ok.op_ok-p.ensures vs, c.helped_ok-h.ensures _ ks)
 
-pub running-ok-spec : {M : Type 1} → statement M
-running-ok-spec =
+pub running_ok_spec : {M : Type 1} → statement M
+running_ok_spec =
     tie.close
     (tie.spec (λ c κs. search rules) (λ c κs. search rules) (λ c κs. search rules) (λ c κs. search rules) returns)

@@ -6,17 +6,17 @@ use borrow.Author.Rules.{rules}
 use Rattle.coop_sound.proofs.task_ok.Statement.{statement}
 use Rattle.coop_sound.proofs.task_ok.Tie as tie
 
-returns : tie.Need-returns
+returns : tie.Need-returns-then-running
 unfolding sound_task
 returns c =
     let at-if1 = c.before in
-    λ vs ks. c.running-ok.ensures vs ks ∙ sym (if_true _ _ _ at-if1.if1.true)
+    λ vs ks. c.running_ok.ensures vs ks ∙ sym (if_true _ _ _ at-if1.if-running.true)
 
-returns_2 : tie.Need-returns-2
+returns_2 : tie.Need-returns
 unfolding sound_task
 returns_2 c =
     let at-if1 = c.before in
-    λ vs ks. c.idle-ok.ensures ∙ sym (if_false _ _ _ at-if1.if1.false)
+    λ vs ks. c.idle_ok.ensures ∙ sym (if_false _ _ _ at-if1.if-running.false)
 
-pub task-ok-spec : {M : Type 1} → statement M
-task-ok-spec = tie.close (tie.spec (λ c κs. search rules) returns (λ c κs. search rules) returns_2)
+pub task_ok_spec : {M : Type 1} → statement M
+task_ok_spec = tie.close (tie.spec (λ c κs. search rules) returns (λ c κs. search rules) returns_2)

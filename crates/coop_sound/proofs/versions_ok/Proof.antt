@@ -14,53 +14,53 @@ use borrow.Author.Rules.{rules}
 use Rattle.coop_sound.proofs.versions_ok.Statement.{statement}
 use Rattle.coop_sound.proofs.versions_ok.Tie as tie
 
-abbrev invariant-loop : tie.invariant-loop
+abbrev invariant-loop : tie.invariant-loop-k
 invariant-loop kinds vs n k₀ k = (k ≤ n) × ((y : Machine) → Kinds y kinds → sound_versions y n vs ≡ sound_versions y (n - k) (drop (66 * k) vs))
 
-abbrev decreases-loop : tie.decreases-loop
+abbrev decreases-loop : tie.decreases-loop-k
 decreases-loop kinds vs n k₀ k = n - k
 
-loop_holds : tie.Need-loop-init invariant-loop decreases-loop
+loop_holds : tie.Need-loop-k-init invariant-loop decreases-loop
 loop_holds c = (omega arith, λ y ks. rw sub-zero)
 
-version-ok-requires : tie.Need-version-ok-requires invariant-loop decreases-loop
+version-ok-requires : tie.Need-version_ok-requires invariant-loop decreases-loop
 version-ok-requires c κs =
     let at-loop = c.before.before in
-    let w = at-loop.before.before.before.args.vs.now in
-    let at = 66 * at-loop.loop.k in
+    let w = at-loop.args.vs.now in
+    let at = 66 * at-loop.loop-k.k in
     rw (rest w at, length-drop at w) (omega arith)
 
-returns : tie.Need-returns invariant-loop decreases-loop
+returns : tie.Need-returns-then-not-version_ok invariant-loop decreases-loop
 returns c =
     let at-loop = c.before.before.before.before in
-    let a = at-loop.before.before.before.args in
-    let k = at-loop.loop.k in
+    let a = at-loop.args in
+    let k = at-loop.loop-k.k in
     let w = a.vs.now in
     λ y ks.
-    let fails = ap (sound_version y) (sym (rest w (66 * k))) ∙ sym (c.before.version-ok.ensures y ks) ∙ not-true _ c.if1.true in
-    sym (at-loop.loop.invariant.1 y ks ∙ versions_no y w a.n k (omega arith) fails)
+    let fails = ap (sound_version y) (sym (rest w (66 * k))) ∙ sym (c.version_ok.ensures y ks) ∙ not-true _ c.if-not-version_ok.true-raw in
+    sym (at-loop.loop-k.invariant.1 y ks ∙ versions_no y w a.n k (omega arith) fails)
 
-loop_again : tie.Need-loop-preserved invariant-loop decreases-loop
+loop_again : tie.Need-loop-k-preserved invariant-loop decreases-loop
 loop_again c =
     let at-loop = c.before.before.before.before in
-    let a = at-loop.before.before.before.args in
-    let k = at-loop.loop.k in
+    let a = at-loop.args in
+    let k = at-loop.loop-k.k in
     let w = a.vs.now in (
       omega arith,
       λ y ks.
           let same = ap (sound_version y) (sym (rest w (66 * k))) in
-          let holds = same ∙ sym (c.before.version-ok.ensures y ks) ∙ not-false _ c.if1.false in
-          at-loop.loop.invariant.1 y ks ∙ versions_on y w a.n k (omega arith) holds,
+          let holds = same ∙ sym (c.version_ok.ensures y ks) ∙ not-false _ c.if-not-version_ok.false-raw in
+          at-loop.loop-k.invariant.1 y ks ∙ versions_on y w a.n k (omega arith) holds,
     )
 
-returns_2 : tie.Need-returns-2 invariant-loop decreases-loop
+returns_2 : tie.Need-returns invariant-loop decreases-loop
 returns_2 c =
     let at-loop = c.before in
-    let a = at-loop.before.before.before.args in
-    λ y ks. sym (at-loop.loop.invariant.1 y ks ∙ versions_end y a.vs.now a.n at-loop.loop.k (omega arith))
+    let a = at-loop.args in
+    λ y ks. sym (at-loop.loop-k.invariant.1 y ks ∙ versions_end y a.vs.now a.n at-loop.loop-k.k (omega arith))
 
-pub versions-ok-spec : {M : Type 1} → statement M
-versions-ok-spec =
+pub versions_ok_spec : {M : Type 1} → statement M
+versions_ok_spec =
     tie.close
     (tie.spec
     invariant-loop

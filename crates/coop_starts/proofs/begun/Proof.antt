@@ -4,28 +4,28 @@ use borrow.Author.Rules.{rules}
 use Rattle.coop_starts.proofs.begun.Statement.{statement}
 use Rattle.coop_starts.proofs.begun.Tie as tie
 
-returns : tie.Need-returns
+returns : tie.Need-returns-in-InvokeInsert
 unfolding started
-returns c = rw c.before.enum_told.given.1 c.fresh_task.ensures
+returns c = rw c.in-InvokeInsert.is c.fresh_task.ensures
 
-returns_2 : tie.Need-returns-2
+returns_2 : tie.Need-returns-in-InvokeRemove
 unfolding started
-returns_2 c = rw c.before.enum-told2.given.1 c.fresh-task2.ensures
+returns_2 c = rw c.in-InvokeRemove.is c.fresh_task-in-InvokeRemove.ensures
 
-returns_3 : tie.Need-returns-3
+returns_3 : tie.Need-returns-in-Freeze
 unfolding started
-returns_3 c = rw c.before.enum-told3.given.1 c.fresh-task3.ensures
+returns_3 c = rw c.in-Freeze.is c.fresh_task-in-Freeze.ensures
 
-returns_4 : tie.Need-returns-4
+returns_4 : tie.Need-returns-in-HasMember
 unfolding started
-returns_4 c = rw c.before.enum-told4.given.1 c.fresh-task4.ensures
+returns_4 c = rw c.in-HasMember.is c.fresh_task-in-HasMember.ensures
 
-returns-5 : tie.Need-returns-5
+returns-5 : tie.Need-returns-in-GetResponse
 unfolding started
-returns-5 c = rw c.before.enum-told5.given.1 c.fresh-task5.ensures
+returns-5 c = rw c.in-GetResponse.is c.fresh_task-in-GetResponse.ensures
 
-pub begun-spec : {M : Type 1} → statement M
-begun-spec =
+pub begun_spec : {M : Type 1} → statement M
+begun_spec =
     tie.close
     (tie.spec
     (λ c. search rules)

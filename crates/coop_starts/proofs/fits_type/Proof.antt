@@ -8,7 +8,7 @@ returns : tie.Need-returns
 unfolding fits_type
 returns c =
     let at-operation = c.before.before.before in
-    λ vs. rw (at-operation.operation.ensures vs)
+    λ vs. rw (at-operation.operation-op.ensures vs)
 
-pub fits-type-spec : {M : Type 1} → statement M
-fits-type-spec = tie.close (tie.spec (λ c κs. search rules) returns)
+pub fits_type_spec : {M : Type 1} → statement M
+fits_type_spec = tie.close (tie.spec (λ c κs. search rules) returns)

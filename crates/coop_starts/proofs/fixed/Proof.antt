@@ -4,28 +4,28 @@ use borrow.Author.Rules.{rules}
 use Rattle.coop_starts.proofs.fixed.Statement.{statement}
 use Rattle.coop_starts.proofs.fixed.Tie as tie
 
-returns : tie.Need-returns
+returns : tie.Need-returns-in-InvokeInsert
 unfolding fixing
-returns c = λ vs. rw c.before.enum_told.given.1 (c.set-type.ensures vs)
+returns c = λ vs. rw c.in-InvokeInsert.is (c.set_type.ensures vs)
 
-returns_2 : tie.Need-returns-2
+returns_2 : tie.Need-returns-in-InvokeRemove
 unfolding fixing
-returns_2 c = λ vs. rw c.before.enum-told2.given.1 (c.set-type2.ensures vs)
+returns_2 c = λ vs. rw c.in-InvokeRemove.is (c.set_type-in-InvokeRemove.ensures vs)
 
-returns_3 : tie.Need-returns-3
+returns_3 : tie.Need-returns-in-Freeze
 unfolding fixing
-returns_3 c = λ vs. rw c.enum-told3.given.1
+returns_3 c = λ vs. rw c.in-Freeze.is
 
-returns_4 : tie.Need-returns-4
+returns_4 : tie.Need-returns-in-HasMember
 unfolding fixing
-returns_4 c = λ vs. rw c.enum-told4.given.1
+returns_4 c = λ vs. rw c.in-HasMember.is
 
-returns-5 : tie.Need-returns-5
+returns-5 : tie.Need-returns-in-GetResponse
 unfolding fixing
-returns-5 c = λ vs. rw c.enum-told5.given.1
+returns-5 c = λ vs. rw c.in-GetResponse.is
 
-pub fixed-spec : {M : Type 1} → statement M
-fixed-spec =
+pub fixed_spec : {M : Type 1} → statement M
+fixed_spec =
     tie.close
     (tie.spec
     (λ c. search rules)

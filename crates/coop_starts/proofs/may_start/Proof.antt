@@ -4,30 +4,30 @@ use borrow.Author.Rules.{rules}
 use Rattle.coop_starts.proofs.may_start.Statement.{statement}
 use Rattle.coop_starts.proofs.may_start.Tie as tie
 
-returns : tie.Need-returns
+returns : tie.Need-returns-in-InvokeInsert
 unfolding may_start
-returns c = λ vs. rw c.before.enum_told.given.1 (c.fits_type.ensures vs)
+returns c = λ vs. rw c.in-InvokeInsert.is (c.fits_type.ensures vs)
 
-returns_2 : tie.Need-returns-2
+returns_2 : tie.Need-returns-in-InvokeRemove
 unfolding may_start
-returns_2 c = λ vs. rw c.before.enum-told2.given.1 (c.fits-type2.ensures vs)
+returns_2 c = λ vs. rw c.in-InvokeRemove.is (c.fits_type-in-InvokeRemove.ensures vs)
 
-returns_3 : tie.Need-returns-3
+returns_3 : tie.Need-returns-in-Freeze
 unfolding may_start
-returns_3 c = λ vs. rw c.enum-told3.given.1
+returns_3 c = λ vs. rw c.in-Freeze.is
 
-returns_4 : tie.Need-returns-4
+returns_4 : tie.Need-returns-in-HasMember
 unfolding may_start
-returns_4 c = λ vs. rw c.enum-told4.given.1
+returns_4 c = λ vs. rw c.in-HasMember.is
 
-returns-5 : tie.Need-returns-5
+returns-5 : tie.Need-returns-in-GetResponse
 unfolding may_start
 returns-5 c =
     let at-operation = c.before in
-    λ vs. rw (at-operation.before.enum-told5.given.1, at-operation.operation.ensures vs)
+    λ vs. rw (at-operation.in-GetResponse.is, at-operation.operation-op.ensures vs)
 
-pub may-start-spec : {M : Type 1} → statement M
-may-start-spec =
+pub may_start_spec : {M : Type 1} → statement M
+may_start_spec =
     tie.close
     (tie.spec
     (λ c. search rules)

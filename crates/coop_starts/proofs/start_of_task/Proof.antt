@@ -10,20 +10,20 @@ use borrow.Author.Rules.{rules}
 use Rattle.coop_starts.proofs.start_of_task.Statement.{statement}
 use Rattle.coop_starts.proofs.start_of_task.Tie as tie
 
-returns : tie.Need-returns
+returns : tie.Need-returns-then-c-may
 unfolding start_of_task
 returns c =
     let at-if1 = c.before in
     let at-may-start = at-if1.before.before in
     let at-task = at-may-start.before in
-    let a = at-task.before.args in
+    let a = at-task.args in
     λ vs.
     let y = machine_of a.s vs in
     let barred : ((task_of y a.k).running || not (may_start y a.call a.n a.tag)) ≡ true =
-    rw (← at-task.task.ensures vs, ← at-may-start.may_start.ensures vs) at-if1.if1.true in
+    rw (← at-task.task-c.ensures vs, ← at-may-start.may_start-may.ensures vs) at-if1.if-c-may.true in
     rw barred (c.refused.ensures vs)
 
-returns_2 : tie.Need-returns-2
+returns_2 : tie.Need-returns
 unfolding start_of_task
 returns_2 c =
     let at-fixed = c.before in
@@ -31,20 +31,20 @@ returns_2 c =
     let at-if1 = at-begun.before in
     let at-may-start = at-if1.before.before in
     let at-task = at-may-start.before in
-    let a = at-task.before.args in
+    let a = at-task.args in
     λ vs.
     let y = machine_of a.s vs in
     let barred : ((task_of y a.k).running || not (may_start y a.call a.n a.tag)) ≡ false =
-    rw (← at-task.task.ensures vs, ← at-may-start.may_start.ensures vs) at-if1.if1.false in
-    let record_of = at-begun.begun.result in
+    rw (← at-task.task-c.ensures vs, ← at-may-start.may_start-may.ensures vs) at-if1.if-c-may.false in
+    let record_of = at-begun.begun-x.result in
     let reply : Machine → Reply = λ m. record { out = At record_of.line; machine = m } in
-    let fixed = c.with_task.ensures vs ∙ ap (set_task a.k record_of) (at-fixed.fixed.ensures vs) in
+    let fixed = c.with_task-t.ensures vs ∙ ap (set_task a.k record_of) (at-fixed.fixed-f.ensures vs) in
     let z = fixing y a.call a.n a.tag in
     let with : Task → Reply = λ c. record { out = At c.line; machine = set_task a.k c z } in
-    rw barred (ap reply fixed ∙ ap with at-begun.begun.ensures)
+    rw barred (ap reply fixed ∙ ap with at-begun.begun-x.ensures)
 
-pub start-of-task-spec : {M : Type 1} → statement M
-start-of-task-spec =
+pub start_of_task_spec : {M : Type 1} → statement M
+start_of_task_spec =
     tie.close
     (tie.spec
     (λ c κs. search rules)

@@ -8,10 +8,10 @@ returns : tie.Need-returns
 unfolding state_of
 returns c =
     let at-never = c.before in
-    rw (at-never.never.ensures, c.idle.ensures)
+    rw (at-never.never-op.ensures, c.idle-c.ensures)
 
-pub fresh-state-spec : {M : Type 1} → statement M
-fresh-state-spec =
+pub fresh_state_spec : {M : Type 1} → statement M
+fresh_state_spec =
     tie.close
     (tie.spec
     (λ c κs. search rules)

@@ -8,5 +8,5 @@ returns : tie.Need-returns
 unfolding fresh_task
 returns c = refl
 
-pub fresh-task-spec : {M : Type 1} → statement M
-fresh-task-spec = tie.close (tie.spec returns)
+pub fresh_task_spec : {M : Type 1} → statement M
+fresh_task_spec = tie.close (tie.spec returns)

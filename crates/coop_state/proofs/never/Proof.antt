@@ -8,5 +8,5 @@ returns : tie.Need-returns
 unfolding never_invoked
 returns c = refl
 
-pub never-spec : {M : Type 1} → statement M
-never-spec = tie.close (tie.spec returns)
+pub never_spec : {M : Type 1} → statement M
+never_spec = tie.close (tie.spec returns)

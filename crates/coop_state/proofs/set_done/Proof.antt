@@ -11,9 +11,9 @@ returns : tie.Need-returns
 unfolding apply as_done
 returns c =
     let at-operation = c.before in
-    let a = at-operation.before.args in
-    λ vs. c.with-operation.ensures vs
-    ∙ ap (λ (q : Operation). set_operation a.n (as_done q) (machine_of a.s vs)) (at-operation.operation.ensures vs)
+    let a = at-operation.args in
+    λ vs. c.with_operation.ensures vs
+    ∙ ap (λ (q : Operation). set_operation a.n (as_done q) (machine_of a.s vs)) (at-operation.operation-op.ensures vs)
 
-pub set-done-spec : {M : Type 1} → statement M
-set-done-spec = tie.close (tie.spec (λ c κs. search rules) (λ c κs. search rules) returns)
+pub set_done_spec : {M : Type 1} → statement M
+set_done_spec = tie.close (tie.spec (λ c κs. search rules) (λ c κs. search rules) returns)

@@ -11,9 +11,9 @@ returns : tie.Need-returns
 unfolding apply as_returned
 returns c =
     let at-operation = c.before in
-    let a = at-operation.before.args in
-    λ vs. c.with-operation.ensures vs
-    ∙ ap (λ (q : Operation). set_operation a.n (as_returned q) (machine_of a.s vs)) (at-operation.operation.ensures vs)
+    let a = at-operation.args in
+    λ vs. c.with_operation.ensures vs
+    ∙ ap (λ (q : Operation). set_operation a.n (as_returned q) (machine_of a.s vs)) (at-operation.operation-op.ensures vs)
 
-pub set-returned-spec : {M : Type 1} → statement M
-set-returned-spec = tie.close (tie.spec (λ c κs. search rules) (λ c κs. search rules) returns)
+pub set_returned_spec : {M : Type 1} → statement M
+set_returned_spec = tie.close (tie.spec (λ c κs. search rules) (λ c κs. search rules) returns)

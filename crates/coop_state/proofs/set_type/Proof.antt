@@ -10,9 +10,9 @@ returns : tie.Need-returns
 unfolding with_type
 returns c =
     let at-operation = c.before in
-    let a = at-operation.before.args in
-    λ vs. c.with-operation.ensures vs
-    ∙ ap (λ (q : Operation). set_operation a.n (with_type a.kind a.tag q) (machine_of a.s vs)) (at-operation.operation.ensures vs)
+    let a = at-operation.args in
+    λ vs. c.with_operation.ensures vs
+    ∙ ap (λ (q : Operation). set_operation a.n (with_type a.kind a.tag q) (machine_of a.s vs)) (at-operation.operation-op.ensures vs)
 
-pub set-type-spec : {M : Type 1} → statement M
-set-type-spec = tie.close (tie.spec (λ c κs. search rules) (λ c κs. search rules) returns)
+pub set_type_spec : {M : Type 1} → statement M
+set_type_spec = tie.close (tie.spec (λ c κs. search rules) (λ c κs. search rules) returns)

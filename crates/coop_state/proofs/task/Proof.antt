@@ -9,28 +9,28 @@ use native.Mathlib.Omega.{arith}
 use Rattle.coop_state.proofs.task.Statement.{statement}
 use Rattle.coop_state.proofs.task.Tie as tie
 
-len : (c : tie.Start) → length c.args.t1.task ≡ 8
+len : (c : tie.Start) → length c.args.s.task ≡ 8
 len c = search (rules, length_mapped)
 
-returns : tie.Need-returns
+returns : tie.Need-returns-then-k-ge-TASKS
 unfolding task_of
 returns c =
     let start = c.before.before in
     let a = start.args in
-    λ vs. c.idle.ensures ∙ sym (get_or-eq_default a.t1.task idle (omega (arith, len start)))
+    λ vs. c.idle.ensures ∙ sym (get_or-eq_default a.s.task idle (omega (arith, len start)))
 
-element-copy-out-c : tie.Need-element-copy-out-c
+element-copy-out-c : tie.Need-bounds-s-j
 element-copy-out-c c = search (rules, length_mapped)
 
-returns_2 : tie.Need-returns-2
+returns_2 : tie.Need-returns
 unfolding task_of
 returns_2 c =
     let start = c.before.before in
     let a = start.args in
-    λ vs. same_default a.t1.task a.k _ idle (omega (arith, len start))
+    λ vs. same_default a.s.task a.k _ idle (omega (arith, len start))
 
-pub task-spec : {M : Type 1} → statement M
-task-spec =
+pub task_spec : {M : Type 1} → statement M
+task_spec =
     tie.close
     (tie.spec
     (λ c κs. search rules)

@@ -8,5 +8,5 @@ returns : tie.Need-returns
 unfolding with_flag with_state
 returns c = λ vs. refl
 
-pub with-flag-spec : {M : Type 1} → statement M
-with-flag-spec = tie.close (tie.spec returns)
+pub with_flag_spec : {M : Type 1} → statement M
+with_flag_spec = tie.close (tie.spec returns)

@@ -8,5 +8,5 @@ returns : tie.Need-returns
 unfolding with_node with_state
 returns c = λ vs. refl
 
-pub with-node-spec : {M : Type 1} → statement M
-with-node-spec = tie.close (tie.spec returns)
+pub with_node_spec : {M : Type 1} → statement M
+with_node_spec = tie.close (tie.spec returns)

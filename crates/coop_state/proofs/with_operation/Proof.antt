@@ -12,16 +12,16 @@ use Rattle.coop_state.proofs.with_operation.Tie as tie
 len : (c : tie.Start) → length c.args.s.operation ≡ 64
 len c = search (rules, length_mapped)
 
-returns : tie.Need-returns
+returns : tie.Need-returns-then-n-ge-OPERATIONS
 unfolding set_operation with_operations with_state
 returns c =
     let start = c.before in
     let a = start.args in
     λ vs. rw (set_out a.s.operation a.n a.op (omega (arith, len start)))
 
-returns_2 : tie.Need-returns-2
+returns_2 : tie.Need-returns
 unfolding set_operation with_operations with_state
 returns_2 c = λ vs. refl
 
-pub with-operation-spec : {M : Type 1} → statement M
-with-operation-spec = tie.close (tie.spec returns (λ c. search rules) (λ c. search rules) returns_2)
+pub with_operation_spec : {M : Type 1} → statement M
+with_operation_spec = tie.close (tie.spec returns (λ c. search rules) (λ c. search rules) returns_2)

@@ -12,16 +12,16 @@ use Rattle.coop_state.proofs.with_task.Tie as tie
 len : (c : tie.Start) → length c.args.s.task ≡ 8
 len c = search (rules, length_mapped)
 
-returns : tie.Need-returns
+returns : tie.Need-returns-then-k-ge-TASKS
 unfolding set_task with_task with_state
 returns c =
     let start = c.before in
     let a = start.args in
     λ vs. rw (set_out a.s.task a.k a.c (omega (arith, len start)))
 
-returns_2 : tie.Need-returns-2
+returns_2 : tie.Need-returns
 unfolding set_task with_task with_state
 returns_2 c = λ vs. refl
 
-pub with-task-spec : {M : Type 1} → statement M
-with-task-spec = tie.close (tie.spec returns (λ c. search rules) (λ c. search rules) returns_2)
+pub with_task_spec : {M : Type 1} → statement M
+with_task_spec = tie.close (tie.spec returns (λ c. search rules) (λ c. search rules) returns_2)

@@ -7,34 +7,34 @@ use borrow.Author.Rules.{rules}
 use Rattle.dispatch.proofs.after_step.Statement.{statement}
 use Rattle.dispatch.proofs.after_step.Tie as tie
 
-returns : tie.Need-returns
+returns : tie.Need-returns-then-why-eq7
 unfolding by_output state_chosen
-returns c = rw (c.before.before.out3.given.1, eq-eqb _ 7 c.if1.true)
+returns c = rw (c.in-Refuse.is, eq-eqb _ 7 c.if-why-eq7.true)
 
-returns_2 : tie.Need-returns-2
+returns_2 : tie.Need-returns-then-sound
 unfolding by_output
 returns_2 c =
     let at-sound = c.before in
     let not_7 = at-sound.before in
-    rw (not_7.before.before.out3.given.1, ne_eqb _ 7 not_7.if1.false, sym at-sound.sound.ensures ∙ c.if2.true)
+    rw (not_7.in-Refuse.is, ne_eqb _ 7 not_7.if-why-eq7.false, sym at-sound.sound.ensures ∙ c.if-sound.true)
 
-returns_3 : tie.Need-returns-3
+returns_3 : tie.Need-returns-in-At
 unfolding by_output state_chosen
-returns_3 c = rw c.before.out.given.1
+returns_3 c = rw c.in-At.is
 
-returns_4 : tie.Need-returns-4
+returns_4 : tie.Need-returns-in-End
 unfolding by_output state_chosen
-returns_4 c = rw c.before.out2.given.1
+returns_4 c = rw c.in-End.is
 
-returns-5 : tie.Need-returns-5
+returns-5 : tie.Need-returns-else-sound
 unfolding by_output
 returns-5 c =
     let at-sound = c.before in
     let not_7 = at-sound.before in
-    rw (not_7.before.before.out3.given.1, ne_eqb _ 7 not_7.if1.false, sym at-sound.sound.ensures ∙ c.if2.false)
+    rw (not_7.in-Refuse.is, ne_eqb _ 7 not_7.if-why-eq7.false, sym at-sound.sound.ensures ∙ c.if-sound.false)
 
-pub after-step-spec : {M : Type 1} → statement M
-after-step-spec =
+pub after_step_spec : {M : Type 1} → statement M
+after_step_spec =
     tie.close
     (tie.spec
     (λ c. search rules)

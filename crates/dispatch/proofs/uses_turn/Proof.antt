@@ -4,18 +4,18 @@ use Rattle.dispatch.specs.Turned.{uses_turn}
 use Rattle.dispatch.proofs.uses_turn.Statement.{statement}
 use Rattle.dispatch.proofs.uses_turn.Tie as tie
 
-returns : tie.Need-returns
+returns : tie.Need-returns-in-At
 unfolding uses_turn
-returns c = rw c.enum_told.given.1
+returns c = rw c.in-At.is
 
-returns_2 : tie.Need-returns-2
+returns_2 : tie.Need-returns-in-End
 unfolding uses_turn
-returns_2 c = rw c.enum-told2.given.1
+returns_2 c = rw c.in-End.is
 
-returns_3 : tie.Need-returns-3
+returns_3 : tie.Need-returns-in-Refuse
 unfolding uses_turn
-returns_3 c = rw c.before.o.given.1
+returns_3 c = rw c.in-Refuse.is
 
-pub uses-turn-spec : {M : Type 1} → statement M
-uses-turn-spec =
+pub uses_turn_spec : {M : Type 1} → statement M
+uses_turn_spec =
     tie.close (tie.spec (λ c. search rules) (λ c. search rules) (λ c. search rules) returns returns_2 returns_3)

@@ -24,76 +24,76 @@ entry c = machine_of c.args.s c.args.ns.now c.args.bs.now
 len : (c : tie.Start) → length c.args.s.task ≡ 8
 len c = search (rules, length_mapped)
 
-returns : tie.Need-returns
-returns c = let a = c.before.before.before.before in none_room a.args.i a.args.n (entry a) a.args.outs.now c.if1.true
+returns : tie.Need-returns-then-n-i
+returns c = let a = c.before.before.before.before in none_room a.args.i a.args.n (entry a) a.args.outs.now c.if-n-i.true
 
-returns_2 : tie.Need-returns-2
+returns_2 : tie.Need-returns-then-l-eq0
 returns_2 c =
     let at_next = c.before in
     let room = at_next.before in
     let a = room.before.before.before.before in
-    let none = sym (at_next.next_task.ensures a.args.ns.now a.args.bs.now) ∙ c.if2.true in
-    none_runs a.args.i a.args.n (entry a) a.args.outs.now room.if1.false (nothing_runs (entry a) a.requires.1 none)
+    let none = sym (at_next.next_task-l.ensures a.args.ns.now a.args.bs.now) ∙ c.if-l-eq0.true in
+    none_runs a.args.i a.args.n (entry a) a.args.outs.now room.if-n-i.false (nothing_runs (entry a) a.requires.1 none)
 
-step-requires : tie.Need-step-requires
+step-requires : tie.Need-step-m-requires
 unfolding task_of idle
 step-requires c κs =
     let at-known = c.before.before in
     let a = at-known.before.before.before.before.before.before.before.before in
-    rw a.requires.1 (at-known.known-sound.ensures (entry a) (len a) refl)
+    rw a.requires.1 (at-known.known_sound-d.ensures (entry a) (len a) refl)
 
-element-set-from-x : tie.Need-element-set-from-x
-element-set-from-x c = changes_below _ _ (sym c.before.before.changes.ensures ∙ c.before.if3.true)
+element-set-from-x : tie.Need-bounds-t-j
+element-set-from-x c = changes_below _ _ (sym c.changes.ensures ∙ c.if-changes.true)
 
 -- the task that is next has been stepped, and the words of its turn are written
-module _ (p : tie.After-chosen-after) where
-  abbrev at-put : tie.After-put-named
+module _ (p : tie.After-chosen_after-last) where
+  abbrev at-put : tie.After-put_named
   at-put = p.before.before.before
 
-  abbrev at-step : tie.After-step
+  abbrev at-step : tie.After-step-m
   at-step = at-put.before.before.before.before.before.before
 
-  abbrev at-else : tie.Else2
+  abbrev at-else : tie.Else-l-eq0
   at-else = at-step.before.before.before.before.before
 
-  abbrev room : tie.Else1
+  abbrev room : tie.Else-n-i
   room = at-else.before.before
 
   abbrev a : tie.Start
   a = room.before.before.before.before
 
   abbrev k : ℕ
-  k = at-else.before.next_task.result - 1
+  k = at-else.before.next_task-l.result - 1
 
   next : next_to_step (entry a) ≡ link k
   next =
-      let some : at-else.before.next_task.result ≡ link k = omega (arith, at-else.if2.left) in
-      sym (at-else.before.next_task.ensures a.args.ns.now a.args.bs.now) ∙ some
+      let some : at-else.before.next_task-l.result ≡ link k = omega (arith, at-else.if-l-eq0.false) in
+      sym (at-else.before.next_task-l.ensures a.args.ns.now a.args.bs.now) ∙ some
 
-returns_3 : tie.Need-returns-3
+returns_3 : tie.Need-returns-then-changes
 unfolding state_head state_last_node state_last_bucket state_task state_chosen with_chosen with_state
 returns_3 c =
     let at-changes = c.before.before in
     let p = at-changes.before in
-    let m = (at-step p).step in
-    let q = sym at-changes.changes.ensures ∙ c.before.if3.true in
+    let m = (at-step p).step-m in
+    let q = sym at-changes.changes.ensures ∙ c.if-changes.true in
     let reply = moved_on (a p).args.s (k p) m.result _ _ m.ensures.reply q in
-    names_one (a p).args.i (a p).args.n (entry (a p)) (a p).args.outs.now (room p).if1.false (a p).requires.1 (k p) (next p) _ _ reply _
-    p.chosen_after.ensures _ (at-put p).put-named.ensures
+    names_one (a p).args.i (a p).args.n (entry (a p)) (a p).args.outs.now (room p).if-n-i.false (a p).requires.1 (k p) (next p) _ _ reply _
+    p.chosen_after-last.ensures _ (at-put p).put_named.ensures
 
-returns_4 : tie.Need-returns-4
+returns_4 : tie.Need-returns-else-changes
 unfolding state_head state_last_node state_last_bucket state_task state_chosen with_chosen with_state
 returns_4 c =
     let at-changes = c.before in
     let p = at-changes.before in
-    let m = (at-step p).step in
-    let q = sym at-changes.changes.ensures ∙ c.if3.false in
+    let m = (at-step p).step-m in
+    let q = sym at-changes.changes.ensures ∙ c.if-changes.false in
     let reply = moved_off (a p).args.s (k p) m.result _ _ m.ensures.reply q in
-    names_one (a p).args.i (a p).args.n (entry (a p)) (a p).args.outs.now (room p).if1.false (a p).requires.1 (k p) (next p) _ _ reply _
-    p.chosen_after.ensures _ (at-put p).put-named.ensures
+    names_one (a p).args.i (a p).args.n (entry (a p)) (a p).args.outs.now (room p).if-n-i.false (a p).requires.1 (k p) (next p) _ _ reply _
+    p.chosen_after-last.ensures _ (at-put p).put_named.ensures
 
-pub turn-taken-spec : {M : Type 1} → statement M
-turn-taken-spec =
+pub turn_taken_spec : {M : Type 1} → statement M
+turn_taken_spec =
     tie.close
     (tie.spec
     returns

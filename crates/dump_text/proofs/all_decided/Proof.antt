@@ -6,14 +6,14 @@ use borrow.Author.Rules.{rules}
 use Rattle.dump_text.proofs.all_decided.Statement.{statement}
 use Rattle.dump_text.proofs.all_decided.Tie as tie
 
-abbrev invariant-loop : tie.invariant-loop
+abbrev invariant-loop : tie.invariant-loop-i
 invariant-loop out₀ at s ns ts n to₀ i₀ out to i = (to ≤ length out₀) × (length out ≡ length out₀)
 
-abbrev decreases-loop : tie.decreases-loop
+abbrev decreases-loop : tie.decreases-loop-i
 decreases-loop out₀ at s ns ts n to₀ i₀ out to i = 64 - i
 
-pub all-decided-spec : {M : Type 1} → statement M
-all-decided-spec =
+pub all_decided_spec : {M : Type 1} → statement M
+all_decided_spec =
     tie.close
     (tie.spec
     invariant-loop

@@ -11,10 +11,10 @@ returns : tie.Need-returns
 unfolding new_standing
 returns c =
     let at-new-session = c.before in
-    c.stands.ensures ∙ ap (λ (s : Session). standing s 0 NotYet) at-new-session.new_session.ensures
+    c.stands.ensures ∙ ap (λ (s : Session). standing s 0 NotYet) at-new-session.new_session-session.ensures
 
-pub new-standing-spec : {M : Type 1} → statement M
-new-standing-spec =
+pub new_standing_spec : {M : Type 1} → statement M
+new_standing_spec =
     tie.close
     (tie.spec
     (λ c κs. search rules)

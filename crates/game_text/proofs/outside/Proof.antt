@@ -8,8 +8,8 @@ returns : tie.Need-returns
 unfolding refused_with
 returns c = c.stands.ensures
 
-pub outside-spec : {M : Type 1} → statement M
-outside-spec =
+pub outside_spec : {M : Type 1} → statement M
+outside_spec =
     tie.close
     (tie.spec
     (λ c κs. search rules)

@@ -4,7 +4,7 @@ use Rattle.hashset.proofs.moved_by_start.Statement.{statement}
 use Rattle.hashset.proofs.moved_by_start.Tie as tie
 
 returns : tie.Need-returns
-returns c = c.start.ensures _ _ c.before.check.ensures
+returns c = c.start.ensures _ _ c.check-d.ensures
 
-pub moved-by-start-spec : {M : Type 1} → statement M
-moved-by-start-spec = tie.close (tie.spec (λ c κs. search rules) (λ c κs. search rules) returns)
+pub moved_by_start_spec : {M : Type 1} → statement M
+moved_by_start_spec = tie.close (tie.spec (λ c κs. search rules) (λ c κs. search rules) returns)

@@ -6,7 +6,7 @@ use Rattle.hashset.proofs.start.Statement.{statement}
 use Rattle.hashset.proofs.start.Tie as tie
 
 returns : tie.Need-returns
-returns c = c.settle.ensures _ _ ∙ c.before.moved-by-start.ensures.reply
+returns c = c.settle.ensures _ _ ∙ c.moved_by_start-m.ensures.reply
 
 pub start_spec : {M : Type 1} → statement M
 start_spec = tie.close (tie.spec (λ c κs. search rules) (λ c κs. search rules) returns)

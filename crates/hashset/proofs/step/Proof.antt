@@ -6,7 +6,7 @@ use Rattle.hashset.proofs.step.Statement.{statement}
 use Rattle.hashset.proofs.step.Tie as tie
 
 returns : tie.Need-returns
-returns c = c.settle.ensures _ _ ∙ c.before.before.before.before.before.step.ensures.reply
+returns c = c.settle.ensures _ _ ∙ c.step-m.ensures.reply
 
 pub step_spec : {M : Type 1} → statement M
 step_spec =

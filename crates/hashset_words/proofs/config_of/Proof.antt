@@ -9,5 +9,5 @@ returns : tie.Need-returns
 unfolding state_of_words
 returns c = refl
 
-pub config-of-spec : {M : Type 1} → statement M
-config-of-spec = tie.close (tie.spec (λ c. search rules) (λ c. search rules) (λ c. search rules) returns)
+pub config_of_spec : {M : Type 1} → statement M
+config_of_spec = tie.close (tie.spec (λ c. search rules) (λ c. search rules) (λ c. search rules) returns)

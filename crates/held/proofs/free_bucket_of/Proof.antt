@@ -15,53 +15,53 @@ use borrow.Author.Rules.{rules}
 use Rattle.held.proofs.free_bucket_of.Statement.{statement}
 use Rattle.held.proofs.free_bucket_of.Tie as tie
 
-returns : tie.Need-returns
+returns : tie.Need-returns-then-s-ge-MOST_NODES
 returns c =
     λ bs.
-    let y = machine_of c.before.before.before.args.s c.before.before.before.args.ns.now bs in
-    sym (bucket_head_past y c.if1.true)
+    let y = machine_of c.args.s c.args.ns.now bs in
+    sym (bucket_head_past y c.if-s-ge-MOST_NODES.true)
 
-returns_2 : tie.Need-returns-2
+returns_2 : tie.Need-returns-then-b-gt-MOST_BUCKETS
 returns_2 c =
-    let a = c.before.before.before.before.args in
+    let a = c.args in
     λ bs.
     let y = machine_of a.s a.ns.now bs in
-    sym (buckets_past y c.if2.true)
+    sym (buckets_past y c.if-b-gt-MOST_BUCKETS.true)
 
-returns_3 : tie.Need-returns-3
+returns_3 : tie.Need-returns-then-b-last
 returns_3 c =
-    let a = c.before.before.before.before.before.args in
+    let a = c.args in
     λ bs.
     let y = machine_of a.s a.ns.now bs in
-    sym (bucket_last_past y c.if3.true)
+    sym (bucket_last_past y c.if-b-last.true)
 
-first-unmarked-requires : tie.Need-first-unmarked-requires
+first-unmarked-requires : tie.Need-first_unmarked-requires
 first-unmarked-requires c κs =
-    let l = c.before.before.before.before.before.mark-placed.ensures.long in
-    let k = c.before.before.mark-own.ensures.long in
+    let l = c.mark_placed.ensures.long in
+    let k = c.mark_own.ensures.long in
     omega arith
 
-returns_4 : tie.Need-returns-4
+returns_4 : tie.Need-returns
 returns_4 c =
     let at-mark-placed = c.before.before.before.before.before.before in
     let at-mark-nodes = at-mark-placed.before.before.before in
     let at-if3 = at-mark-nodes.before.before in
     let at-if2 = at-if3.before in
     let at-if1 = at-if2.before in
-    let a = at-if1.before.before.before.args in
+    let a = at-if1.args in
     λ bs.
     let y = machine_of a.s a.ns.now bs in
     let ts = concat_map task_buckets y.state.task in
-    let nodes = onto (none 64) (at-mark-nodes.mark-nodes.ensures bs) in
-    let placed = onto (none 1024) at-mark-placed.mark-placed.ensures in
+    let nodes = onto (none 64) (at-mark-nodes.mark_nodes.ensures bs) in
+    let placed = onto (none 1024) at-mark-placed.mark_placed.ensures in
     let xs = concat_map (places y.nodes) (marked_numbers _) in
-    let same = same_places y _ (at-mark-nodes.mark-nodes.ensures bs).long nodes in
+    let same = same_places y _ (at-mark-nodes.mark_nodes.ensures bs).long nodes in
     let both = append_alike xs (placed_low y) ts same in
-    let all = exactly_alike (xs ++ ts) (placed_low y ++ ts) both (onto placed c.before.before.before.mark-own.ensures) in
-    c.first-unmarked.ensures (placed_low y ++ ts) all ∙ sym (bucket_in y (at-if1.if1.false, at-if2.if2.false, at-if3.if3.false))
+    let all = exactly_alike (xs ++ ts) (placed_low y ++ ts) both (onto placed c.mark_own.ensures) in
+    c.first_unmarked.ensures (placed_low y ++ ts) all ∙ sym (bucket_in y (at-if1.if-s-ge-MOST_NODES.false, at-if2.if-b-gt-MOST_BUCKETS.false, at-if3.if-b-last.false))
 
-pub free-bucket-of-spec : {M : Type 1} → statement M
-free-bucket-of-spec =
+pub free_bucket_of_spec : {M : Type 1} → statement M
+free_bucket_of_spec =
     tie.close
     (tie.spec
     returns

@@ -19,33 +19,33 @@ use Rattle.held.proofs.mark_nodes.Tie as tie
 abbrev of-task : List ℕ → ℕ → Task → List ℕ
 of-task w h c = concat_map (chain w h) (task_nodes c)
 
-abbrev invariant-loop : tie.invariant-loop
+abbrev invariant-loop : tie.invariant-loop-k
 invariant-loop ns m₀ h ts k₀ m k =
     (k ≤ 8) × (length m ≡ length m₀) × ((q : List Bool) → Marks m q (concat_map (of-task ns h) (drop k ts)) → Marks m₀ q (concat_map (of-task ns h) ts))
 
-abbrev decreases-loop : tie.decreases-loop
+abbrev decreases-loop : tie.decreases-loop-k
 decreases-loop ns m₀ h ts k₀ m k = 8 - k
 
 len : (c : tie.Start invariant-loop decreases-loop) → length c.args.s.task ≡ 8
 len c = search (rules, length_mapped)
 
-loop_holds : tie.Need-loop-init invariant-loop decreases-loop
+loop_holds : tie.Need-loop-k-init invariant-loop decreases-loop
 loop_holds c = (omega arith, refl, λ q r. r)
 
-loop_again : tie.Need-loop-preserved invariant-loop decreases-loop
+loop_again : tie.Need-loop-k-preserved invariant-loop decreases-loop
 loop_again c =
     let in-loop = c.before.before.before.before.before.before in
-    let loop = in-loop.loop in
+    let loop = in-loop.loop-k in
     let start = in-loop.before.before.before.before.before.before.before.before.before in
     let a = start.args in
     let w = a.ns.now in
     let ts = a.s.task in
     let f = of-task w a.s.nodes in
-    let marks = c.before.before.mark-task-nodes.ensures in
+    let marks = c.mark_task_nodes.ensures in
     (omega arith, marks.long ∙ loop.invariant.1, tasks_turn f ts loop.k _ (concat_map f ts) (omega (arith, len start)) loop.invariant.2 marks)
 
-same_length : tie.Need-same-length invariant-loop decreases-loop
-same_length c = c.before.loop.invariant.1 ∙ c.before.before.before.before.mark-chain.ensures.long
+same_length : tie.Need-shape_of-m invariant-loop decreases-loop
+same_length c = c.loop-k.invariant.1 ∙ c.mark_chain.ensures.long
 
 returns : tie.Need-returns invariant-loop decreases-loop
 returns c =
@@ -56,12 +56,12 @@ returns c =
     let w = a.ns.now in
     let ts = a.s.task in
     let f = of-task w a.s.nodes in
-    let k = c.before.loop.k in
-    let all-tasks = finish (concat_map f (drop k ts)) (concat_map f ts) (tasks_last ts k f (omega (arith, len start))) c.before.loop.invariant.2 in
-    held_all w bs a.s at-mark-chain.mark-chain.ensures all-tasks
+    let k = c.loop-k.k in
+    let all-tasks = finish (concat_map f (drop k ts)) (concat_map f ts) (tasks_last ts k f (omega (arith, len start))) c.loop-k.invariant.2 in
+    held_all w bs a.s at-mark-chain.mark_chain.ensures all-tasks
 
-pub mark-nodes-spec : {M : Type 1} → statement M
-mark-nodes-spec =
+pub mark_nodes_spec : {M : Type 1} → statement M
+mark_nodes_spec =
     tie.close
     (tie.spec
     invariant-loop

@@ -13,39 +13,39 @@ use borrow.Author.Rules.{rules}
 use Rattle.held.proofs.mark_places.Statement.{statement}
 use Rattle.held.proofs.mark_places.Tie as tie
 
-abbrev invariant-loop : tie.invariant-loop
+abbrev invariant-loop : tie.invariant-loop-i
 invariant-loop ns m₀ k i₀ m i =
     (i ≤ 32) × (length m ≡ length m₀) × ((q : List Bool) → Marks m q (places_from ns k i) → Marks m₀ q (places ns k))
 
-abbrev decreases-loop : tie.decreases-loop
+abbrev decreases-loop : tie.decreases-loop-i
 decreases-loop ns m₀ k i₀ m i = 32 - i
 
-loop_holds : tie.Need-loop-init invariant-loop decreases-loop
+loop_holds : tie.Need-loop-i-init invariant-loop decreases-loop
 loop_holds c =
-    (omega arith, refl, λ q. rw (places_all c.before.before.args.ns.now c.before.before.args.k) (λ r. r))
+    (omega arith, refl, λ q. rw (places_all c.args.ns.now c.args.k) (λ r. r))
 
-loop_again : tie.Need-loop-preserved invariant-loop decreases-loop
+loop_again : tie.Need-loop-i-preserved invariant-loop decreases-loop
 loop_again c =
     let at-place-at = c.before.before.before.before in
     let at_test = at-place-at.before in
-    let loop = at_test.before.loop in
-    let a = at_test.before.before.before.before.args in
+    let loop = at_test.loop-i in
+    let a = at_test.args in
     let w = a.ns.now in
-    let marks = c.before.before.mark.ensures in
-    let here = rw at-place-at.place_at.ensures at marks in
-    (omega arith, marks.long ∙ loop.invariant.1, places_on w a.k loop.i (places w a.k) at_test.loop-test.true loop.invariant.2 here)
+    let marks = c.mark.ensures in
+    let here = rw at-place-at.place_at-l.ensures at marks in
+    (omega arith, marks.long ∙ loop.invariant.1, places_on w a.k loop.i (places w a.k) at_test.loop-i-test.true loop.invariant.2 here)
 
-same_length : tie.Need-same-length invariant-loop decreases-loop
-same_length c = c.before.loop.invariant.1
+same_length : tie.Need-shape_of-m invariant-loop decreases-loop
+same_length c = c.loop-i.invariant.1
 
 returns : tie.Need-returns invariant-loop decreases-loop
 returns c =
-    let a = c.before.before.before.before.args in
+    let a = c.args in
     let w = a.ns.now in
-    finish (places_from w a.k c.before.loop.i) (places w a.k) (places_none w a.k c.before.loop.i (omega arith)) c.before.loop.invariant.2
+    finish (places_from w a.k c.loop-i.i) (places w a.k) (places_none w a.k c.loop-i.i (omega arith)) c.loop-i.invariant.2
 
-pub mark-places-spec : {M : Type 1} → statement M
-mark-places-spec =
+pub mark_places_spec : {M : Type 1} → statement M
+mark_places_spec =
     tie.close
     (tie.spec
     invariant-loop

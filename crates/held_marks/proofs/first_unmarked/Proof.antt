@@ -20,76 +20,76 @@ use Rattle.held_marks.proofs.first_unmarked.Tie as tie
 minus : (m : List Bool) (k : ℕ) → marked m (k + 1) ≡ get_or m k false
 minus m k = let e : k + 1 - 1 ≡ k = omega arith in rw e
 
-abbrev invariant-loop : tie.invariant-loop
+abbrev invariant-loop : tie.invariant-loop-j
 invariant-loop m n last j₀ j =
     (1 ≤ j) × (j ≤ n + 1) ×
     ((ls : List ℕ) → Exactly m ls → first_free ls (cyclic_order n last) ≡ first_free ls (map (turn ls n last) (range j (n + 1 - j))))
 
-abbrev decreases-loop : tie.decreases-loop
+abbrev decreases-loop : tie.decreases-loop-j
 decreases-loop m n last j₀ j = n + 1 - j
 
-loop_holds : tie.Need-loop-init invariant-loop decreases-loop
+loop_holds : tie.Need-loop-j-init invariant-loop decreases-loop
 loop_holds c = (omega arith, omega arith, λ ls x. ap (first_free ls) (free_start ls _ _))
 
-cast-if1 : tie.Need-overflow-cast-if1 invariant-loop decreases-loop
+cast-if1 : tie.Need-overflow_cast-k invariant-loop decreases-loop
 cast-if1 c =
-    let n = c.before.before.args.n in
-    let l = c.before.before.args.last in
-    let j = c.before.loop.j in
+    let n = c.args.n in
+    let l = c.args.last in
+    let j = c.loop-j.j in
     let b : (l + j) % n < n = mod-lt (l + j) {m = n} (omega arith) in
     omega arith
 
-shared-slice-read-if1 : tie.Need-shared-slice-read-if1 invariant-loop decreases-loop
+shared-slice-read-if1 : tie.Need-bounds-m-k invariant-loop decreases-loop
 shared-slice-read-if1 c =
-    let n = c.before.before.before.args.n in
-    let l = c.before.before.before.args.last in
-    let j = c.before.before.loop.j in
+    let n = c.args.n in
+    let l = c.args.last in
+    let j = c.loop-j.j in
     let b : (l + j) % n < n = mod-lt (l + j) {m = n} (omega arith) in
     omega arith
 
-add-result : tie.Need-overflow-add-result invariant-loop decreases-loop
+add-result : tie.Need-overflow_add-result invariant-loop decreases-loop
 add-result c =
-    let a = c.before.before.before.before.args in
+    let a = c.args in
     let n = a.n in
     let l = a.last in
-    let j = c.before.before.before.loop.j in
+    let j = c.loop-j.j in
     let b : (l + j) % n < n = mod-lt (l + j) {m = n} (omega arith) in
     omega arith
 
-returns : tie.Need-returns invariant-loop decreases-loop
+returns : tie.Need-returns-then-not-m-k invariant-loop decreases-loop
 returns c =
-    let a = c.before.before.before.before.args in
+    let a = c.args in
     λ ls x.
     let n = a.n in
     let l = a.last in
-    let j = c.before.before.before.loop.j in
+    let j = c.loop-j.j in
     let b : (l + j) % n < n = mod-lt (l + j) {m = n} (omega arith) in
     let q : member (turn ls n l j) ls ≡ false =
-    sym (x.each (turn ls n l j) (omega arith) (omega arith)) ∙ minus a.m.now ((l + j) % n) ∙ not-true _ c.if1.true in
-    sym (c.before.before.before.loop.invariant.2 ls x ∙ free_here ls n l j c.before.before.loop-test.true q)
+    sym (x.each (turn ls n l j) (omega arith) (omega arith)) ∙ minus a.m.now ((l + j) % n) ∙ not-true _ c.if-not-m-k.true-raw in
+    sym (c.loop-j.invariant.2 ls x ∙ free_here ls n l j c.loop-j-test.true q)
 
-loop_again : tie.Need-loop-preserved invariant-loop decreases-loop
+loop_again : tie.Need-loop-j-preserved invariant-loop decreases-loop
 loop_again c =
-    let a = c.before.before.before.before.args in (
+    let a = c.args in (
       omega arith,
       omega arith,
       λ ls x.
           let n = a.n in
           let l = a.last in
-          let j = c.before.before.before.loop.j in
+          let j = c.loop-j.j in
           let b : (l + j) % n < n = mod-lt (l + j) {m = n} (omega arith) in
           let q : member (turn ls n l j) ls ≡ true =
-          sym (x.each (turn ls n l j) (omega arith) (omega arith)) ∙ minus a.m.now ((l + j) % n) ∙ not-false _ c.if1.false in
-          c.before.before.before.loop.invariant.2 ls x ∙ free_on ls n l j c.before.before.loop-test.true q,
+          sym (x.each (turn ls n l j) (omega arith) (omega arith)) ∙ minus a.m.now ((l + j) % n) ∙ not-false _ c.if-not-m-k.false-raw in
+          c.loop-j.invariant.2 ls x ∙ free_on ls n l j c.loop-j-test.true q,
     )
 
-returns_2 : tie.Need-returns-2 invariant-loop decreases-loop
+returns_2 : tie.Need-returns invariant-loop decreases-loop
 returns_2 c =
-    let a = c.before.before.args in
-    λ ls x. sym (c.before.loop.invariant.2 ls x ∙ free_end ls a.n a.last c.before.loop.j c.loop-test.false)
+    let a = c.args in
+    λ ls x. sym (c.loop-j.invariant.2 ls x ∙ free_end ls a.n a.last c.loop-j.j c.loop-j-test.false)
 
-pub first-unmarked-spec : {M : Type 1} → statement M
-first-unmarked-spec =
+pub first_unmarked_spec : {M : Type 1} → statement M
+first_unmarked_spec =
     tie.close
     (tie.spec
     invariant-loop

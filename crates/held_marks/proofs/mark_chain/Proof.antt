@@ -13,49 +13,49 @@ use borrow.Author.Rules.{rules}
 use Rattle.held_marks.proofs.mark_chain.Statement.{statement}
 use Rattle.held_marks.proofs.mark_chain.Tie as tie
 
-abbrev invariant-loop : tie.invariant-loop
+abbrev invariant-loop : tie.invariant-loop-left
 invariant-loop ns m₀ h from at₀ left₀ m at left =
     (left ≤ h) × (length m ≡ length m₀) × ((q : List Bool) → Marks m q (chain ns left at) → Marks m₀ q (chain ns h from))
 
-abbrev decreases-loop : tie.decreases-loop
+abbrev decreases-loop : tie.decreases-loop-left
 decreases-loop ns m₀ h from at₀ left₀ m at left = left
 
-loop_holds : tie.Need-loop-init invariant-loop decreases-loop
+loop_holds : tie.Need-loop-left-init invariant-loop decreases-loop
 loop_holds c = (omega arith, refl, λ q r. r)
 
-same_length : tie.Need-same-length invariant-loop decreases-loop
-same_length c = c.before.before.loop.invariant.1
+same_length : tie.Need-shape_of-m-then-at-eq0 invariant-loop decreases-loop
+same_length c = c.loop-left.invariant.1
 
-returns : tie.Need-returns invariant-loop decreases-loop
+returns : tie.Need-returns-then-at-eq0 invariant-loop decreases-loop
 returns c =
-    let a = c.before.before.before.before.before.args in
+    let a = c.args in
     let w = a.ns.now in
-    let loop = c.before.before.loop in
-    finish (chain w loop.left loop.at) _ (chain_none w loop.left loop.at c.if1.true) loop.invariant.2
+    let loop = c.loop-left in
+    finish (chain w loop.left loop.at) _ (chain_none w loop.left loop.at c.if-at-eq0.true) loop.invariant.2
 
-loop_again : tie.Need-loop-preserved invariant-loop decreases-loop
+loop_again : tie.Need-loop-left-preserved invariant-loop decreases-loop
 loop_again c =
     let at-if1 = c.before.before.before.before.before in
     let at_test = at-if1.before in
-    let loop = at_test.before.loop in
-    let a = at_test.before.before.before.before.args in
+    let loop = at_test.loop-left in
+    let a = at_test.args in
     let w = a.ns.now in
-    let marks = c.before.before.before.mark.ensures in
-    let turn = chain_turn w loop.left loop.at (chain w a.h a.from) at_test.loop-test.true at-if1.if1.false loop.invariant.2 marks in
-    (omega arith, marks.long ∙ loop.invariant.1, rw c.pred_of.ensures turn)
+    let marks = c.mark.ensures in
+    let turn = chain_turn w loop.left loop.at (chain w a.h a.from) at_test.loop-left-test.true at-if1.if-at-eq0.false loop.invariant.2 marks in
+    (omega arith, marks.long ∙ loop.invariant.1, rw c.pred_of-p.ensures turn)
 
-same_length_2 : tie.Need-same-length-2 invariant-loop decreases-loop
-same_length_2 c = c.before.loop.invariant.1
+same_length_2 : tie.Need-shape_of-m invariant-loop decreases-loop
+same_length_2 c = c.loop-left.invariant.1
 
-returns_2 : tie.Need-returns-2 invariant-loop decreases-loop
+returns_2 : tie.Need-returns invariant-loop decreases-loop
 returns_2 c =
-    let a = c.before.before.before.before.args in
+    let a = c.args in
     let w = a.ns.now in
-    let loop = c.before.loop in
+    let loop = c.loop-left in
     finish (chain w loop.left loop.at) _ (chain_end w loop.left loop.at (omega arith)) loop.invariant.2
 
-pub mark-chain-spec : {M : Type 1} → statement M
-mark-chain-spec =
+pub mark_chain_spec : {M : Type 1} → statement M
+mark_chain_spec =
     tie.close
     (tie.spec
     invariant-loop

@@ -13,25 +13,25 @@ use borrow.Author.Rules.{rules}
 use Rattle.known_memory.proofs.checked.Statement.{statement}
 use Rattle.known_memory.proofs.checked.Tie as tie
 
-returns : tie.Need-returns
+returns : tie.Need-returns-then-not-ok
 unfolding told
 returns c =
     λ y l e s.
-    let spoilt : sound y ≡ false = sym s ∙ not-true _ c.if1.true in
-    rw (spoilt, c.before.idle.ensures)
+    let spoilt : sound y ≡ false = sym s ∙ not-true _ c.if-not-ok.true-raw in
+    rw (spoilt, c.idle-none.ensures)
 
-returns_2 : tie.Need-returns-2
+returns_2 : tie.Need-returns-then-k-lt8
 returns_2 c =
-    let k = c.before.before.before.args.k in
+    let k = c.args.k in
     λ y l e s.
-    let low : k % 8 ≡ k = omega (arith, c.if2.true) in
-    sym (told_sound (sym s ∙ not-false _ c.before.if1.false) ∙ ap (λ (z : Task). record { sound = true; task = z }) (sym (e ∙ ap (task_of y) low)))
+    let low : k % 8 ≡ k = omega (arith, c.if-k-lt8.true) in
+    sym (told_sound (sym s ∙ not-false _ c.if-not-ok.false-raw) ∙ ap (λ (z : Task). record { sound = true; task = z }) (sym (e ∙ ap (task_of y) low)))
 
-returns_3 : tie.Need-returns-3
+returns_3 : tie.Need-returns
 returns_3 c =
-    let k = c.before.before.before.args.k in
+    let k = c.args.k in
     λ y l e s.
-    rw c.before.before.idle.ensures (sym (told_sound (sym s ∙ not-false _ c.before.if1.false) ∙ rw (no_such_task y k l c.if2.false)))
+    rw c.idle-none.ensures (sym (told_sound (sym s ∙ not-false _ c.if-not-ok.false-raw) ∙ rw (no_such_task y k l c.if-k-lt8.false)))
 
-pub checked-spec : {M : Type 1} → statement M
-checked-spec = tie.close (tie.spec (λ c κs. search rules) returns returns_2 returns_3)
+pub checked_spec : {M : Type 1} → statement M
+checked_spec = tie.close (tie.spec (λ c κs. search rules) returns returns_2 returns_3)

@@ -7,7 +7,7 @@ use borrow.Author.Rules.{rules}
 use Rattle.known_memory.proofs.start.Statement.{statement}
 use Rattle.known_memory.proofs.start.Tie as tie
 
-eight : (c : tie.Start) → length c.args.t2.task ≡ 8
+eight : (c : tie.Start) → length c.args.s.task ≡ 8
 eight c = search (rules, length_mapped)
 
 returns : tie.Need-returns
@@ -17,7 +17,7 @@ returns c =
     let entry = at-checked.before.before in
     λ ns bs e.
     c.settle.ensures ns bs
-    ∙ (c.before.start.ensures ns bs (at-checked.checked.ensures (machine_of entry.args.t2 ns bs) (eight entry) refl e)).reply
+    ∙ (c.start-m.ensures ns bs (at-checked.checked-d.ensures (machine_of entry.args.s ns bs) (eight entry) refl e)).reply
 
 pub start_spec : {M : Type 1} → statement M
 start_spec =

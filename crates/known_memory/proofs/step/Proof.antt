@@ -7,18 +7,18 @@ use borrow.Author.Rules.{rules}
 use Rattle.known_memory.proofs.step.Statement.{statement}
 use Rattle.known_memory.proofs.step.Tie as tie
 
-eight : (c : tie.Start) → length c.args.t2.task ≡ 8
+eight : (c : tie.Start) → length c.args.s.task ≡ 8
 eight c = search (rules, length_mapped)
 
-step-requires : tie.Need-step-requires
+step-requires : tie.Need-step-m-requires
 unfolding task_of idle
 step-requires c κs =
     let at-checked = c.before.before in
     let entry = at-checked.before.before.before.before in
-    at-checked.checked.ensures _ (eight entry) refl entry.requires
+    at-checked.checked-d.ensures _ (eight entry) refl entry.requires
 
 returns : tie.Need-returns
-returns c = c.settle.ensures _ _ ∙ c.before.before.before.before.before.step.ensures.reply
+returns c = c.settle.ensures _ _ ∙ c.step-m.ensures.reply
 
 pub step_spec : {M : Type 1} → statement M
 step_spec =

@@ -7,5 +7,5 @@ use Rattle.lent_parts.proofs.out_of.Tie as tie
 returns : tie.Need-returns
 returns c = refl
 
-pub out-of-spec : {M : Type 1} → statement M
-out-of-spec = tie.close (tie.spec returns)
+pub out_of_spec : {M : Type 1} → statement M
+out_of_spec = tie.close (tie.spec returns)

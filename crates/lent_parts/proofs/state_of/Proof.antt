@@ -7,5 +7,5 @@ use Rattle.lent_parts.proofs.state_of.Tie as tie
 returns : tie.Need-returns
 returns c = refl
 
-pub state-of-spec : {M : Type 1} → statement M
-state-of-spec = tie.close (tie.spec returns)
+pub state_of_spec : {M : Type 1} → statement M
+state_of_spec = tie.close (tie.spec returns)

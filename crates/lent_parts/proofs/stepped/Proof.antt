@@ -7,5 +7,5 @@ use Rattle.lent_parts.proofs.stepped.Tie as tie
 returns : tie.Need-returns
 returns c = (refl, refl)
 
-pub stepped-spec : {M : Type 1} → statement M
-stepped-spec = tie.close (tie.spec returns)
+pub stepped_spec : {M : Type 1} → statement M
+stepped_spec = tie.close (tie.spec returns)

@@ -9,5 +9,5 @@ returns : tie.Need-returns
 unfolding occupancy
 returns c = (λ ns bs. c.ended.ensures.0 ns bs 0 refl, c.ended.ensures.1)
 
-pub end-spec : {M : Type 1} → statement M
-end-spec = tie.close (tie.spec (λ c κs. search rules) returns)
+pub end_spec : {M : Type 1} → statement M
+end_spec = tie.close (tie.spec (λ c κs. search rules) returns)

@@ -14,5 +14,5 @@ returns c =
     let filled : p.args.c.b ≡ 0 → ⊥ = λ z. omega (arith, p.requires.1) in
     (λ ns bs e. c.ended.ensures.0 ns bs p.args.c.b (rw (ne_eqb _ _ filled, e)), c.ended.ensures.1)
 
-pub end-counted-spec : {M : Type 1} → statement M
-end-counted-spec = tie.close (tie.spec (λ c κs. search rules) returns)
+pub end_counted_spec : {M : Type 1} → statement M
+end_counted_spec = tie.close (tie.spec (λ c κs. search rules) returns)

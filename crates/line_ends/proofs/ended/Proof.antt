@@ -12,9 +12,9 @@ returns c =
     let own = c.before in
     let p = own.before in
     let a = p.args in (
-      λ ns bs l q. rw (own.one-more-own-step.ensures, c.idle.ensures) (ends_so a.s a.k a.c p.requires ns bs a.a a.full l q),
+      λ ns bs l q. rw (own.one_more_own_step-n.ensures, c.idle-x.ensures) (ends_so a.s a.k a.c p.requires ns bs a.a a.full l q),
       lt-ltb _ _ p.requires,
     )
 
-pub ended-spec : {M : Type 1} → statement M
-ended-spec = tie.close (tie.spec (λ c κs. search rules) (λ c κs. search rules) returns)
+pub ended_spec : {M : Type 1} → statement M
+ended_spec = tie.close (tie.spec (λ c κs. search rules) (λ c κs. search rules) returns)

@@ -12,7 +12,7 @@ returns : tie.Need-returns
 unfolding with_line with_own changes
 returns c =
     let p = c.before in
-    (λ ns bs. rw c.one-more-own-step.ensures (goes_on p.args.s p.args.k p.args.c p.requires ns bs p.args.l), lt-ltb _ _ p.requires)
+    (λ ns bs. rw c.one_more_own_step.ensures (goes_on p.args.s p.args.k p.args.c p.requires ns bs p.args.l), lt-ltb _ _ p.requires)
 
-pub go-spec : {M : Type 1} → statement M
-go-spec = tie.close (tie.spec (λ c κs. search rules) returns)
+pub go_spec : {M : Type 1} → statement M
+go_spec = tie.close (tie.spec (λ c κs. search rules) returns)

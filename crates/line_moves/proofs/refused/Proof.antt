@@ -6,7 +6,7 @@ use Rattle.line_moves.proofs.refused.Tie as tie
 
 returns : tie.Need-returns
 unfolding refusal
-returns c = rw c.idle.ensures
+returns c = rw c.idle-x.ensures
 
-pub refused-spec : {M : Type 1} → statement M
-refused-spec = tie.close (tie.spec (λ c κs. search rules) returns)
+pub refused_spec : {M : Type 1} → statement M
+refused_spec = tie.close (tie.spec (λ c κs. search rules) returns)

@@ -42,73 +42,73 @@ module _ (p : tie.Start) where
   place = number task.b
 
   filled : task.b ≡ 0 → ⊥
-  filled z = omega (arith, p.pre.0.there)
+  filled z = omega (arith, p.requires.0.there)
 
   fits : 66 * place + 66 ≤ length words
-  fits = omega (arith, p.pre.0.there, p.pre.0.fits)
+  fits = omega (arith, p.requires.0.there, p.requires.0.fits)
 
-abbrev before-word : tie.After-word → tie.Start
-before-word p = p.before.before.before.before.before
+abbrev before-word : tie.After-word-n → tie.Start
+before-word p = p.before.before.before.before
 
-abbrev at-start : tie.After-has-at → tie.Start
-at-start p = before-word p.before.before
+abbrev at-start : tie.After-has_at → tie.Start
+at-start p = before-word p.before
 
 -- the search says whether the bucket has the tag
-has : (p : tie.After-has-at) → let q = at-start p in p.has_at.result ≡ member (task q).tag (tags (words q) (place q))
+has : (p : tie.After-has_at) → let q = at-start p in p.has_at.result ≡ member (task q).tag (tags (words q) (place q))
 has p =
     let q = at-start p in
-    p.has_at.ensures ∙ found_here (words q) (place q) q.pre.0.good (fits q) (task q).tag
+    p.has_at.ensures ∙ found_here (words q) (place q) q.requires.0.good (fits q) (task q).tag
 
 -- the second word is the count
-number_is : (p : tie.After-word) → let q = before-word p in p.word.result ≡ count (words q) (place q)
+number_is : (p : tie.After-word-n) → let q = before-word p in p.word-n.result ≡ count (words q) (place q)
 unfolding count
-number_is p = p.word.ensures
+number_is p = p.word-n.ensures
 
 -- the listed tags are counted
-listed_is : (p : tie.After-count) → p.count.result ≡ length (listed (machine (at-start p.before.before.before)))
-listed_is p = let q = at-start p.before.before.before in p.count.ensures ∙ counted (machine q) q.pre.2
+listed_is : (p : tie.After-count-listed) → p.count-listed.result ≡ length (listed (machine (at-start p.before.before)))
+listed_is p = let q = at-start p.before.before in p.count-listed.ensures ∙ counted (machine q) q.requires.2
 
 -- ---- the tag is absent, and fewer than 64 are listed
 
-module _ (p : tie.Else2) where
-  abbrev looked : tie.Else1
-  looked = p.before.before.before
+module _ (p : tie.Else-listed-ge64) where
+  abbrev looked : tie.Else-has_at
+  looked = p.before.before
 
   abbrev q : tie.Start
   q = at-start looked.before
 
   absent : member (task q).tag (tags (words q) (place q)) ≡ false
-  absent = sym (has looked.before) ∙ looked.if1.left
+  absent = sym (has looked.before) ∙ looked.if-has_at.false
 
   room : length (listed (machine q)) < 64
-  room = rw (listed_is p.before) at p.if2.left
+  room = rw (listed_is p.before) at p.if-listed-ge64.false
 
   nf : changeable (words q) (place q) ≡ 0 → ⊥
-  nf = q.pre.0.may_change
+  nf = q.requires.0.may_change
 
   -- the bucket has as many tags as its second word says
-  long : length (tags (words q) (place q)) ≡ looked.before.before.before.word.result
+  long : length (tags (words q) (place q)) ≡ looked.word-n.result
   long =
-      let f = sound_facts (machine q) q.pre.2 in
-      (f.bucket (place q) (omega (arith, f.buckets_length, fits q))).long ∙ sym (number_is looked.before.before.before)
+      let f = sound_facts (machine q) q.requires.2 in
+      (f.bucket (place q) (omega (arith, f.buckets_length, fits q))).long ∙ sym (number_is looked.before.before)
 
 -- ---- the bucket has room, and has been asked
 
-module _ (p : tie.After-add-at) where
-  abbrev tested : tie.Else3
+module _ (p : tie.After-add_at-d) where
+  abbrev tested : tie.Else-n-ge64
   tested = p.before.before
 
   abbrev at : tie.Start
   at = q tested.before
 
   has_room : leb 64 (length (tags (words at) (place at))) ≡ false
-  has_room = lt-leb 64 (length (tags (words at) (place at))) (rw (long tested.before) tested.if3.left)
+  has_room = lt-leb 64 (length (tags (words at) (place at))) (rw (long tested.before) tested.if-n-ge64.false)
 
-  asked : (p.add_at.result.count ≡ count p.add_at.last.0 (place at)) × (p.add_at.last.0 ≡ gained (words at) (place at) (task at).tag)
+  asked : (p.add_at-d.result.count ≡ count p.add_at-d.new.pool (place at)) × (p.add_at-d.new.pool ≡ gained (words at) (place at) (task at).tag)
   asked =
-      let d = add_here (words at) (place at) at.pre.0.good (fits at) (task at).tag in
-      let e = p.add_at.ensures.1 ∙ d.1 in (
-        ap (λ (a : Answered). a.count) (p.add_at.ensures.0 ∙ d.0) ∙ ap (λ (w : List ℕ). count w (place at)) (sym e),
+      let d = add_here (words at) (place at) at.requires.0.good (fits at) (task at).tag in
+      let e = p.add_at-d.ensures.1 ∙ d.1 in (
+        ap (λ (a : Answered). a.count) (p.add_at-d.ensures.0 ∙ d.0) ∙ ap (λ (w : List ℕ). count w (place at)) (sym e),
         e ∙ adds (words at) (place at) (task at).tag (nf tested.before) (absent tested.before) has_room,
       )
 
@@ -118,43 +118,43 @@ module _ (p : tie.After-add-at) where
   unfolding accept apply with_buckets
   ends-yes e =
       let t = tested.before in
-      rw e (sym (yes_36 (machine at) _ (task at) at.pre.0.line (filled at) (nf t) at.pre.1 (absent t) (room t) has_room))
+      rw e (sym (yes_36 (machine at) _ (task at) at.requires.0.line (filled at) (nf t) at.requires.1 (absent t) (room t) has_room))
 
 -- ---- the needs
 
-returns : tie.Need-returns
+returns : tie.Need-returns-then-has_at
 returns c =
     let found = c.before.before in
     let q = at-start found in
-    going c.end-counted.ensures.1
-    (c.end-counted.ensures.0 _ _ (number_is found.before.before)
-    ∙ sym (no_36 (machine q) _ (task q) q.pre.0.line (filled q) q.pre.0.may_change q.pre.1 (sym (has found) ∙ c.before.if1.true)))
+    going c.end_counted.ensures.1
+    (c.end_counted.ensures.0 _ _ (number_is found.before)
+    ∙ sym (no_36 (machine q) _ (task q) q.requires.0.line (filled q) q.requires.0.may_change q.requires.1 (sym (has found) ∙ c.if-has_at.true)))
 
-returns_2 : tie.Need-returns-2
+returns_2 : tie.Need-returns-then-listed-ge64
 returns_2 c =
     let tallied = c.before.before in
-    let looked = tallied.before.before in
+    let looked = tallied.before in
     let found = looked.before in
     let q = at-start found in
-    let full = rw (listed_is tallied) at c.before.if2.true in
-    going c.end-counted2.ensures.1
-    (c.end-counted2.ensures.0 _ _ (number_is found.before.before)
-    ∙ sym (full_36 (machine q) _ (task q) q.pre.0.line (filled q) q.pre.0.may_change q.pre.1 (sym (has found) ∙ looked.if1.false) full))
+    let full = rw (listed_is tallied) at c.if-listed-ge64.true in
+    going c.end_counted-then-listed-ge64.ensures.1
+    (c.end_counted-then-listed-ge64.ensures.0 _ _ (number_is found.before)
+    ∙ sym (full_36 (machine q) _ (task q) q.requires.0.line (filled q) q.requires.0.may_change q.requires.1 (sym (has found) ∙ looked.if-has_at.false) full))
 
-returns_3 : tie.Need-returns-3
+returns_3 : tie.Need-returns-then-n-ge64
 returns_3 c =
     let t = c.before.before in
-    let over = le-leb 64 (length (tags (words (q t)) (place (q t)))) (rw (long t) c.before.if3.true) in
+    let over = le-leb 64 (length (tags (words (q t)) (place (q t)))) (rw (long t) c.if-n-ge64.true) in
     refusing 8 c.refused.ensures (over_36 (machine (q t)) _ (task (q t)) (q t).requires.0.line (filled (q t)) (nf t) (q t).requires.1 (absent t) (room t)
     over)
 
-returns_4 : tie.Need-returns-4
+returns_4 : tie.Need-returns
 returns_4 c =
     let p = c.before.before.before in
-    going c.end-counted3.ensures.1 (c.end-counted3.ensures.0 _ _ (asked p).0 ∙ ends-yes p (asked p).1)
+    going c.end_counted-2.ensures.1 (c.end_counted-2.ensures.0 _ _ (asked p).0 ∙ ends-yes p (asked p).1)
 
-pub insert36-spec : {M : Type 1} → statement M
-insert36-spec =
+pub insert36_spec : {M : Type 1} → statement M
+insert36_spec =
     tie.close
     (tie.spec
     (λ c. search rules)

@@ -18,9 +18,9 @@ returns c =
     let start = c.before.before.before.before.before in
     let a = start.args in
     let ns = a.ns.now in
-    let place-number : c.before.slot.result ≡ slot a.s.config a.c.tag (size ns (number a.c.t)) =
-    c.before.slot.ensures ∙ ap (λ (z : ℕ). slot a.s.config a.c.tag z) c.before.before.size_of.ensures in
-    λ bs. gives_as (rw place-number (sym (tested_at (machine_of a.s ns bs) a.c 33 start.requires.1 a.k refl))) (c.read-bucket.ensures bs)
+    let place-number : c.slot-i.result ≡ slot a.s.config a.c.tag (size ns (number a.c.t)) =
+    c.slot-i.ensures ∙ ap (λ (z : ℕ). slot a.s.config a.c.tag z) c.size_of-z.ensures in
+    λ bs. gives_as (rw place-number (sym (tested_at (machine_of a.s ns bs) a.c 33 start.requires.1 a.k refl))) (c.read_bucket.ensures bs)
 
-pub line33-spec : {M : Type 1} → statement M
-line33-spec = tie.close (tie.spec (λ c κs. search rules) (λ c κs. search rules) (λ c κs. search rules) returns)
+pub line33_spec : {M : Type 1} → statement M
+line33_spec = tie.close (tie.spec (λ c κs. search rules) (λ c κs. search rules) (λ c κs. search rules) returns)

@@ -24,7 +24,7 @@ use Rattle.lines_apply.proofs.remove36.Tie as tie
 
 -- ---- the bucket has been asked
 
-module _ (p : tie.After-remove-at) where
+module _ (p : tie.After-remove_at-d) where
   abbrev q : tie.Start
   q = p.before.before.before.before
 
@@ -38,13 +38,13 @@ module _ (p : tie.After-remove-at) where
   place = number task.b
 
   filled : task.b ≡ 0 → ⊥
-  filled z = omega (arith, q.pre.0.there)
+  filled z = omega (arith, q.requires.0.there)
 
   fits : 66 * place + 66 ≤ length words
-  fits = omega (arith, q.pre.0.there, q.pre.0.fits)
+  fits = omega (arith, q.requires.0.there, q.requires.0.fits)
 
   nf : changeable words place ≡ 0 → ⊥
-  nf = q.pre.0.may_change
+  nf = q.requires.0.may_change
 
   abbrev answer : Response
   answer = remove_answer words place task.tag
@@ -52,17 +52,17 @@ module _ (p : tie.After-remove-at) where
   abbrev after : List ℕ
   after = remove_words words place task.tag
 
-  here : (p.remove-at.result ≡ record { response = answer; count = count after place }) × (p.remove-at.last.0 ≡ after)
+  here : (p.remove_at-d.result ≡ record { response = answer; count = count after place }) × (p.remove_at-d.new.pool ≡ after)
   here =
-      let d = remove_here words place q.pre.0.good fits task.tag in
-      (p.remove-at.ensures.0 ∙ d.0, p.remove-at.ensures.1 ∙ d.1)
+      let d = remove_here words place q.requires.0.good fits task.tag in
+      (p.remove_at-d.ensures.0 ∙ d.0, p.remove_at-d.ensures.1 ∙ d.1)
 
-  asked : Removes words place task.tag nf p.remove-at.result.response p.remove-at.last.0
+  asked : Removes words place task.tag nf p.remove_at-d.result.response p.remove_at-d.new.pool
   asked =
-      subst (λ (d : Response). Removes words place task.tag nf d p.remove-at.last.0) (sym (ap (λ (a : Answered). a.response) here.0))
+      subst (λ (d : Response). Removes words place task.tag nf d p.remove_at-d.new.pool) (sym (ap (λ (a : Answered). a.response) here.0))
       (subst (λ (w : List ℕ). Removes words place task.tag nf answer w) (sym here.1) (removes words place task.tag nf))
 
-  count-is : p.remove-at.result.count ≡ count p.remove-at.last.0 place
+  count-is : p.remove_at-d.result.count ≡ count p.remove_at-d.new.pool place
   count-is = ap (λ (a : Answered). a.count) here.0 ∙ ap (λ (w : List ℕ). count w place) (sym here.1)
 
   module _ (ns : List ℕ) where
@@ -72,28 +72,28 @@ module _ (p : tie.After-remove-at) where
     on-yes : {d : Response} {w : List ℕ} → Removes words place task.tag nf d w → d ≡ Yes
         → accept (left w) q.args.k task.own (answers_of task.b nothing ans.Yes) ≡ step_running (left words) q.args.k task
     unfolding accept apply with_buckets
-    on-yes (loses m) e = sym (gone_36 (left words) _ task q.pre.0.line filled nf q.pre.1 m)
+    on-yes (loses m) e = sym (gone_36 (left words) _ task q.requires.0.line filled nf q.requires.1 m)
     on-yes (lacks m) e = let z : ◌≡◌ {A = ℕ} 0 1 = cc in absurd (omega arith)
 
     on-no : {d : Response} {w : List ℕ} → Removes words place task.tag nf d w → (d ≡ Yes → ⊥)
         → accept (left w) q.args.k task.own (answers_of task.b nothing ans.No) ≡ step_running (left words) q.args.k task
     on-no (loses m) n = absurd (n refl)
-    on-no (lacks m) n = sym (absent_36 (left words) _ task q.pre.0.line filled nf q.pre.1 m)
+    on-no (lacks m) n = sym (absent_36 (left words) _ task q.requires.0.line filled nf q.requires.1 m)
 
 -- ---- the needs
 
-returns : tie.Need-returns
+returns : tie.Need-returns-in-Yes
 returns c =
-    let p = c.before.before.before.before.before in
-    λ ns. going c.end-counted.ensures.1 (c.end-counted.ensures.0 _ _ (count-is p) ∙ on-yes p ns (asked p) c.before.enum_told.given.1)
+    let p = c.before.before.before.before in
+    λ ns. going c.end_counted.ensures.1 (c.end_counted.ensures.0 _ _ (count-is p) ∙ on-yes p ns (asked p) c.in-Yes.is)
 
-returns_2 : tie.Need-returns-2
+returns_2 : tie.Need-returns
 returns_2 c =
     let p = c.before.before.before.before in
-    λ ns. going c.end-counted2.ensures.1 (c.end-counted2.ensures.0 _ _ (count-is p) ∙ on-no p ns (asked p) (not_yes _ c.before.match.keys2))
+    λ ns. going c.end_counted-2.ensures.1 (c.end_counted-2.ensures.0 _ _ (count-is p) ∙ on-no p ns (asked p) (not_yes _ c.in_default.in_default-own.keys2))
 
-pub remove36-spec : {M : Type 1} → statement M
-remove36-spec =
+pub remove36_spec : {M : Type 1} → statement M
+remove36_spec =
     tie.close
     (tie.spec
     (λ c. search rules)

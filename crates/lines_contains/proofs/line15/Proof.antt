@@ -15,29 +15,29 @@ use Rattle.lines_contains.proofs.line15.Tie as tie
 abbrev machine : tie.Start → List ℕ → Machine
 machine p bs = machine_of p.args.s p.args.ns.now bs
 
-returns : tie.Need-returns
+returns : tie.Need-returns-then-t-eq0
 unfolding step_table
 returns c =
     let p = c.before.before.before in
-    λ bs. refuses_8 (machine p bs) p.args.c 15 p.requires.1 (here c.before.if1.true) c.refused.ensures
+    λ bs. refuses_8 (machine p bs) p.args.c 15 p.requires.1 (here c.if-t-eq0.true) c.refused.ensures
 
-returns_2 : tie.Need-returns-2
+returns_2 : tie.Need-returns-then-p-eq0
 unfolding step_table line_15 pred_of with_s
 returns_2 c =
     let p = c.before.before.before.before.before in
-    let read = c.before.before.pred_of.ensures in
+    let read = c.pred_of-p.ensures in
     λ bs.
-    goes (machine p bs) p.args.c 15 p.requires.1 c.before.before.before.if1.false tt c.go.ensures.1
-    (c.go.ensures.0 _ bs ∙ rw (← read, c.before.if2.true))
+    goes (machine p bs) p.args.c 15 p.requires.1 c.if-t-eq0.false tt c.go.ensures.1
+    (c.go.ensures.0 _ bs ∙ rw (← read, c.if-p-eq0.true))
 
-returns_3 : tie.Need-returns-3
+returns_3 : tie.Need-returns
 unfolding step_table line_15 pred_of with_s
 returns_3 c =
     let p = c.before.before.before.before.before in
-    let read = c.before.before.pred_of.ensures in
+    let read = c.pred_of-p.ensures in
     λ bs.
-    goes (machine p bs) p.args.c 15 p.requires.1 c.before.before.before.if1.false tt c.go2.ensures.1
-    (c.go2.ensures.0 _ bs ∙ rw (← read, ne_eqb _ _ c.before.if2.false))
+    goes (machine p bs) p.args.c 15 p.requires.1 c.if-t-eq0.false tt c.go-2.ensures.1
+    (c.go-2.ensures.0 _ bs ∙ rw (← read, ne_eqb _ _ c.if-p-eq0.false))
 
-pub line15-spec : {M : Type 1} → statement M
-line15-spec = tie.close (tie.spec (λ c κs. search rules) returns (λ c κs. search rules) (λ c κs. search rules) returns_2 (λ c κs. search rules) returns_3)
+pub line15_spec : {M : Type 1} → statement M
+line15_spec = tie.close (tie.spec (λ c κs. search rules) returns (λ c κs. search rules) (λ c κs. search rules) returns_2 (λ c κs. search rules) returns_3)

@@ -19,39 +19,39 @@ abbrev machine : tie.Start → List ℕ → Machine
 machine p ns = machine_of p.args.s ns p.args.bs.now
 
 -- what the bucket's answer says
-has : (p : tie.After-has-at) → let a = p.before.before.before.args in p.has_at.result ≡ member a.c.tag (tags a.bs.now (number a.c.b))
+has : (p : tie.After-has_at) → let a = p.args in p.has_at.result ≡ member a.c.tag (tags a.bs.now (number a.c.b))
 has p =
     let start = p.before.before.before in
     let a = start.args in
-    let there = p.before.if1.false in
+    let there = p.if-b-eq0.false in
     p.has_at.ensures ∙ found_here a.bs.now (a.c.b - 1) (start.requires.4 (omega (arith, there))) (omega (arith, there)) a.c.tag
 
-returns : tie.Need-returns
+returns : tie.Need-returns-then-b-eq0
 unfolding step_table
 returns c =
     let p = c.before.before.before in
-    λ ns. refuses_8 (machine p ns) p.args.c 18 p.requires.1 (here c.before.if1.true) c.refused.ensures
+    λ ns. refuses_8 (machine p ns) p.args.c 18 p.requires.1 (here c.if-b-eq0.true) c.refused.ensures
 
-returns_2 : tie.Need-returns-2
+returns_2 : tie.Need-returns-then-has_at
 unfolding step_table line_18 tags_of
 returns_2 c =
     let at_has = c.before.before in
     let p = c.before.before.before.before.before in
     λ ns.
-    goes (machine p ns) p.args.c 18 p.requires.1 c.before.before.before.if1.false tt c.end.ensures.1
-    (c.end.ensures.0 ns _ ∙ rw (sym (has at_has) ∙ c.before.if2.true))
+    goes (machine p ns) p.args.c 18 p.requires.1 c.if-b-eq0.false tt c.end.ensures.1
+    (c.end.ensures.0 ns _ ∙ rw (sym (has at_has) ∙ c.if-has_at.true))
 
-returns_3 : tie.Need-returns-3
+returns_3 : tie.Need-returns
 unfolding step_table line_18 tags_of
 returns_3 c =
     let at_has = c.before.before in
     let p = c.before.before.before.before.before in
     λ ns.
-    goes (machine p ns) p.args.c 18 p.requires.1 c.before.before.before.if1.false tt c.end2.ensures.1
-    (c.end2.ensures.0 ns _ ∙ rw (sym (has at_has) ∙ c.before.if2.false))
+    goes (machine p ns) p.args.c 18 p.requires.1 c.if-b-eq0.false tt c.end-2.ensures.1
+    (c.end-2.ensures.0 ns _ ∙ rw (sym (has at_has) ∙ c.if-has_at.false))
 
-pub line18-spec : {M : Type 1} → statement M
-line18-spec =
+pub line18_spec : {M : Type 1} → statement M
+line18_spec =
     tie.close
     (tie.spec
     (λ c κs. search rules)

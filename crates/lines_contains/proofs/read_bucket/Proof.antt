@@ -15,30 +15,30 @@ use Rattle.lines_contains.proofs.read_bucket.Tie as tie
 abbrev machine : tie.Start → List ℕ → Machine
 machine p bs = machine_of p.args.s p.args.ns.now bs
 
-returns : tie.Need-returns
+returns : tie.Need-returns-then-node-eq0
 returns c =
     let p = c.before.before.before in
-    λ bs. fails_test (machine p bs) p.args.c (through p.args.node ∷ []) _ (here c.before.if1.true) c.refused.ensures
+    λ bs. fails_test (machine p bs) p.args.c (through p.args.node ∷ []) _ (here c.if-node-eq0.true) c.refused.ensures
 
-returns_2 : tie.Need-returns-2
+returns_2 : tie.Need-returns-then-b-eq0
 unfolding AllPass reads_bucket place_for place_of size_of with_b with_i
 returns_2 c =
     let at-if1 = c.before.before.before.before in
     let p = at-if1.before.before in
-    let read = c.before.before.place_for.ensures in
+    let read = c.place_for-b.ensures in
     λ bs.
-    passes_tests (machine p bs) p.args.c (through p.args.node ∷ []) _ at-if1.if1.false c.go.ensures.1
-    (c.go.ensures.0 _ bs ∙ rw (← read, c.before.if2.true))
+    passes_tests (machine p bs) p.args.c (through p.args.node ∷ []) _ at-if1.if-node-eq0.false c.go.ensures.1
+    (c.go.ensures.0 _ bs ∙ rw (← read, c.if-b-eq0.true))
 
-returns_3 : tie.Need-returns-3
+returns_3 : tie.Need-returns
 unfolding AllPass reads_bucket place_for place_of size_of with_b with_i
 returns_3 c =
     let at-if1 = c.before.before.before.before in
     let p = at-if1.before.before in
-    let read = c.before.before.place_for.ensures in
+    let read = c.place_for-b.ensures in
     λ bs.
-    passes_tests (machine p bs) p.args.c (through p.args.node ∷ []) _ at-if1.if1.false c.go2.ensures.1
-    (c.go2.ensures.0 _ bs ∙ rw (← read, ne_eqb _ _ c.before.if2.false))
+    passes_tests (machine p bs) p.args.c (through p.args.node ∷ []) _ at-if1.if-node-eq0.false c.go-2.ensures.1
+    (c.go-2.ensures.0 _ bs ∙ rw (← read, ne_eqb _ _ c.if-b-eq0.false))
 
-pub read-bucket-spec : {M : Type 1} → statement M
-read-bucket-spec = tie.close (tie.spec (λ c κs. search rules) returns (λ c κs. search rules) (λ c κs. search rules) returns_2 (λ c κs. search rules) returns_3)
+pub read_bucket_spec : {M : Type 1} → statement M
+read_bucket_spec = tie.close (tie.spec (λ c κs. search rules) returns (λ c κs. search rules) (λ c κs. search rules) returns_2 (λ c κs. search rules) returns_3)

@@ -10,5 +10,5 @@ returns : tie.Need-returns
 unfolding with_t head_of
 returns c = λ ns bs. going c.go.ensures.1 (c.go.ensures.0 ns bs)
 
-pub read-head-spec : {M : Type 1} → statement M
-read-head-spec = tie.close (tie.spec (λ c. search rules) (λ c κs. search rules) returns)
+pub read_head_spec : {M : Type 1} → statement M
+read_head_spec = tie.close (tie.spec (λ c. search rules) (λ c κs. search rules) returns)

@@ -1,12 +1,13 @@
 -- `lines_contains::step` meets its contract: each arm is the line at which the task stands, whose `requires` follows from soundness; the
 -- last is line 18, since no other of the procedure is left. Assumes nothing.
+use Rattle.std.specs.Prelude.{if◌then◌else◌}
 use mathlib.Core.Path.{◌≡◌, refl, sym}
 use mathlib.Core.Bool.{Bool, true, false}
 use mathlib.Core.List.{[], ◌∷◌}
 use Prim.Native.Nat.{ℕ}
 use borrow.Author.Tests.{ne_eqb}
 use Rattle.spec.specs.declared.Task.{Task}
-use Rattle.spec.specs.Lists.{if◌then◌else◌, member}
+use Rattle.spec.specs.Lists.{member}
 use Rattle.spec.specs.Machine.{Machine, with_line, with_i, with_b, machine_of}
 use Rattle.spec.specs.Words.{filled}
 use Rattle.spec.specs.Listed.{place_for}
@@ -56,25 +57,25 @@ module _ (y : Machine) (c : Task) where
   unfolding step_table line_17
   read-17 at k = rw (reads c.t 18 18, same (filled (place_for y c.t c.tag)) 18) (sym (tested_at y c 17 at k refl))
 
-read-head-requires : tie.Need-read-head-requires
-read-head-requires c κs = let n = numbers c.before.before.before.requires in (n.number, n.head)
+read-head-requires : tie.Need-read_head-requires
+read-head-requires c κs = let n = numbers c.requires in (n.number, n.head)
 
-read-bucket-requires : tie.Need-read-bucket-requires
-read-bucket-requires c κs = (numbers c.before.before.before.requires).number
+read-bucket-requires : tie.Need-read_bucket-requires
+read-bucket-requires c κs = (numbers c.requires).number
 
 line15-requires : tie.Need-line15-requires
-line15-requires c κs = ((numbers c.before.before.before.requires).number, c.match.keys3)
+line15-requires c κs = ((numbers c.requires).number, c.in-15.is)
 
-read-bucket-requires-2 : tie.Need-read-bucket-requires-2
-read-bucket-requires-2 c κs = (numbers c.before.before.before.requires).number
+read-bucket-requires-2 : tie.Need-read_bucket-requires-in-16
+read-bucket-requires-2 c κs = (numbers c.requires).number
 
-read-bucket-requires-3 : tie.Need-read-bucket-requires-3
-read-bucket-requires-3 c κs = (numbers c.before.before.before.requires).number
+read-bucket-requires-3 : tie.Need-read_bucket-requires-in-17
+read-bucket-requires-3 c κs = (numbers c.requires).number
 
 line18-requires : tie.Need-line18-requires
 line18-requires c κs =
-    let runs = c.before.before.before.requires in
-    let others = c.match.rest in
+    let runs = c.requires in
+    let others = c.in_default.in_default-own.rest in
     let l = linked runs _ runs.task.b in (
       (numbers runs).number,
       left-18 _ runs.at_line others.0.0.0.0.1 others.0.0.0.1 others.0.0.1 others.0.1
@@ -84,27 +85,27 @@ line18-requires c κs =
       l.good,
     )
 
-returns : tie.Need-returns
+returns : tie.Need-returns-in-12
 unfolding step_table line_12
 returns c =
-    gives_as (sym (accepted (machine c.before.before.before.before) _ 12 c.before.match.keys1 _ tt tt)) (c.read_head.ensures _ _)
+    gives_as (sym (accepted (machine c.before.before.before.before) _ 12 c.in-12.is _ tt tt)) (c.read_head.ensures _ _)
 
-returns_2 : tie.Need-returns-2
+returns_2 : tie.Need-returns-in-13
 returns_2 c =
-    gives_as (read-13 (machine c.before.before.before.before) _ c.before.match.keys2 _) (c.read-bucket.ensures _)
+    gives_as (read-13 (machine c.before.before.before.before) _ c.in-13.is _) (c.read_bucket.ensures _)
 
-returns_3 : tie.Need-returns-3
+returns_3 : tie.Need-returns-in-15
 returns_3 c = c.line15.ensures _
 
-returns_4 : tie.Need-returns-4
+returns_4 : tie.Need-returns-in-16
 returns_4 c =
-    gives_as (read-16 (machine c.before.before.before.before) _ c.before.match.keys4 _) (c.read-bucket2.ensures _)
+    gives_as (read-16 (machine c.before.before.before.before) _ c.in-16.is _) (c.read_bucket-in-16.ensures _)
 
-returns-5 : tie.Need-returns-5
+returns-5 : tie.Need-returns-in-17
 returns-5 c =
-    gives_as (read-17 (machine c.before.before.before.before) _ c.before.match.keys5 _) (c.read-bucket3.ensures _)
+    gives_as (read-17 (machine c.before.before.before.before) _ c.in-17.is _) (c.read_bucket-in-17.ensures _)
 
-returns-6 : tie.Need-returns-6
+returns-6 : tie.Need-returns-in_default
 returns-6 c = c.line18.ensures _
 
 pub step_spec : {M : Type 1} → statement M

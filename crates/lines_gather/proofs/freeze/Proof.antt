@@ -17,27 +17,27 @@ use Rattle.lines_gather.proofs.freeze.Tie as tie
 abbrev machine : tie.Start → List ℕ → Machine
 machine p ns = machine_of p.args.s ns p.args.bs.now
 
-returns : tie.Need-returns
+returns : tie.Need-returns-then-b-eq0
 returns c =
     let p = c.before.before.before in
-    λ ns. fails_test (machine p ns) p.args.c (through p.args.b ∷ []) _ (here c.before.if1.true) c.refused.ensures
+    λ ns. fails_test (machine p ns) p.args.c (through p.args.b ∷ []) _ (here c.if-b-eq0.true) c.refused.ensures
 
-returns_2 : tie.Need-returns-2
+returns_2 : tie.Need-returns
 unfolding AllPass accept apply with_buckets
 returns_2 c =
     let at-if1 = c.before.before.before.before.before in
     let at-freeze = c.before.before.before in
-    let there = at-if1.if1.false in
+    let there = at-if1.if-b-eq0.false in
     let p = at-if1.before.before in
     let a = p.args in
-    let frozen = at-freeze.freeze-at.ensures ∙ freeze_here a.bs.now (a.b - 1) (omega (arith, there)) in
+    let frozen = at-freeze.freeze_at.ensures ∙ freeze_here a.bs.now (a.b - 1) (omega (arith, there)) in
     λ ns.
     passes_tests (machine p ns) a.c (through a.b ∷ []) _ there c.go.ensures.1
-    (c.go.ensures.0 ns at-freeze.freeze-at.new.0
+    (c.go.ensures.0 ns at-freeze.freeze_at.new.pool
     ∙ ap (λ (v : List ℕ). accept (machine_of a.s ns v) a.k a.c.own (moves (with_line a.l a.c))) frozen)
 
-pub freeze-spec : {M : Type 1} → statement M
-freeze-spec =
+pub freeze_spec : {M : Type 1} → statement M
+freeze_spec =
     tie.close
     (tie.spec
     (λ c κs. search rules)

@@ -15,26 +15,26 @@ use Rattle.lines_gather.proofs.line47.Tie as tie
 abbrev machine : tie.Start → List ℕ → Machine
 machine p bs = machine_of p.args.s p.args.ns.now bs
 
-returns : tie.Need-returns
+returns : tie.Need-returns-then-t-eq0
 unfolding step_table
 returns c =
     let p = c.before.before.before in
-    λ bs. refuses_8 (machine p bs) p.args.c 47 p.requires.1 (here c.before.if1.true) c.refused.ensures
+    λ bs. refuses_8 (machine p bs) p.args.c 47 p.requires.1 (here c.if-t-eq0.true) c.refused.ensures
 
-returns_2 : tie.Need-returns-2
+returns_2 : tie.Need-returns
 unfolding step_table line_47 with_field size_of
 returns_2 c =
     let p = c.before.before.before.before in
     let a = p.args in
-    let size = c.before.size_of.ensures in
+    let size = c.size_of-z.ensures in
     λ bs.
     gives_as
     (rw size (sym (tested_at (machine p bs) a.c 47 p.requires.1 a.k refl ∙ tested_past (through a.c.t) _ (machine p bs) a.k a.c _
-    c.before.before.if1.false)))
-    (c.read-place.ensures bs)
+    c.if-t-eq0.false)))
+    (c.read_place.ensures bs)
 
-pub line47-spec : {M : Type 1} → statement M
-line47-spec =
+pub line47_spec : {M : Type 1} → statement M
+line47_spec =
     tie.close
     (tie.spec
     (λ c κs. search rules)

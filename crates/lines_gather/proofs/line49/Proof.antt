@@ -35,87 +35,87 @@ takes p l v =
     accept (machine_of (state_last_bucket (l - 1) a.s) a.ns.now v) a.k a.c.own (moves (with_line 50 (with_new_bucket l a.c)))
 
 -- the new bucket
-module _ (p : tie.After-new-bucket-of) where
+module _ (p : tie.After-new_bucket_of-g) where
   abbrev start : tie.Start
-  start = p.before.before.before.before.before.before.before
+  start = p.before.before.before.before.before.before
 
-  made : Makes p.new-bucket-of.result (gathered (machine start) start.args.c)
-  made = p.new-bucket-of.ensures start.args.s refl
+  made : Makes p.new_bucket_of-g.result (gathered (machine start) start.args.c)
+  made = p.new_bucket_of-g.ensures start.args.s refl
 
 -- it is not too full
-module _ (p : tie.At-match-keys2) where
+module _ (p : tie.In_default) where
   abbrev begun : tie.Start
   begun = start p.before
 
   made-few : (length (gathered (machine begun) begun.args.c) ≤ 64)
-      × (p.before.new-bucket-of.result.bucket.words ≡ bucket_of 1 (gathered (machine begun) begun.args.c))
-  made-few = (made p.before).fine (not_full p.before.new-bucket-of.result.answer p.match.keys2)
+      × (p.new_bucket_of-g.result.bucket.words ≡ bucket_of 1 (gathered (machine begun) begun.args.c))
+  made-few = (made p.before).fine (not_full p.new_bucket_of-g.result.answer p.in_default.in_default-own.keys2)
 
   passed : AllPass (tests_at 49 (machine begun) begun.args.c)
   unfolding step_table
-  passed = let filled_m = p.before.before.before.before in (filled_m.before.if1.left, (filled_m.if2.left, made-few.0))
+  passed = let filled_m = p.before.before.before in (filled_m.if-t-eq0.false, (filled_m.if-m-eq0.false, made-few.0))
 
 -- the free bucket that is found
-free-is : (p : tie.After-free-bucket-of) → p.free-bucket-of.result ≡ free_bucket (machine (begun p.before))
-free-is p = let q = begun p.before in p.free-bucket-of.ensures q.args.bs.now ∙ bucket_sound (machine q) q.pre.2
+free-is : (p : tie.After-free_bucket_of-f) → p.free_bucket_of-f.result ≡ free_bucket (machine (begun p.before))
+free-is p = let q = begun p.before in p.free_bucket_of-f.ensures q.args.bs.now ∙ bucket_sound (machine q) q.requires.2
 
 -- ---- the needs
 
-returns : tie.Need-returns
+returns : tie.Need-returns-then-t-eq0
 unfolding step_table
 returns c =
-    let p = c.before.before.before.before in refuses_8 (machine p) p.args.c 49 p.requires.1 (here c.before.if1.true) c.refused.ensures
+    let p = c.before.before.before.before in refuses_8 (machine p) p.args.c 49 p.requires.1 (here c.if-t-eq0.true) c.refused.ensures
 
-returns_2 : tie.Need-returns-2
+returns_2 : tie.Need-returns-then-m-eq0
 unfolding step_table
 returns_2 c =
-    let p = c.before.before.before.before.before in refuses_8 (machine p) p.args.c 49 p.requires.1 (next (here c.before.if2.true))
-    c.refused2.ensures
+    let p = c.before.before.before.before.before in refuses_8 (machine p) p.args.c 49 p.requires.1 (next (here c.if-m-eq0.true))
+    c.refused-then-m-eq0.ensures
 
-new-bucket-of-requires : tie.Need-new-bucket-of-requires
+new-bucket-of-requires : tie.Need-new_bucket_of-g-requires
 new-bucket-of-requires c κs =
-    let p = c.before.before.before.before.before.before in
+    let p = c.before.before.before.before.before in
     let t = p.args.c in
-    let there = c.before.before.if2.false in
+    let there = c.if-m-eq0.false in
     let m = link_of (machine p) p.requires.2 t.m p.requires.3 in
     let n = link_of (machine p) p.requires.2 t.n p.requires.4 in
     (omega (arith, there), m.most, n.most, m.fits, n.fits, m.good (omega (arith, there)), n.good)
 
-returns_3 : tie.Need-returns-3
+returns_3 : tie.Need-returns-in-Full
 unfolding step_table
 returns_3 c =
-    let p = c.before.before.before.before.before.before.before.before.before.before in
-    let over = (made c.before.before.before).over c.before.enum_told.given.1 in
-    refuses_8 (machine p) p.args.c 49 p.requires.1 (next (next (here over))) c.refused3.ensures
+    let p = c.before.before.before.before.before.before.before.before in
+    let over = (made c.before.before).over c.in-Full.is in
+    refuses_8 (machine p) p.args.c 49 p.requires.1 (next (next (here over))) c.refused-in-Full.ensures
 
-returns_4 : tie.Need-returns-4
+returns_4 : tie.Need-returns-then-f-eq0
 unfolding step_table
 returns_4 c =
-    let p = c.before.before.before.before.before.before.before.before.before.before.before in
+    let p = c.before.before.before.before.before.before.before.before.before.before in
     let found = c.before.before in
-    refuses_7 (machine p) p.args.c 49 p.requires.1 (passed found.before) (here (sym (free-is found) ∙ c.before.if3.true)) c.refused4.ensures
+    refuses_7 (machine p) p.args.c 49 p.requires.1 (passed found.before) (here (sym (free-is found) ∙ c.if-f-eq0.true)) c.refused-then-f-eq0.ensures
 
-returns-5 : tie.Need-returns-5
+returns-5 : tie.Need-returns
 unfolding step_table line_49 accept apply with_last_bucket with_buckets with_state state_last_bucket with_new_bucket
 returns-5 c =
     let at-if3 = c.before.before.before.before.before.before in
-    let p = at-if3.before.before.before.before.before.before.before.before.before.before in
+    let p = at-if3.before.before.before.before.before.before.before.before.before in
     let a = p.args in
     let found = at-if3.before in
-    let free : ℕ = found.free-bucket-of.result in
-    let some = at-if3.if3.false in
+    let free : ℕ = found.free_bucket_of-f.result in
+    let some = at-if3.if-f-eq0.false in
     let new = made-few found.before in
     let numbers = numbers_of (machine p) p.requires.2 in
     let low : free ≤ a.s.buckets = rw (free-is found) (free_bucket_in (machine p) (omega arith)) in
-    let stored = c.before.before.before.store_at.ensures ∙ store_here a.bs.now (free - 1) (omega (arith, some, low)) _ ∙ ap
+    let stored = c.store_at.ensures ∙ store_here a.bs.now (free - 1) (omega (arith, some, low)) _ ∙ ap
     (overwrite a.bs.now (66 * (free - 1))) new.1 in
     goes (machine p) a.c 49 p.requires.1 (passed found.before) (λ z. some (free-is found ∙ z)) c.go.ensures.1
     (over_last_bucket (free - 1) a.s a.k c.go.result _ _ c.go.ensures.1
-    (c.go.ensures.0 _ c.before.before.before.store_at.new.0 ∙ ap (λ (v : List ℕ). takes p free v) stored)
+    (c.go.ensures.0 _ c.store_at.new.pool ∙ ap (λ (v : List ℕ). takes p free v) stored)
     ∙ rw (← free-is found))
 
-pub line49-spec : {M : Type 1} → statement M
-line49-spec =
+pub line49_spec : {M : Type 1} → statement M
+line49_spec =
     tie.close
     (tie.spec
     (λ c κs. search rules)

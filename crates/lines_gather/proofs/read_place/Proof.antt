@@ -26,39 +26,39 @@ own-kept B v c = refl
 own-kept M v c = refl
 own-kept N v c = refl
 
-returns : tie.Need-returns
+returns : tie.Need-returns-then-node-eq0
 returns c =
     let p = c.before.before.before in
-    λ bs. fails_test (machine p bs) p.args.c (place_tests (machine p bs) p.args.node p.args.i) _ (here c.before.if1.true)
+    λ bs. fails_test (machine p bs) p.args.c (place_tests (machine p bs) p.args.node p.args.i) _ (here c.if-node-eq0.true)
     c.refused.ensures
 
-returns_2 : tie.Need-returns-2
+returns_2 : tie.Need-returns-then-z-i
 unfolding size_of
 returns_2 c =
     let p = c.before.before.before.before.before in
-    let size = c.before.before.size_of.ensures in
+    let size = c.size_of-z.ensures in
     λ bs.
-    fails_test (machine p bs) p.args.c (place_tests (machine p bs) p.args.node p.args.i) _ (next (here (rw (← size) c.before.if2.true)))
-    c.refused2.ensures
+    fails_test (machine p bs) p.args.c (place_tests (machine p bs) p.args.node p.args.i) _ (next (here (rw (← size) c.if-z-i.true)))
+    c.refused-then-z-i.ensures
 
-returns_3 : tie.Need-returns-3
+returns_3 : tie.Need-returns
 unfolding AllPass size_of place_of
 returns_3 c =
     let at-size-of = c.before.before.before.before in
     let at-if1 = at-size-of.before in
     let p = at-if1.before.before in
     let a = p.args in
-    let size = at-size-of.size_of.ensures in
-    let x = c.before.stored.ensures ∙ ap (λ (v : ℕ). with_field a.f v a.c) c.before.before.place_of.ensures in
+    let size = at-size-of.size_of-z.ensures in
+    let x = c.stored-x.ensures ∙ ap (λ (v : ℕ). with_field a.f v a.c) c.place_of-v.ensures in
     λ bs.
-    passes_tests (machine p bs) a.c (place_tests (machine p bs) a.node a.i) _ (at-if1.if1.false, rw (← size) c.before.before.before.if2.false)
+    passes_tests (machine p bs) a.c (place_tests (machine p bs) a.node a.i) _ (at-if1.if-node-eq0.false, rw (← size) c.if-z-i.false)
     c.go.ensures.1
     (c.go.ensures.0 _ bs ∙ ap (λ (x : Task). accept (machine p bs) a.k x.own (moves (with_line a.l x))) x
     ∙ ap (λ (n : ℕ). accept (machine p bs) a.k n (moves (with_line a.l (with_field a.f (place_of (machine p bs) a.node a.i) a.c))))
     (own-kept a.f _ a.c))
 
-pub read-place-spec : {M : Type 1} → statement M
-read-place-spec =
+pub read_place_spec : {M : Type 1} → statement M
+read_place_spec =
     tie.close
     (tie.spec
     (λ c κs. search rules)

@@ -26,68 +26,68 @@ left-52 l h n43 n44 n46 n47 n48 n49 =
     only (rw (ne_eqb l 43 n43, ne_eqb l 44 n44, ne_eqb l 46 n46, ne_eqb l 47 n47, ne_eqb l 48 n48, ne_eqb l 49 n49) at h)
 
 line43-requires : tie.Need-line43-requires
-line43-requires c κs = ((numbers c.before.before.before.requires).number, c.match.keys1)
+line43-requires c κs = ((numbers c.requires).number, c.in-43.is)
 
 freeze-requires : tie.Need-freeze-requires
 freeze-requires c κs =
-    let runs = c.before.before.before.before.requires in let l = linked runs _ runs.task.m in ((numbers runs).number, l.most, l.fits)
+    let runs = c.requires in let l = linked runs _ runs.task.m in ((numbers runs).number, l.most, l.fits)
 
-read-place-requires : tie.Need-read-place-requires
-read-place-requires c κs = (numbers c.before.before.before.before.requires).number
+read-place-requires : tie.Need-read_place-requires
+read-place-requires c κs = (numbers c.requires).number
 
 line47-requires : tie.Need-line47-requires
-line47-requires c κs = ((numbers c.before.before.before.requires).number, c.match.keys4)
+line47-requires c κs = ((numbers c.requires).number, c.in-47.is)
 
-freeze-requires-2 : tie.Need-freeze-requires-2
+freeze-requires-2 : tie.Need-freeze-requires-in-48
 freeze-requires-2 c κs =
-    let runs = c.before.before.before.before.requires in let l = linked runs _ runs.task.m in ((numbers runs).number, l.most, l.fits)
+    let runs = c.requires in let l = linked runs _ runs.task.m in ((numbers runs).number, l.most, l.fits)
 
 line49-requires : tie.Need-line49-requires
 line49-requires c κs =
-    let runs = c.before.before.before.before.requires in ((numbers runs).number, c.before.match.keys6, runs.is_sound, runs.task.m, runs.task.n)
+    let runs = c.requires in ((numbers runs).number, c.in-49.is, runs.is_sound, runs.task.m, runs.task.n)
 
-freeze-requires-3 : tie.Need-freeze-requires-3
+freeze-requires-3 : tie.Need-freeze-requires-in_default
 freeze-requires-3 c κs =
-    let runs = c.before.before.before.before.requires in let l = linked runs _ runs.task.n in ((numbers runs).number, l.most, l.fits)
+    let runs = c.requires in let l = linked runs _ runs.task.n in ((numbers runs).number, l.most, l.fits)
 
-returns : tie.Need-returns
+returns : tie.Need-returns-in-43
 returns c = c.line43.ensures _
 
-returns_2 : tie.Need-returns-2
+returns_2 : tie.Need-returns-in-44
 unfolding step_table line_44
 returns_2 c =
     let at-match = c.before.before.before.before in
     let p = at-match.before.before.before in
-    gives_as (sym (tested_at (machine p) p.args.c 44 at-match.match.keys2 p.args.k refl)) (c.before.before.freeze.ensures _)
+    gives_as (sym (tested_at (machine p) p.args.c 44 at-match.in-44.is p.args.k refl)) (c.freeze.ensures _)
 
-returns_3 : tie.Need-returns-3
+returns_3 : tie.Need-returns-in-46
 unfolding step_table line_46 with_field
 returns_3 c =
     let p = c.before.before.before.before.before in
-    gives_as (sym (tested_at (machine p) p.args.c 46 c.before.before.match.keys3 p.args.k refl)) (c.read-place.ensures _)
+    gives_as (sym (tested_at (machine p) p.args.c 46 c.in-46.is p.args.k refl)) (c.read_place.ensures _)
 
-returns_4 : tie.Need-returns-4
+returns_4 : tie.Need-returns-in-47
 returns_4 c = c.line47.ensures _
 
-returns-5 : tie.Need-returns-5
+returns-5 : tie.Need-returns-in-48
 unfolding step_table line_48
 returns-5 c =
     let at-match = c.before.before.before.before in
     let p = at-match.before.before.before in
-    gives_as (sym (tested_at (machine p) p.args.c 48 at-match.match.keys5 p.args.k refl)) (c.before.before.freeze2.ensures _)
+    gives_as (sym (tested_at (machine p) p.args.c 48 at-match.in-48.is p.args.k refl)) (c.freeze-in-48.ensures _)
 
-returns-6 : tie.Need-returns-6
-returns-6 c = c.before.before.line49.ensures
+returns-6 : tie.Need-returns-in-49
+returns-6 c = c.line49.ensures
 
-returns-7 : tie.Need-returns-7
+returns-7 : tie.Need-returns-in_default
 unfolding step_table line_52
 returns-7 c =
     let at-match = c.before.before.before.before in
     let p = at-match.before.before.before in
-    let others = at-match.match.rest in
+    let others = at-match.in_default.in_default-own.rest in
     let at_52 = left-52 _ p.requires.at_line others.0.0.0.0.0.1 others.0.0.0.0.1 others.0.0.0.1 others.0.0.1 others.0.1
     others.1 in
-    gives_as (sym (tested_at (machine p) p.args.c 52 at_52 p.args.k refl)) (c.before.before.freeze3.ensures _)
+    gives_as (sym (tested_at (machine p) p.args.c 52 at_52 p.args.k refl)) (c.freeze-in_default.ensures _)
 
 pub step_spec : {M : Type 1} → statement M
 step_spec =

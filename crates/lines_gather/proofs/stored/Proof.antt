@@ -5,17 +5,17 @@ use borrow.Author.Rules.{rules}
 use Rattle.lines_gather.proofs.stored.Statement.{statement}
 use Rattle.lines_gather.proofs.stored.Tie as tie
 
-returns : tie.Need-returns
+returns : tie.Need-returns-in-B
 unfolding with_field with_b
-returns c = rw c.enum_told.given.1
+returns c = rw c.in-B.is
 
-returns_2 : tie.Need-returns-2
+returns_2 : tie.Need-returns-in-M
 unfolding with_field with_m
-returns_2 c = rw c.enum-told2.given.1
+returns_2 c = rw c.in-M.is
 
-returns_3 : tie.Need-returns-3
+returns_3 : tie.Need-returns-in-N
 unfolding with_field with_n
-returns_3 c = rw c.enum-told3.given.1
+returns_3 c = rw c.in-N.is
 
-pub stored-spec : {M : Type 1} → statement M
-stored-spec = tie.close (tie.spec (λ c. search rules) (λ c. search rules) (λ c. search rules) returns returns_2 returns_3)
+pub stored_spec : {M : Type 1} → statement M
+stored_spec = tie.close (tie.spec (λ c. search rules) (λ c. search rules) (λ c. search rules) returns returns_2 returns_3)

@@ -17,62 +17,62 @@ abbrev machine : tie.Start → List ℕ → Machine
 machine p bs = machine_of p.args.s p.args.ns.now bs
 
 -- t is there, and i is below its size
-module _ (p : tie.Else2) where
+module _ (p : tie.Else-z-i) where
   abbrev start : tie.Start
   start = p.before.before.before.before
 
   passed : (bs : List ℕ) → AllPass (tests_at 51 (machine start bs) start.args.c)
   unfolding step_table size_of
-  passed bs = let size = p.before.size_of.ensures in (p.before.before.if1.left, rw (← size) p.if2.left)
+  passed bs = let size = p.size_of-z.ensures in (p.if-t-eq0.false, rw (← size) p.if-z-i.false)
 
-returns : tie.Need-returns
+returns : tie.Need-returns-then-t-eq0
 unfolding step_table
 returns c =
     let p = c.before.before.before in
-    λ bs. refuses_8 (machine p bs) p.args.c 51 p.requires.1 (here c.before.if1.true) c.refused.ensures
+    λ bs. refuses_8 (machine p bs) p.args.c 51 p.requires.1 (here c.if-t-eq0.true) c.refused.ensures
 
-returns_2 : tie.Need-returns-2
+returns_2 : tie.Need-returns-then-z-i
 unfolding step_table size_of
 returns_2 c =
     let p = c.before.before.before.before.before in
-    let size = c.before.before.size_of.ensures in
-    λ bs. refuses_8 (machine p bs) p.args.c 51 p.requires.1 (next (here (rw (← size) c.before.if2.true))) c.refused2.ensures
+    let size = c.size_of-z.ensures in
+    λ bs. refuses_8 (machine p bs) p.args.c 51 p.requires.1 (next (here (rw (← size) c.if-z-i.true))) c.refused-then-z-i.ensures
 
-returns_3 : tie.Need-returns-3
+returns_3 : tie.Need-returns-then-i-z
 unfolding step_table line_51 with_b with_s with_m with_n with_new_bucket with_i place_of size_of
 returns_3 c =
     let in_node = c.before.before.before.before in
     let p = start in_node in
-    let size = in_node.before.size_of.ensures in
-    let resizes = c.before.before.before.is_resize.ensures in
+    let size = in_node.size_of-z.ensures in
+    let resizes = c.is_resize.ensures in
     λ bs.
-    goes (machine p bs) p.args.c 51 p.pre.1 (passed in_node bs) tt c.go.ensures.1
-    (c.go.ensures.0 _ bs ∙ rw (sym resizes ∙ c.before.before.if3.true, ← size, lt-ltb _ _ c.before.if4.true))
+    goes (machine p bs) p.args.c 51 p.requires.1 (passed in_node bs) tt c.go.ensures.1
+    (c.go.ensures.0 _ bs ∙ rw (sym resizes ∙ c.if-is_resize.true, ← size, lt-ltb _ _ c.if-i-z.true))
 
-returns_4 : tie.Need-returns-4
+returns_4 : tie.Need-returns-then-is_resize
 unfolding step_table line_51 with_b with_s with_m with_n with_new_bucket with_i place_of size_of
 returns_4 c =
     let in_node = c.before.before.before.before in
     let p = start in_node in
-    let size = in_node.before.size_of.ensures in
-    let resizes = c.before.before.before.is_resize.ensures in
+    let size = in_node.size_of-z.ensures in
+    let resizes = c.is_resize.ensures in
     λ bs.
-    goes (machine p bs) p.args.c 51 p.pre.1 (passed in_node bs) tt c.go2.ensures.1
-    (c.go2.ensures.0 _ bs ∙ rw (sym resizes ∙ c.before.before.if3.true, ← size, le-ltb _ _ c.before.if4.false))
+    goes (machine p bs) p.args.c 51 p.requires.1 (passed in_node bs) tt c.go-then-is_resize.ensures.1
+    (c.go-then-is_resize.ensures.0 _ bs ∙ rw (sym resizes ∙ c.if-is_resize.true, ← size, le-ltb _ _ c.if-i-z.false))
 
-returns-5 : tie.Need-returns-5
+returns-5 : tie.Need-returns
 unfolding step_table line_51 with_b with_s with_m with_n with_new_bucket with_i place_of size_of
 returns-5 c =
     let in_node = c.before.before.before.before in
     let p = start in_node in
-    let resizes = c.before.before.before.is_resize.ensures in
-    let place = c.before.place_of.ensures in
+    let resizes = c.is_resize.ensures in
+    let place = c.place_of.ensures in
     λ bs.
-    goes (machine p bs) p.args.c 51 p.pre.1 (passed in_node bs) tt c.go3.ensures.1
-    (c.go3.ensures.0 _ bs ∙ rw (sym resizes ∙ c.before.before.if3.false, ← place))
+    goes (machine p bs) p.args.c 51 p.requires.1 (passed in_node bs) tt c.go-2.ensures.1
+    (c.go-2.ensures.0 _ bs ∙ rw (sym resizes ∙ c.if-is_resize.false, ← place))
 
-pub line51-spec : {M : Type 1} → statement M
-line51-spec =
+pub line51_spec : {M : Type 1} → statement M
+line51_spec =
     tie.close
     (tie.spec
     (λ c κs. search rules)

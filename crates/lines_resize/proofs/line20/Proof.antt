@@ -14,26 +14,26 @@ use Rattle.lines_resize.proofs.line20.Tie as tie
 abbrev machine : tie.Start → List ℕ → Machine
 machine p bs = machine_of p.args.s p.args.ns.now bs
 
-returns : tie.Need-returns
+returns : tie.Need-returns-then-at_limit
 unfolding step_table line_20 head_of size_of with_t with_i
 returns c =
     let p = c.before.before.before.before.before.before in
-    let size = c.before.before.before.size_of.ensures in
-    let limit = c.before.before.at_limit.ensures in
+    let size = c.size_of-z.ensures in
+    let limit = c.at_limit.ensures in
     λ bs.
-    goes (machine p bs) p.args.c 20 p.requires.1 tt tt c.end.ensures.1 (c.end.ensures.0 _ bs ∙ rw (← size, sym limit ∙ c.before.if1.true))
+    goes (machine p bs) p.args.c 20 p.requires.1 tt tt c.end.ensures.1 (c.end.ensures.0 _ bs ∙ rw (← size, sym limit ∙ c.if-at_limit.true))
 
-returns_2 : tie.Need-returns-2
+returns_2 : tie.Need-returns
 unfolding step_table line_20 head_of size_of with_t with_i
 returns_2 c =
     let p = c.before.before.before.before.before.before in
-    let size = c.before.before.before.size_of.ensures in
-    let limit = c.before.before.at_limit.ensures in
+    let size = c.size_of-z.ensures in
+    let limit = c.at_limit.ensures in
     λ bs.
-    goes (machine p bs) p.args.c 20 p.requires.1 tt tt c.go.ensures.1 (c.go.ensures.0 _ bs ∙ rw (← size, sym limit ∙ c.before.if1.false))
+    goes (machine p bs) p.args.c 20 p.requires.1 tt tt c.go.ensures.1 (c.go.ensures.0 _ bs ∙ rw (← size, sym limit ∙ c.if-at_limit.false))
 
-pub line20-spec : {M : Type 1} → statement M
-line20-spec =
+pub line20_spec : {M : Type 1} → statement M
+line20_spec =
     tie.close
     (tie.spec
     (λ c. search rules)

@@ -16,13 +16,13 @@ use Rattle.lines_resize.proofs.line24.Tie as tie
 abbrev machine : tie.Start → List ℕ → Machine
 machine p bs = machine_of p.args.s p.args.ns.now bs
 
-returns : tie.Need-returns
+returns : tie.Need-returns-then-t-eq0
 unfolding step_table
 returns c =
     let p = c.before.before.before in
-    λ bs. refuses_8 (machine p bs) p.args.c 24 p.requires.1 (here c.before.if1.true) c.refused.ensures
+    λ bs. refuses_8 (machine p bs) p.args.c 24 p.requires.1 (here c.if-t-eq0.true) c.refused.ensures
 
-returns_2 : tie.Need-returns-2
+returns_2 : tie.Need-returns
 unfolding step_table line_24 accept apply with_nodes
 returns_2 c =
     let at-number-of = c.before.before.before.before.before in
@@ -31,14 +31,14 @@ returns_2 c =
     let p = at-if1.before.before in
     let a = p.args in
     let w = a.ns.now in
-    let stored : at-put.put.new.0 ≡ set w (34 * number a.c.t + 1) 0 = at-put.put.ensures ∙ ap (λ (j : ℕ). set w (34 * j + 1) 0)
-    at-number-of.number_of.ensures in
+    let stored : at-put.put.new.s ≡ set w (34 * number a.c.t + 1) 0 = at-put.put.ensures ∙ ap (λ (j : ℕ). set w (34 * j + 1) 0)
+    at-number-of.number_of-j.ensures in
     λ bs.
-    goes (machine p bs) a.c 24 p.requires.1 at-if1.if1.false tt c.go.ensures.1
-    (c.go.ensures.0 at-put.put.new.0 bs ∙ ap (λ (v : List ℕ). accept (machine_of a.s v bs) a.k a.c.own (moves (with_line 27 a.c))) stored)
+    goes (machine p bs) a.c 24 p.requires.1 at-if1.if-t-eq0.false tt c.go.ensures.1
+    (c.go.ensures.0 at-put.put.new.s bs ∙ ap (λ (v : List ℕ). accept (machine_of a.s v bs) a.k a.c.own (moves (with_line 27 a.c))) stored)
 
-pub line24-spec : {M : Type 1} → statement M
-line24-spec =
+pub line24_spec : {M : Type 1} → statement M
+line24_spec =
     tie.close
     (tie.spec
     (λ c κs. search rules)

@@ -34,73 +34,73 @@ takes p l v bs =
     accept (machine_of (state_last_node (l - 1) a.s) v bs) a.k a.c.own (moves (with_line 28 (with_new_node l a.c)))
 
 -- the new size is a listed one
-module _ (p : tie.Else2) where
+module _ (p : tie.Else-w-eq0) where
   abbrev start : tie.Start
-  start = p.before.before.before.before.before.before
+  start = p.before.before.before.before.before
 
   abbrev twice-or-half : ℕ
-  twice-or-half = resized start.args.c.call p.before.before.size_of.result
+  twice-or-half = resized start.args.c.call p.size_of-z.result
 
-  size_is : (listed_size twice-or-half ≡ true) × (p.before.new_size.result ≡ twice-or-half)
-  size_is = p.before.new_size.ensures.some p.if2.left
+  size_is : (listed_size twice-or-half ≡ true) × (p.new_size-w.result ≡ twice-or-half)
+  size_is = p.new_size-w.ensures.some p.if-w-eq0.false
 
   passed : (bs : List ℕ) → AllPass (tests_at 27 (machine start bs) start.args.c)
   unfolding step_table size_of
-  passed bs = let size-t = p.before.before.size_of.ensures in (p.before.before.before.before.if1.left, rw (← size-t) size_is.0)
+  passed bs = let size-t = p.size_of-z.ensures in (p.if-t-eq0.false, rw (← size-t) size_is.0)
 
 -- the free node that is found
-free-is : (p : tie.After-free-node-of) (bs : List ℕ) → p.free-node-of.result ≡ free_node (machine (start p.before.before) bs)
-free-is p bs = let q = start p.before.before in p.free-node-of.ensures bs ∙ node_in (machine q bs) (q.pre.2, q.pre.3, q.pre.4)
+free-is : (p : tie.After-free_node_of-f) (bs : List ℕ) → p.free_node_of-f.result ≡ free_node (machine (start p.before) bs)
+free-is p bs = let q = start p.before in p.free_node_of-f.ensures bs ∙ node_in (machine q bs) (q.requires.2, q.requires.3, q.requires.4)
 
 -- ---- the needs
 
-returns : tie.Need-returns
+returns : tie.Need-returns-then-t-eq0
 unfolding step_table
 returns c =
     let p = c.before.before.before in
-    λ bs. refuses_8 (machine p bs) p.args.c 27 p.requires.1 (here c.before.if1.true) c.refused.ensures
+    λ bs. refuses_8 (machine p bs) p.args.c 27 p.requires.1 (here c.if-t-eq0.true) c.refused.ensures
 
-returns_2 : tie.Need-returns-2
+returns_2 : tie.Need-returns-then-w-eq0
 unfolding step_table size_of
 returns_2 c =
-    let p = c.before.before.before.before.before.before.before in
-    let size-t = c.before.before.before.size_of.ensures in
-    let unlisted = c.before.before.new_size.ensures.none c.before.if2.true in
-    λ bs. refuses_8 (machine p bs) p.args.c 27 p.requires.1 (next (here (rw (← size-t) unlisted))) c.refused2.ensures
+    let p = c.before.before.before.before.before.before in
+    let size-t = c.size_of-z.ensures in
+    let unlisted = c.new_size-w.ensures.none c.if-w-eq0.true in
+    λ bs. refuses_8 (machine p bs) p.args.c 27 p.requires.1 (next (here (rw (← size-t) unlisted))) c.refused-then-w-eq0.ensures
 
-returns_3 : tie.Need-returns-3
+returns_3 : tie.Need-returns-then-f-eq0
 unfolding step_table
 returns_3 c =
-    let p = c.before.before.before.before.before.before.before.before.before.before in
-    let listed = c.before.before.before.before in
+    let p = c.before.before.before.before.before.before.before.before in
+    let listed = c.before.before.before in
     let found = c.before.before in
     λ bs.
-    refuses_7 (machine p bs) p.args.c 27 p.requires.1 (passed listed bs) (here (sym (free-is found bs) ∙ c.before.if3.true)) c.refused3.ensures
+    refuses_7 (machine p bs) p.args.c 27 p.requires.1 (passed listed bs) (here (sym (free-is found bs) ∙ c.if-f-eq0.true)) c.refused-then-f-eq0.ensures
 
-returns_4 : tie.Need-returns-4
+returns_4 : tie.Need-returns
 unfolding step_table line_27 accept apply with_last_node with_nodes with_state state_last_node with_new_node size_of
 returns_4 c =
     let at-if3 = c.before.before.before.before.before in
-    let at-size-of = at-if3.before.before.before.before.before in
-    let p = at-size-of.before.before.before.before in
+    let at-size-of = at-if3.before.before.before.before in
+    let p = at-size-of.before.before.before in
     let a = p.args in
-    let listed = at-if3.before.before.before in
+    let listed = at-if3.before.before in
     let found = at-if3.before in
-    let free : ℕ = found.free-node-of.result in
-    let some = at-if3.if3.false in
+    let free : ℕ = found.free_node_of-f.result in
+    let some = at-if3.if-f-eq0.false in
     let low : free ≤ a.s.nodes = rw (free-is found a.ns.now) (free_node_in (machine p a.ns.now) (omega arith)) in
-    let stored = c.before.before.before.new_node.ensures ∙ node_here a.ns.now (free - 1) listed.before.new_size.result a.c.t
+    let stored = c.new_node.ensures ∙ node_here a.ns.now (free - 1) listed.new_size-w.result a.c.t
     (omega (arith, some, low)) in
-    let size-t = at-size-of.size_of.ensures in
+    let size-t = at-size-of.size_of-z.ensures in
     let size-new = (size_is listed).1 in
     λ bs.
     goes (machine p bs) a.c 27 p.requires.1 (passed listed bs) (λ z. some (free-is found bs ∙ z)) c.go.ensures.1
     (over_last_node (free - 1) a.s a.k c.go.result _ bs c.go.ensures.1
-    (c.go.ensures.0 c.before.before.before.new_node.new.0 bs ∙ ap (λ (v : List ℕ). takes p free v bs) stored)
+    (c.go.ensures.0 c.new_node.new.ns bs ∙ ap (λ (v : List ℕ). takes p free v bs) stored)
     ∙ rw (← free-is found bs, ← size-t, ← size-new))
 
-pub line27-spec : {M : Type 1} → statement M
-line27-spec =
+pub line27_spec : {M : Type 1} → statement M
+line27_spec =
     tie.close
     (tie.spec
     (λ c κs. search rules)

@@ -19,40 +19,40 @@ use Rattle.lines_resize.proofs.line28.Tie as tie
 abbrev machine : tie.Start → List ℕ → List ℕ → Machine
 machine p ns bs = machine_of p.args.s ns bs
 
-returns : tie.Need-returns
+returns : tie.Need-returns-then-t-eq0
 unfolding step_table
 returns c =
     let p = c.before.before in
-    λ ns bs. refuses_8 (machine p ns bs) p.args.c 28 p.requires.1 (here c.before.if1.true) c.refused.ensures
+    λ ns bs. refuses_8 (machine p ns bs) p.args.c 28 p.requires.1 (here c.if-t-eq0.true) c.refused.ensures
 
-returns_2 : tie.Need-returns-2
+returns_2 : tie.Need-returns-then-n-eq0
 unfolding step_table
 returns_2 c =
     let p = c.before.before.before in
-    λ ns bs. refuses_8 (machine p ns bs) p.args.c 28 p.requires.1 (next (here c.before.if2.true)) c.refused2.ensures
+    λ ns bs. refuses_8 (machine p ns bs) p.args.c 28 p.requires.1 (next (here c.if-n-eq0.true)) c.refused-then-n-eq0.ensures
 
-returns_3 : tie.Need-returns-3
+returns_3 : tie.Need-returns-then-h-t
 unfolding step_table line_28 head_of accept apply with_head with_state state_head
 returns_3 c =
     let at-if1 = c.before.before.before.before in
     let p = at-if1.before in
     let a = p.args in
     λ ns bs.
-    goes (machine p ns bs) a.c 28 p.requires.1 (at-if1.if1.false, c.before.before.before.if2.false) tt c.end.ensures.1
+    goes (machine p ns bs) a.c 28 p.requires.1 (at-if1.if-t-eq0.false, c.if-n-eq0.false) tt c.end.ensures.1
     (over_head (a.c.new_node - 1) a.s a.k c.end.result ns bs c.end.ensures.1 (c.end.ensures.0 ns bs) ∙ rw
-    (eq-eqb _ _ c.before.if3.true))
+    (eq-eqb _ _ c.if-h-t.true))
 
-returns_4 : tie.Need-returns-4
+returns_4 : tie.Need-returns
 unfolding step_table line_28 head_of
 returns_4 c =
     let at-if1 = c.before.before.before.before in
     let p = at-if1.before in
     λ ns bs.
-    goes (machine p ns bs) p.args.c 28 p.requires.1 (at-if1.if1.false, c.before.before.before.if2.false) tt c.end2.ensures.1
-    (c.end2.ensures.0 ns bs ∙ rw (ne_eqb _ _ c.before.if3.false))
+    goes (machine p ns bs) p.args.c 28 p.requires.1 (at-if1.if-t-eq0.false, c.if-n-eq0.false) tt c.end-2.ensures.1
+    (c.end-2.ensures.0 ns bs ∙ rw (ne_eqb _ _ c.if-h-t.false))
 
-pub line28-spec : {M : Type 1} → statement M
-line28-spec =
+pub line28_spec : {M : Type 1} → statement M
+line28_spec =
     tie.close
     (tie.spec
     (λ c κs. search rules)

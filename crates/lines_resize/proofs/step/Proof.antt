@@ -16,32 +16,32 @@ unfolding member
 left-28 l h n20 n24 n27 = only (rw (ne_eqb l 20 n20, ne_eqb l 24 n24, ne_eqb l 27 n27) at h)
 
 line20-requires : tie.Need-line20-requires
-line20-requires c κs = let n = numbers c.before.before.before.requires.1 in (n.number, c.before.match.keys1, n.head)
+line20-requires c κs = let n = numbers c.requires.1 in (n.number, c.in-20.is, n.head)
 
 line24-requires : tie.Need-line24-requires
-line24-requires c κs = let n = numbers c.before.before.before.requires.1 in (n.number, c.before.match.keys2)
+line24-requires c κs = let n = numbers c.requires.1 in (n.number, c.in-24.is)
 
 line27-requires : tie.Need-line27-requires
 line27-requires c κs =
-    let n = numbers c.before.before.before.requires.1 in (n.number, c.before.match.keys3, n.head, n.nodes, n.last_node, n.nodes_length)
+    let n = numbers c.requires.1 in (n.number, c.in-27.is, n.head, n.nodes, n.last_node, n.nodes_length)
 
 line28-requires : tie.Need-line28-requires
 line28-requires c κs =
-    let runs = c.before.before.requires.1 in
+    let runs = c.requires.1 in
     let n = numbers runs in
-    let others = c.match.rest in
+    let others = c.in_default.in_default-own.rest in
     (n.number, left-28 _ runs.at_line others.0.0.1 others.0.1 others.1, n.head)
 
-returns : tie.Need-returns
+returns : tie.Need-returns-in-20
 returns c = c.line20.ensures
 
-returns_2 : tie.Need-returns-2
-returns_2 c = c.before.before.line24.ensures
+returns_2 : tie.Need-returns-in-24
+returns_2 c = c.line24.ensures
 
-returns_3 : tie.Need-returns-3
-returns_3 c = c.before.before.line27.ensures
+returns_3 : tie.Need-returns-in-27
+returns_3 c = c.line27.ensures
 
-returns_4 : tie.Need-returns-4
+returns_4 : tie.Need-returns-in_default
 returns_4 c = c.line28.ensures _
 
 pub step_spec : {M : Type 1} → statement M

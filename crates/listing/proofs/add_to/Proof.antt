@@ -6,22 +6,22 @@ use borrow.Author.Rules.{rules}
 use Rattle.listing.proofs.add_to.Statement.{statement}
 use Rattle.listing.proofs.add_to.Tie as tie
 
-returns : tie.Need-returns
-returns c = sym (full_same c.before.args.g c.before.args.tag c.if1.true)
+returns : tie.Need-returns-then-full
+returns c = sym (full_same c.args.g c.args.tag c.if-full.true)
 
-returns_2 : tie.Need-returns-2
+returns_2 : tie.Need-returns-in-Full
 returns_2 c =
-    let at-if1 = c.before.before.before.before.before in
-    let a = at-if1.before.args in
-    let added = c.before.before.before.add in
-    sym (now_full a.g a.tag at-if1.if1.false added.result added.ensures c.enum_told.given.1)
+    let at-if1 = c.before.before.before.before in
+    let a = at-if1.args in
+    let added = c.add-d in
+    sym (now_full a.g a.tag at-if1.if-full.false added.result added.ensures c.in-Full.is)
 
-returns_3 : tie.Need-returns-3
+returns_3 : tie.Need-returns
 returns_3 c =
     let at-if1 = c.before.before.before.before in
-    let a = at-if1.before.args in
-    let added = c.before.before.add in
-    sym (not_full_yet a.g a.tag at-if1.if1.false added.result added.ensures (not_full added.result.answer c.match.keys2))
+    let a = at-if1.args in
+    let added = c.add-d in
+    sym (not_full_yet a.g a.tag at-if1.if-full.false added.result added.ensures (not_full added.result.answer c.in_default.in_default-own.keys2))
 
 pub add_to_spec : {M : Type 1} → statement M
 add_to_spec = tie.close (tie.spec returns (λ c κs. search rules) (λ c. search rules) returns_2 returns_3)

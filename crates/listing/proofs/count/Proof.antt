@@ -12,26 +12,26 @@ use borrow.Author.Rules.{rules}
 use Rattle.listing.proofs.count.Statement.{statement}
 use Rattle.listing.proofs.count.Tie as tie
 
-returns : tie.Need-returns
+returns : tie.Need-returns-then-q-eq0
 returns c =
-    let a = c.before.before.before.before.before.before.args in
-    let alone = set_alone a.s.config a.ns.now a.bs.now a.s.head (sym c.before.pred_at.ensures ∙ c.if1.true) in
-    c.before.before.count-node.ensures.0 ∙ sym (ap length alone)
+    let a = c.args in
+    let alone = set_alone a.s.config a.ns.now a.bs.now a.s.head (sym c.pred_at-q.ensures ∙ c.if-q-eq0.true) in
+    c.count_node-a.ensures.0 ∙ sym (ap length alone)
 
-returns_2 : tie.Need-returns-2
+returns_2 : tie.Need-returns
 returns_2 c =
     let tested = c.before.before in
-    let pred_is = tested.before.pred_at.ensures in
-    let a = tested.before.before.before.before.before.before.args in
+    let pred_is = tested.pred_at-q.ensures in
+    let a = tested.args in
     let ns = a.ns.now in
     let bs = a.bs.now in
     let d = a.s.head in
     let of_node : ℕ → Bool → List ℕ = λ k old. places_tags a.s.config ns bs d k old 0 32 in
-    let k : c.before.number_of.result ≡ number (pred ns d) = c.before.number_of.ensures ∙ ap number pred_is in
-    let both = set_both a.s.config ns bs d (λ z. tested.if1.false (pred_is ∙ z)) in
+    let k : c.number_of-k.result ≡ number (pred ns d) = c.number_of-k.ensures ∙ ap number pred_is in
+    let both = set_both a.s.config ns bs d (λ z. tested.if-q-eq0.false (pred_is ∙ z)) in
     let e = ap length both ∙ length-append (of_node d false) (of_node (number (pred ns d)) true) in
-    let x = tested.before.before.count-node.ensures.0 in
-    let y = c.count-node2.ensures.0 ∙ ap (λ (k : ℕ). length (of_node k true)) k in
+    let x = tested.count_node-a.ensures.0 in
+    let y = c.count_node-b.ensures.0 ∙ ap (λ (k : ℕ). length (of_node k true)) k in
     omega arith
 
 pub count_spec : {M : Type 1} → statement M

@@ -10,33 +10,33 @@ use borrow.Author.Rules.{rules}
 use Rattle.looked_up.proofs.is_looked_up.Statement.{statement}
 use Rattle.looked_up.proofs.is_looked_up.Tie as tie
 
-returns : tie.Need-returns
+returns : tie.Need-returns-then-i-j
 unfolding looked_up left_over
 returns c =
-    let a = c.before.before.before.before.args in
-    let spot : c.before.slot.result ≡ slot a.g a.tag (size a.ns.now a.k) =
-    c.before.slot.ensures ∙ ap (slot a.g a.tag) c.before.before.size_at.ensures in
-    rw (← spot, ne_eqb _ _ c.if1.true)
+    let a = c.args in
+    let spot : c.slot-i.result ≡ slot a.g a.tag (size a.ns.now a.k) =
+    c.slot-i.ensures ∙ ap (slot a.g a.tag) c.size_at-z.ensures in
+    rw (← spot, ne_eqb _ _ c.if-i-j.true)
 
-returns_2 : tie.Need-returns-2
+returns_2 : tie.Need-returns-then-old
 unfolding looked_up left_over
 returns_2 c =
     let at_slot = c.before.before.before in
-    let a = at_slot.before.before.before.args in
-    let spot : at_slot.slot.result ≡ slot a.g a.tag (size a.ns.now a.k) =
-    at_slot.slot.ensures ∙ ap (slot a.g a.tag) at_slot.before.size_at.ensures in
-    rw (← spot, eq-eqb _ _ c.before.before.if1.false, c.before.if2.true) (ap (λ (p : ℕ). eqb p 0) c.place-for-at.ensures)
+    let a = at_slot.args in
+    let spot : at_slot.slot-i.result ≡ slot a.g a.tag (size a.ns.now a.k) =
+    at_slot.slot-i.ensures ∙ ap (slot a.g a.tag) at_slot.size_at-z.ensures in
+    rw (← spot, eq-eqb _ _ c.if-i-j.false, c.if-old.true) (ap (λ (p : ℕ). eqb p 0) c.place_for_at-p.ensures)
 
-returns_3 : tie.Need-returns-3
+returns_3 : tie.Need-returns
 unfolding looked_up left_over
 returns_3 c =
     let at_slot = c.before.before in
-    let a = at_slot.before.before.before.args in
-    let spot : at_slot.slot.result ≡ slot a.g a.tag (size a.ns.now a.k) =
-    at_slot.slot.ensures ∙ ap (slot a.g a.tag) at_slot.before.size_at.ensures in
-    rw (← spot, eq-eqb _ _ c.before.if1.false, c.if2.false)
+    let a = at_slot.args in
+    let spot : at_slot.slot-i.result ≡ slot a.g a.tag (size a.ns.now a.k) =
+    at_slot.slot-i.ensures ∙ ap (slot a.g a.tag) at_slot.size_at-z.ensures in
+    rw (← spot, eq-eqb _ _ c.if-i-j.false, c.if-old.false)
 
-pub is-looked-up-spec : {M : Type 1} → statement M
-is-looked-up-spec =
+pub is_looked_up_spec : {M : Type 1} → statement M
+is_looked_up_spec =
     tie.close
     (tie.spec (λ c κs. search rules) (λ c κs. search rules) returns (λ c κs. search rules) returns_2 returns_3)

@@ -12,12 +12,12 @@ returns c =
     let at-kind = at_tag.before in
     let at-record = at-kind.before in
     let at-task = at-record.before in
-    let a = at-task.before.before.before.before.before.args in
-    noted_event a.events.now a.i _ a.n a.calls.now at-kind.word2.ensures at-task.word.ensures at_tag.word3.ensures
-    at-record.task_of.ensures at_event.run_event.ensures at-note.note.ensures
+    let a = at-task.args in
+    noted_event a.events.now a.i _ a.n a.calls.now at-kind.word-kind.ensures at-task.word-k.ensures at_tag.word-tag.ensures
+    at-record.task_of-c.ensures at_event.run_event-d.ensures at-note.note-count.ensures
 
-pub run-one-spec : {M : Type 1} → statement M
-run-one-spec =
+pub run_one_spec : {M : Type 1} → statement M
+run_one_spec =
     tie.close
     (tie.spec
     (λ c. search rules)

@@ -13,20 +13,19 @@ use borrow.Author.Rules.{rules}
 use Rattle.mattered_replay.proofs.run_without.Statement.{statement}
 use Rattle.mattered_replay.proofs.run_without.Tie as tie
 
-abbrev invariant-loop : tie.invariant-loop
+abbrev invariant-loop : tie.invariant-loop-i
 invariant-loop k n events ns₀ bs₀ calls₀ ok t₀ count₀ i₀ ns bs calls t count i =
     (length ns ≡ length ns₀) × (length bs ≡ length bs₀) × (length calls ≡ length calls₀) × (count ≤ i) × (i ≤ n)
     × RunLeft events k n (noted (machine_of t₀ ns₀ bs₀) 0 calls₀) (noted (machine_of t ns bs) count calls) i
     × (ok ≡ sound (machine_of t ns bs))
 
-abbrev decreases-loop : tie.decreases-loop
+abbrev decreases-loop : tie.decreases-loop-i
 decreases-loop k n events ns₀ bs₀ calls₀ ok t₀ count₀ i₀ ns bs calls t count i = n - i
 
-loop_holds : tie.Need-loop-init invariant-loop decreases-loop
+loop_holds : tie.Need-loop-i-init invariant-loop decreases-loop
 loop_holds c =
-    let at_open = c.before.before.before.before.before.before in
-    let a = at_open.before.before.before.before.before.before.before.args in
-    let o = at_open.«open» in (
+    let a = c.args in
+    let o = c.open-o in (
       refl,
       refl,
       refl,
@@ -36,54 +35,42 @@ loop_holds c =
       known_opened a.g a.ns.now a.bs.now o.ensures.0 o.ensures.1,
     )
 
-loop_again : tie.Need-loop-preserved invariant-loop decreases-loop
+loop_again : tie.Need-loop-i-preserved-then-i-k invariant-loop decreases-loop
 loop_again c =
-    let at-run = c.before.before.before.before.before.before.before in
-    let at-if = at-run.before.before.before.before in
-    let at_test = at-if.before in
-    let at-loop = at_test.before in
-    let at_open = at-loop.before.before.before.before.before.before.before in
-    let a = at_open.before.before.before.before.before.before.before.args in
-    let l = at-loop.loop in
-    let r = at-run.run-one in (
-      r.auto.1.1.1.1.1.0 ∙ l.invariant.0,
-      r.auto.1.1.1.1.1.1.0 ∙ l.invariant.1,
-      r.auto.1.1.1.1.1.1.1.0 ∙ l.invariant.2,
+    let a = c.args in
+    let l = c.loop-i in
+    let r = c.run_one-r in (
+      r.auto.ns ∙ l.invariant.0,
+      r.auto.bs ∙ l.invariant.1,
+      r.auto.calls ∙ l.invariant.2,
       omega (arith, r.ensures.0, l.invariant.3),
       omega arith,
-      run_on a.events.now a.k a.n _ l.invariant.5 at_test.loop-test.true at-if.if1.true _ r.ensures.1,
+      run_on a.events.now a.k a.n _ l.invariant.5 c.loop-i-test.true c.if-i-k.true _ r.ensures.1,
       l.invariant.6 ∙ sym (known_after _ _ (event_at a.events.now l.i) r.ensures.1),
     )
 
-loop_again_2 : tie.Need-loop-preserved-2 invariant-loop decreases-loop
+loop_again_2 : tie.Need-loop-i-preserved invariant-loop decreases-loop
 loop_again_2 c =
-    let at_test = c.before in
-    let at-loop = at_test.before in
-    let at_open = at-loop.before.before.before.before.before.before.before in
-    let a = at_open.before.before.before.before.before.before.before.args in
-    let l = at-loop.loop in (
+    let a = c.args in
+    let l = c.loop-i in (
       l.invariant.0,
       l.invariant.1,
       l.invariant.2,
       omega (arith, l.invariant.3),
       omega arith,
-      run_past a.events.now a.k a.n _ l.invariant.5 at_test.loop-test.true c.if1.false,
+      run_past a.events.now a.k a.n _ l.invariant.5 c.loop-i-test.true c.if-i-k.false,
       l.invariant.6,
     )
 
 returns : tie.Need-returns invariant-loop decreases-loop
 returns c =
-    let at-loop = c.before in
-    let at_open = at-loop.before.before.before.before.before.before.before in
-    let start = at_open.before.before.before.before.before.before.before in
-    let a = start.args in
-    let l = at-loop.loop in
-    let opened = at_open.«open».ensures.1 in
-    run_noted a.events.now a.k a.n _ _ opened a.calls.now l.invariant.5 c.loop-test.false (omega (arith, l.invariant.3, l.invariant.4))
-    start.requires.0 start.requires.1
+    let a = c.args in
+    let l = c.loop-i in
+    run_noted a.events.now a.k a.n _ _ c.open-o.ensures.1 a.calls.now l.invariant.5 c.loop-i-test.false (omega (arith, l.invariant.3, l.invariant.4))
+    c.requires.0 c.requires.1
 
-pub run-without-spec : {M : Type 1} → statement M
-run-without-spec =
+pub run_without_spec : {M : Type 1} → statement M
+run_without_spec =
     tie.close
     (tie.spec
     invariant-loop

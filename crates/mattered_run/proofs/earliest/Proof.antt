@@ -11,36 +11,36 @@ use borrow.Author.Rules.{rules}
 use Rattle.mattered_run.proofs.earliest.Statement.{statement}
 use Rattle.mattered_run.proofs.earliest.Tie as tie
 
-returns : tie.Need-returns
+returns : tie.Need-returns-then-refusal-ne0
 unfolding words_after
 returns c =
     let at-refusal = c.before in
-    let a = at-refusal.before.before.before.before.args in
-    let e = at-refusal.refusal.ensures ∙ sym (opening_refusal a.g a.ns.now a.bs.now) in
-    record { answer = verdict_refused _ a.events.now a.n _ e c.if1.true; nodes = refl; buckets = refl }
+    let a = at-refusal.args in
+    let e = at-refusal.refusal-refusal.ensures ∙ sym (opening_refusal a.g a.ns.now a.bs.now) in
+    record { answer = verdict_refused _ a.events.now a.n _ e c.if-refusal-ne0.true; nodes = refl; buckets = refl }
 
-returns_2 : tie.Need-returns-2
+returns_2 : tie.Need-returns-then-too_many
 unfolding words_after
 returns_2 c =
     let at-many = c.before in
     let at-if1 = at-many.before in
     let at-refusal = at-if1.before in
-    let a = at-refusal.before.before.before.before.args in
-    let e = at-refusal.refusal.ensures ∙ sym (opening_refusal a.g a.ns.now a.bs.now) in
-    let many = ltb-true _ _ (sym at-many.too_many.ensures ∙ c.if2.true) in
-    record { answer = verdict_many _ a.events.now a.n _ e at-if1.if1.false many; nodes = refl; buckets = refl }
+    let a = at-refusal.args in
+    let e = at-refusal.refusal-refusal.ensures ∙ sym (opening_refusal a.g a.ns.now a.bs.now) in
+    let many = ltb-true _ _ (sym at-many.too_many.ensures ∙ c.if-too_many.true) in
+    record { answer = verdict_many _ a.events.now a.n _ e at-if1.if-refusal-ne0.false many; nodes = refl; buckets = refl }
 
-first-step-requires : tie.Need-first-step-requires
+first-step-requires : tie.Need-first_step-v-requires
 first-step-requires c κs =
     let at-if2 = c.before.before in
     let at-many = at-if2.before in
     let at-if1 = at-many.before in
     let at-refusal = at-if1.before in
-    let a = at-refusal.before.before.before.before.args in
-    let few = ltb-false _ _ (sym at-many.too_many.ensures ∙ at-if2.if2.false) in
-    (few, opening_refusal a.g a.ns.now a.bs.now ∙ sym at-refusal.refusal.ensures ∙ at-if1.if1.false)
+    let a = at-refusal.args in
+    let few = ltb-false _ _ (sym at-many.too_many.ensures ∙ at-if2.if-too_many.false) in
+    (few, opening_refusal a.g a.ns.now a.bs.now ∙ sym at-refusal.refusal-refusal.ensures ∙ at-if1.if-refusal-ne0.false)
 
-returns_3 : tie.Need-returns-3
+returns_3 : tie.Need-returns
 returns_3 c =
     let at_open = c.before.before.before.before in
     let at_first = at_open.before.before.before.before.before.before.before in
@@ -48,24 +48,24 @@ returns_3 c =
     let at-many = at-if2.before in
     let at-if1 = at-many.before in
     let at-refusal = at-if1.before in
-    let a = at-refusal.before.before.before.before.args in
-    let f = at_first.first_step in
-    let left = at_open.open-again.ensures in
-    let e = at-refusal.refusal.ensures ∙ sym (opening_refusal a.g a.ns.now a.bs.now) in
-    let z = sym e ∙ at-if1.if1.false in
-    let p = f.auto.1.1.1.0 in
-    let q = f.auto.1.1.1.1.0 in
-    let again = again_machine a.g a.ns.now a.bs.now f.new.1.1.1.0 f.new.1.1.1.1.0 p q z in
-    let few = ltb-false _ _ (sym at-many.too_many.ensures ∙ at-if2.if2.false) in
+    let a = at-refusal.args in
+    let f = at_first.first_step-v in
+    let left = at_open.open_again.ensures in
+    let e = at-refusal.refusal-refusal.ensures ∙ sym (opening_refusal a.g a.ns.now a.bs.now) in
+    let z = sym e ∙ at-if1.if-refusal-ne0.false in
+    let p = f.auto.ns in
+    let q = f.auto.bs in
+    let again = again_machine a.g a.ns.now a.bs.now f.new.ns f.new.bs p q z in
+    let few = ltb-false _ _ (sym at-many.too_many.ensures ∙ at-if2.if-too_many.false) in
     let es = events_of a.n a.events.now in
     record {
-      answer = verdict_found _ a.events.now a.n _ e at-if1.if1.false few f.result f.ensures;
+      answer = verdict_found _ a.events.now a.n _ e at-if1.if-refusal-ne0.false few f.result f.ensures;
       nodes = left.0 ∙ ap (λ (y : Machine). y.nodes) again ∙ words_found _ es f.result f.ensures a.ns.now _;
       buckets = left.1 ∙ ap (λ (y : Machine). y.buckets) again ∙ words_found _ es f.result f.ensures a.bs.now _;
     }
 
-pub earliest-spec : {M : Type 1} → statement M
-earliest-spec =
+pub earliest_spec : {M : Type 1} → statement M
+earliest_spec =
     tie.close
     (tie.spec
     (λ c κs. search rules)

@@ -6,28 +6,28 @@ use borrow.Author.Rules.{rules}
 use Rattle.mattered_run.proofs.matters.Statement.{statement}
 use Rattle.mattered_run.proofs.matters.Tie as tie
 
-returns : tie.Need-returns
+returns : tie.Need-returns-in-Start
 returns c =
-    let at-asked = c.before.before in
+    let at-asked = c.before in
     let at-word = at-asked.before in
     let start = at-word.before.before.before.before.before in
     let a = start.args in
     no_step_there a.k a.n a.events.now start.requires.0 at-word.word.ensures at-asked.asked_by.result
-    at-asked.asked_by.ensures _ _ c.enum_told.given.1
+    at-asked.asked_by.ensures _ _ c.in-Start.is
 
-returns_2 : tie.Need-returns-2
+returns_2 : tie.Need-returns-in-Step
 returns_2 c =
     let at_same = c.before.before.before.before in
     let at_told = at_same.before.before.before in
-    let at-asked = at_told.before.before in
+    let at-asked = at_told.before in
     let at-word = at-asked.before in
     let start = at-word.before.before.before.before.before in
     let a = start.args in
     step_there_is a.k a.n a.events.now start.requires.0 at-word.word.ensures at-asked.asked_by.result
-    at-asked.asked_by.ensures _ at_told.enum-told2.given.1 _ (ap not at_same.same-without.ensures)
+    at-asked.asked_by.ensures _ at_told.in-Step.is _ (ap not at_same.same_without.ensures)
 
-pub matters-spec : {M : Type 1} → statement M
-matters-spec =
+pub matters_spec : {M : Type 1} → statement M
+matters_spec =
     tie.close
     (tie.spec
     (λ c. search rules)

@@ -10,8 +10,8 @@ returns c =
     let o = c.before.before.before.before.«open».ensures in
     (ap (λ (y : Machine). y.nodes) o.1, ap (λ (y : Machine). y.buckets) o.1)
 
-pub open-again-spec : {M : Type 1} → statement M
-open-again-spec =
+pub open_again_spec : {M : Type 1} → statement M
+open_again_spec =
     tie.close
     (tie.spec
     (λ c κs. search rules)

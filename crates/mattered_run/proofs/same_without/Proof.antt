@@ -10,26 +10,26 @@ use borrow.Author.Rules.{rules}
 use Rattle.mattered_run.proofs.same_without.Statement.{statement}
 use Rattle.mattered_run.proofs.same_without.Tie as tie
 
-slice-aggregate-same-words : tie.Need-slice-aggregate-same-words
+slice-aggregate-same-words : tie.Need-slice_bounds-same_words-end
 slice-aggregate-same-words c =
     let at-run = c.before.before.before.before.before.before in
     let at_room = at-run.before.before.before.before in
     let start = at_room.before.before.before.before.before in
-    let r = at-run.run-without in
+    let r = at-run.run_without-m in
     let few = r.ensures.few in
-    let long = r.auto.1.1.1.1.1.1.0 in
-    sym (length-take-le (4 * r.result) r.new.1.1.1.1.1.1.0 (omega (arith, few, long, at_room.room.ensures, start.requires)))
+    let long = r.auto.calls in
+    sym (length-take-le (4 * r.result) r.new.calls (omega (arith, few, long, at_room.room-calls.ensures, start.requires)))
 
 returns : tie.Need-returns
 returns c =
     let at-run = c.before.before.before.before.before.before.before in
     let start = at-run.before.before.before.before.before.before.before.before.before in
-    let r = at-run.run-without in
-    c.same-words.ensures
+    let r = at-run.run_without-m in
+    c.same_words.ensures
     ∙ ap (λ (l : List ℕ). equals start.args.noted.now l) (words_read _ _ _ r.result r.ensures.count r.ensures.words)
 
-pub same-without-spec : {M : Type 1} → statement M
-same-without-spec =
+pub same_without_spec : {M : Type 1} → statement M
+same_without_spec =
     tie.close
     (tie.spec
     (λ c κs. search rules)

@@ -10,50 +10,50 @@ use borrow.Author.Rules.{rules}
 use Rattle.mattered_run.proofs.same_words.Statement.{statement}
 use Rattle.mattered_run.proofs.same_words.Tie as tie
 
-abbrev invariant-loop : tie.invariant-loop
+abbrev invariant-loop : tie.invariant-loop-i
 invariant-loop a b i₀ i = starts_with (drop i b) (drop i a) ≡ starts_with b a
 
-abbrev decreases-loop : tie.decreases-loop
+abbrev decreases-loop : tie.decreases-loop-i
 decreases-loop a b i₀ i = length b - i
 
-returns : tie.Need-returns invariant-loop decreases-loop
+returns : tie.Need-returns-then-a-b invariant-loop decreases-loop
 unfolding equals
-returns c = rw (ne_eqb _ _ c.if1.true)
+returns c = rw (ne_eqb _ _ c.if-a-b.true)
 
-loop_holds : tie.Need-loop-init invariant-loop decreases-loop
+loop_holds : tie.Need-loop-i-init invariant-loop decreases-loop
 loop_holds c = refl
 
-returns_2 : tie.Need-returns-2 invariant-loop decreases-loop
+returns_2 : tie.Need-returns-then-a-i invariant-loop decreases-loop
 unfolding equals
 returns_2 c =
     let at_test = c.before.before.before in
-    let l = at_test.before.loop in
-    let same = at_test.before.before.if1.false in
-    let a = at_test.before.before.before.args in
-    let h = at_test.loop-test.true in
-    rw (eq-eqb _ _ same) (sym (sym l.invariant ∙ starts_other a.b.now a.a.now l.i h (omega (arith, h, same)) c.if2.true))
+    let l = at_test.loop-i in
+    let same = at_test.if-a-b.false in
+    let a = at_test.args in
+    let h = at_test.loop-i-test.true in
+    rw (eq-eqb _ _ same) (sym (sym l.invariant ∙ starts_other a.b.now a.a.now l.i h (omega (arith, h, same)) c.if-a-i.true))
 
-loop_less : tie.Need-loop-smaller invariant-loop decreases-loop
+loop_less : tie.Need-loop-i-smaller invariant-loop decreases-loop
 loop_less c = omega arith
 
-loop_again : tie.Need-loop-preserved invariant-loop decreases-loop
+loop_again : tie.Need-loop-i-preserved invariant-loop decreases-loop
 loop_again c =
     let at_test = c.before.before.before in
-    let l = at_test.before.loop in
-    let same = at_test.before.before.if1.false in
-    let a = at_test.before.before.before.args in
-    let h = at_test.loop-test.true in
-    sym (starts_on a.b.now a.a.now l.i h (omega (arith, h, same)) c.if2.false) ∙ l.invariant
+    let l = at_test.loop-i in
+    let same = at_test.if-a-b.false in
+    let a = at_test.args in
+    let h = at_test.loop-i-test.true in
+    sym (starts_on a.b.now a.a.now l.i h (omega (arith, h, same)) c.if-a-i.false) ∙ l.invariant
 
-returns_3 : tie.Need-returns-3 invariant-loop decreases-loop
+returns_3 : tie.Need-returns invariant-loop decreases-loop
 unfolding equals
 returns_3 c =
-    let l = c.before.loop in
-    let a = c.before.before.before.args in
-    rw (eq-eqb _ _ c.before.before.if1.false) (sym (sym l.invariant ∙ starts_end a.b.now a.a.now l.i c.loop-test.false))
+    let l = c.loop-i in
+    let a = c.args in
+    rw (eq-eqb _ _ c.if-a-b.false) (sym (sym l.invariant ∙ starts_end a.b.now a.a.now l.i c.loop-i-test.false))
 
-pub same-words-spec : {M : Type 1} → statement M
-same-words-spec =
+pub same_words_spec : {M : Type 1} → statement M
+same_words_spec =
     tie.close
     (tie.spec
     invariant-loop

@@ -4,32 +4,32 @@ use borrow.Author.Rules.{rules}
 use Rattle.mattered_standing.proofs.after_header.Statement.{statement}
 use Rattle.mattered_standing.proofs.after_header.Tie as tie
 
-returns : tie.Need-returns
+returns : tie.Need-returns-in-Next
 unfolding after_header
 returns c =
-    let at-step = c.before.before in
-    rw (c.stands.ensures, at-step.step.given.1)
+    let at-step = c.before in
+    rw (c.stands.ensures, at-step.in-Next.is)
 
-returns_2 : tie.Need-returns-2
+returns_2 : tie.Need-returns-in-Complete
 unfolding after_header
 returns_2 c =
-    let at-step2 = c.before.before in
-    rw (c.stands2.ensures, at-step2.step2.given.1)
+    let at-step2 = c.before in
+    rw (c.stands-in-Complete.ensures, at-step2.in-Complete.is)
 
-returns_3 : tie.Need-returns-3
+returns_3 : tie.Need-returns-in-Absent
 unfolding after_header
 returns_3 c =
-    let at-step3 = c.before.before in
-    rw (c.after_event.ensures, at-step3.step3.given.1)
+    let at-step3 = c.before in
+    rw (c.after_event.ensures, at-step3.in-Absent.is)
 
-returns_4 : tie.Need-returns-4
+returns_4 : tie.Need-returns-in-Missing
 unfolding after_header
 returns_4 c =
     let at-enum-told = c.before in
-    rw (c.stands3.ensures, at-enum-told.enum_told.given.1)
+    rw (c.stands-in-Missing.ensures, at-enum-told.in-Missing.is)
 
-pub after-header-spec : {M : Type 1} → statement M
-after-header-spec =
+pub after_header_spec : {M : Type 1} → statement M
+after_header_spec =
     tie.close
     (tie.spec
     (λ c. search rules)

@@ -9,7 +9,7 @@ returns : tie.Need-returns
 unfolding new_standing empty_header
 returns c =
     let at-zero-config = c.before in
-    rw (c.stands.ensures, at-zero-config.zero_config.ensures)
+    rw (c.stands.ensures, at-zero-config.zero_config-config.ensures)
 
-pub new-standing-spec : {M : Type 1} → statement M
-new-standing-spec = tie.close (tie.spec (λ c κs. search rules) (λ c κs. search rules) returns)
+pub new_standing_spec : {M : Type 1} → statement M
+new_standing_spec = tie.close (tie.spec (λ c κs. search rules) (λ c κs. search rules) returns)

@@ -17,16 +17,16 @@ returns c =
     let at-event-line = at-event-words.before in
     let entry = at-event-line.before.before.before in
     let a = entry.args in
-    let asked = at-event-line.event-line.ensures in
-    let event = at-is-event.is_event.ensures ∙ ap is_event asked in
-    let words = at-event-words.event_words.ensures ∙ ap event_words asked in
+    let asked = at-event-line.event_line-x.ensures in
+    let event = at-is-event.is_event-event.ensures ∙ ap is_event asked in
+    let words = at-event-words.event_words-w.ensures ∙ ap event_words asked in
     record {
       next = c.after_line.ensures ∙ ap (λ (b : Bool). after_line a.t.phase a.t b (closed_line a.line.now)) event;
       words = at_store.store.ensures ∙ ap (stored a.events.now a.t.count) words;
     }
 
-pub take-line-spec : {M : Type 1} → statement M
-take-line-spec =
+pub take_line_spec : {M : Type 1} → statement M
+take_line_spec =
     tie.close
     (tie.spec
     (λ c κs. search rules)

@@ -8,20 +8,20 @@ use Rattle.merge.proofs.SearchLaws.{past, within}
 use Rattle.merge.proofs.right.Statement.{statement}
 use Rattle.merge.proofs.right.Tie as tie
 
-len : (c : tie.Start) → length c.args.t1.note ≡ 6
+len : (c : tie.Start) → length c.args.l.note ≡ 6
 len c = search (rules, length_mapped)
 
-returns : tie.Need-returns
+returns : tie.Need-returns-then-n-k
 returns c =
     let entry = c.before in
     let a = entry.args in
     let p = entry.requires in
     record {
       has = λ y. absurd (tf y refl);
-      given = λ S st. past a.a a.b a.i a.j S st p.1 p.2 a.t1 (len entry) p.0 a.k c.if1.true;
+      given = λ S st. past a.a a.b a.i a.j S st p.1 p.2 a.l (len entry) p.0 a.k c.if-n-k.true;
     }
 
-returns_2 : tie.Need-returns-2
+returns_2 : tie.Need-returns
 returns_2 c =
     let at-said = c.before in
     let at_second = at-said.before in
@@ -31,14 +31,14 @@ returns_2 c =
     let a = entry.args in
     let p = entry.requires in
     record {
-      has = λ y. at-if1.if1.false;
+      has = λ y. at-if1.if-n-k.false;
       given = λ S st.
-          rw (at-said.said.ensures, at_second.toggled2.ensures, at_first.toggled.ensures, c.number.ensures)
-          (within a.a a.b a.i a.j S st p.1 p.2 a.t1 (len entry) p.0 a.k _ at-if1.if1.false);
+          rw (at-said.said.ensures, at_second.toggled-inside.ensures, at_first.toggled-one.ensures, c.number.ensures)
+          (within a.a a.b a.i a.j S st p.1 p.2 a.l (len entry) p.0 a.k _ at-if1.if-n-k.false);
     }
 
-pub right-spec : {M : Type 1} → statement M
-right-spec =
+pub right_spec : {M : Type 1} → statement M
+right_spec =
     tie.close
     (tie.spec
     returns

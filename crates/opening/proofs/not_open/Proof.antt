@@ -5,7 +5,7 @@ use Rattle.opening.proofs.not_open.Statement.{statement}
 use Rattle.opening.proofs.not_open.Tie as tie
 
 returns : tie.Need-returns
-returns c = (refl, c.zero-state.ensures)
+returns c = (refl, c.zero_state-z.ensures)
 
-pub not-open-spec : {M : Type 1} → statement M
-not-open-spec = tie.close (tie.spec (λ c κs. search rules) returns)
+pub not_open_spec : {M : Type 1} → statement M
+not_open_spec = tie.close (tie.spec (λ c κs. search rules) returns)

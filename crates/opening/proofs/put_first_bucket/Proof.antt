@@ -10,8 +10,8 @@ use Rattle.opening.proofs.put_first_bucket.Tie as tie
 returns : tie.Need-returns
 returns c =
     let put-flag = c.before.before in
-    let zeroed = put-flag.before.before.before.before.zero in
+    let zeroed = put-flag.zero in
     put-flag.put.ensures ∙ ap (λ (l : List ℕ). set l 0 1) zeroed.ensures
 
-pub put-first-bucket-spec : {M : Type 1} → statement M
-put-first-bucket-spec = tie.close (tie.spec (λ c κs. search rules) (λ c κs. search rules) (λ c. search rules) returns)
+pub put_first_bucket_spec : {M : Type 1} → statement M
+put_first_bucket_spec = tie.close (tie.spec (λ c κs. search rules) (λ c κs. search rules) (λ c. search rules) returns)

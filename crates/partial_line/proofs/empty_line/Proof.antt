@@ -8,5 +8,5 @@ returns : tie.Need-returns
 unfolding empty_line
 returns c = refl
 
-pub empty-line-spec : {M : Type 1} → statement M
-empty-line-spec = tie.close (tie.spec returns)
+pub empty_line_spec : {M : Type 1} → statement M
+empty_line_spec = tie.close (tie.spec returns)

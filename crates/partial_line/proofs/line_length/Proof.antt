@@ -10,8 +10,8 @@ use Rattle.partial_line.proofs.line_length.Tie as tie
 len : (c : tie.Start) → length c.args.h.bytes ≡ 41
 len c = search rules
 
-returns_2 : tie.Need-returns-2
-returns_2 c = (omega arith, all_kept c.before.args.h.bytes c.before.args.h.len (len c.before) c.if1.false)
+returns_2 : tie.Need-returns
+returns_2 c = (omega arith, all_kept c.args.h.bytes c.args.h.len (len c.before) c.if-n-lt41.false)
 
-pub line-length-spec : {M : Type 1} → statement M
-line-length-spec = tie.close (tie.spec (λ c. search rules) returns_2)
+pub line_length_spec : {M : Type 1} → statement M
+line_length_spec = tie.close (tie.spec (λ c. search rules) returns_2)

@@ -5,11 +5,11 @@ use borrow.Author.Rules.{rules}
 use Rattle.partial_line.proofs.push.Statement.{statement}
 use Rattle.partial_line.proofs.push.Tie as tie
 
-returns : tie.Need-returns
-returns c = push_in c.before.before.args.h c.before.before.args.x c.if1.true
+returns : tie.Need-returns-then-n-lt41
+returns c = push_in c.args.h c.args.x c.if-n-lt41.true
 
-returns_2 : tie.Need-returns-2
-returns_2 c = push_full c.before.before.args.h c.before.before.args.x c.if1.false
+returns_2 : tie.Need-returns
+returns_2 c = push_full c.args.h c.args.x c.if-n-lt41.false
 
 pub push_spec : {M : Type 1} → statement M
 push_spec = tie.close (tie.spec (λ c. search rules) (λ c. search rules) returns returns_2)

@@ -3,23 +3,23 @@ use borrow.Author.Rules.{rules}
 use Rattle.planner.proofs.call.Statement.{statement}
 use Rattle.planner.proofs.call.Tie as tie
 
-returns : tie.Need-returns
-returns c = rw c.before.enum_told.given.1 c.insert.ensures
+returns : tie.Need-returns-in-Insert
+returns c = rw c.in-Insert.is c.insert.ensures
 
-returns_2 : tie.Need-returns-2
-returns_2 c = rw c.before.enum-told2.given.1 c.remove.ensures
+returns_2 : tie.Need-returns-in-Remove
+returns_2 c = rw c.in-Remove.is c.remove.ensures
 
-returns_3 : tie.Need-returns-3
-returns_3 c = rw c.before.enum-told3.given.1 c.contains.ensures
+returns_3 : tie.Need-returns-in-Contains
+returns_3 c = rw c.in-Contains.is c.contains.ensures
 
-returns_4 : tie.Need-returns-4
-returns_4 c = rw c.before.enum-told4.given.1 (c.grow.ensures c.before.before.before.args.g c.before.before.before.args.c.tag)
+returns_4 : tie.Need-returns-in-Grow
+returns_4 c = rw c.in-Grow.is (c.grow.ensures c.args.g c.args.c.tag)
 
-returns-5 : tie.Need-returns-5
-returns-5 c = rw c.before.enum-told5.given.1 (c.shrink.ensures c.before.before.before.args.g c.before.before.before.args.c.tag)
+returns-5 : tie.Need-returns-in-Shrink
+returns-5 c = rw c.in-Shrink.is (c.shrink.ensures c.args.g c.args.c.tag)
 
-pub call-spec : {M : Type 1} → statement M
-call-spec =
+pub call_spec : {M : Type 1} → statement M
+call_spec =
     tie.close
     (tie.spec
     (λ c. search rules)

@@ -6,7 +6,7 @@ use borrow.Author.Rules.{rules}
 use Rattle.planner.proofs.contains.Statement.{statement}
 use Rattle.planner.proofs.contains.Tie as tie
 
-returns : tie.Need-returns
+returns : tie.Need-returns-then-filled-i
 returns c =
     let at_filled = c.before in
     let at-answer = at_filled.before in
@@ -15,9 +15,9 @@ returns c =
     let entry = at_place.before.before in
     let a = entry.args in
     contains_plans a.g a.s entry.requires a.tag _ true
-    (sym c.if1.true ∙ rw at_place.place.ensures.0) (rw (at-answer.yes_or_no.ensures, at_has.has.ensures)) refl
+    (sym c.if-filled-i.true ∙ rw at_place.place-i.ensures.0) (rw (at-answer.yes_or_no-answer.ensures, at_has.has.ensures)) refl
 
-returns_2 : tie.Need-returns-2
+returns_2 : tie.Need-returns-else-filled-i
 returns_2 c =
     let at_filled = c.before in
     let at-answer = at_filled.before in
@@ -26,9 +26,9 @@ returns_2 c =
     let entry = at_place.before.before in
     let a = entry.args in
     contains_plans a.g a.s entry.requires a.tag _ false
-    (sym c.if1.false ∙ rw at_place.place.ensures.0) (rw (at-answer.yes_or_no.ensures, at_has.has.ensures)) refl
+    (sym c.if-filled-i.false ∙ rw at_place.place-i.ensures.0) (rw (at-answer.yes_or_no-answer.ensures, at_has.has.ensures)) refl
 
-pub contains-spec : {M : Type 1} → statement M
-contains-spec =
+pub contains_spec : {M : Type 1} → statement M
+contains_spec =
     tie.close
     (tie.spec (λ c κs. search rules) (λ c κs. search rules) (λ c κs. search rules) (λ c. search rules) returns returns_2)

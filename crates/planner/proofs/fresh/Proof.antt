@@ -13,5 +13,5 @@ unfolding fresh listed_size member
 returns c =
     (refl, record { listed = refl; room = refl; changeable = refl; rising = tt; few = omega arith })
 
-pub fresh-spec : {M : Type 1} → statement M
-fresh-spec = tie.close (tie.spec (λ c. search rules) returns)
+pub fresh_spec : {M : Type 1} → statement M
+fresh_spec = tie.close (tie.spec (λ c. search rules) returns)

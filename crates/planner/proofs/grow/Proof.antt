@@ -6,12 +6,12 @@ use borrow.Author.Rules.{rules}
 use Rattle.planner.proofs.grow.Statement.{statement}
 use Rattle.planner.proofs.grow.Tie as tie
 
-returns : tie.Need-returns
+returns : tie.Need-returns-then-h-eq32
 returns c =
     let entry = c.before.before.before.before in
-    λ g tag. grow_limited g entry.args.s entry.requires tag _ c.before.if1.true c.limited.ensures
+    λ g tag. grow_limited g entry.args.s entry.requires tag _ c.if-h-eq32.true c.limited.ensures
 
-mul-resize : tie.Need-overflow-mul-resize
+mul-resize : tie.Need-overflow_mul-h
 mul-resize c =
     let entry = c.before.before.before.before in
     omega (arith, listed_high (listed_is entry.args.s.head.size entry.requires.listed))
@@ -21,10 +21,10 @@ resize-requires c κs =
     let entry = c.before.before.before.before in
     listed_high (listed_is entry.args.s.head.size entry.requires.listed)
 
-returns_2 : tie.Need-returns-2
+returns_2 : tie.Need-returns
 returns_2 c =
     let entry = c.before.before.before.before.before in
-    λ g tag. grow_plans g entry.args.s entry.requires tag _ c.before.before.if1.false c.resize.ensures
+    λ g tag. grow_plans g entry.args.s entry.requires tag _ c.if-h-eq32.false c.resize.ensures
 
 pub grow_spec : {M : Type 1} → statement M
 grow_spec = tie.close (tie.spec (λ c κs. search rules) returns mul-resize resize-requires returns_2)

@@ -9,7 +9,7 @@ returns c =
     let called = c.before in
     let entry = called.before.before.before in
     let a = entry.args in
-    insert_plans a.g a.s entry.requires a.tag _ (rw called.add.ensures at c.update.ensures)
+    insert_plans a.g a.s entry.requires a.tag _ (rw called.add-c.ensures at c.update.ensures)
 
-pub insert-spec : {M : Type 1} → statement M
-insert-spec = tie.close (tie.spec (λ c κs. search rules) (λ c κs. search rules) returns)
+pub insert_spec : {M : Type 1} → statement M
+insert_spec = tie.close (tie.spec (λ c κs. search rules) (λ c κs. search rules) returns)

@@ -8,5 +8,5 @@ returns : tie.Need-returns
 unfolding figures_array
 returns c = refl
 
-pub no-figures-spec : {M : Type 1} → statement M
-no-figures-spec = tie.close (tie.spec returns)
+pub no_figures_spec : {M : Type 1} → statement M
+no_figures_spec = tie.close (tie.spec returns)

@@ -6,9 +6,9 @@ use Rattle.planner.proofs.place.Tie as tie
 
 returns : tie.Need-returns
 returns c =
-    let a = c.before.args in
+    let a = c.args in
     let e = c.slot.ensures in
-    (e, place_fits a.g a.tag a.h _ c.before.requires e)
+    (e, place_fits a.g a.tag a.h _ c.requires e)
 
-pub place-spec : {M : Type 1} → statement M
-place-spec = tie.close (tie.spec (λ c κs. search rules) (λ c. search rules) returns)
+pub place_spec : {M : Type 1} → statement M
+place_spec = tie.close (tie.spec (λ c κs. search rules) (λ c. search rules) returns)

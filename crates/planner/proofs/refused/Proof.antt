@@ -6,7 +6,7 @@ use Rattle.planner.proofs.refused.Tie as tie
 
 returns : tie.Need-returns
 unfolding plan_array
-returns c = rw c.no-figures.ensures
+returns c = rw c.no_figures-figures.ensures
 
-pub refused-spec : {M : Type 1} → statement M
-refused-spec = tie.close (tie.spec (λ c κs. search rules) returns)
+pub refused_spec : {M : Type 1} → statement M
+refused_spec = tie.close (tie.spec (λ c κs. search rules) returns)

@@ -9,7 +9,7 @@ returns c =
     let called = c.before in
     let entry = called.before.before.before in
     let a = entry.args in
-    remove_plans a.g a.s entry.requires a.tag _ (rw called.remove.ensures at c.update.ensures)
+    remove_plans a.g a.s entry.requires a.tag _ (rw called.remove-c.ensures at c.update.ensures)
 
-pub remove-spec : {M : Type 1} → statement M
-remove-spec = tie.close (tie.spec (λ c κs. search rules) (λ c κs. search rules) returns)
+pub remove_spec : {M : Type 1} → statement M
+remove_spec = tie.close (tie.spec (λ c κs. search rules) (λ c κs. search rules) returns)

@@ -20,10 +20,10 @@ returns c =
     let entry = at-empty.before.before in
     let s = entry.args.s in
     let own =
-    places_shape s.head (tags_in s.set.words) (room entry) entry.requires _ _ at-empty.empty_places.ensures.0
-    at-steps.fill_steps.ensures.0
+    places_shape s.head (tags_in s.set.words) (room entry) entry.requires _ _ at-empty.empty_places-empty.ensures.0
+    at-steps.fill_steps-steps.ensures.0
     in
-    record { figures = rw (own, at-empty.empty_places.ensures.0); next = ap (λ (h : Head). standing h s.set) at-resized.resized.ensures }
+    record { figures = rw (own, at-empty.empty_places-empty.ensures.0); next = ap (λ (h : Head). standing h s.set) at-resized.resized-head.ensures }
 
 pub resize_spec : {M : Type 1} → statement M
 resize_spec =

@@ -5,20 +5,20 @@ use borrow.Author.Rules.{rules}
 use Rattle.planner.proofs.shrink.Statement.{statement}
 use Rattle.planner.proofs.shrink.Tie as tie
 
-returns : tie.Need-returns
+returns : tie.Need-returns-then-h-eq1
 returns c =
     let entry = c.before.before.before.before in
-    λ g tag. shrink_limited g entry.args.s entry.requires tag _ c.before.if1.true c.limited.ensures
+    λ g tag. shrink_limited g entry.args.s entry.requires tag _ c.if-h-eq1.true c.limited.ensures
 
 resize-requires : tie.Need-resize-requires
 resize-requires c κs =
     let entry = c.before.before.before.before in
     listed_high (listed_is entry.args.s.head.size entry.requires.listed)
 
-returns_2 : tie.Need-returns-2
+returns_2 : tie.Need-returns
 returns_2 c =
     let entry = c.before.before.before.before.before in
-    λ g tag. shrink_plans g entry.args.s entry.requires tag _ c.before.before.if1.false c.resize.ensures
+    λ g tag. shrink_plans g entry.args.s entry.requires tag _ c.if-h-eq1.false c.resize.ensures
 
 pub shrink_spec : {M : Type 1} → statement M
 shrink_spec = tie.close (tie.spec (λ c κs. search rules) returns resize-requires returns_2)

@@ -6,16 +6,16 @@ use Rattle.planner.proofs.update.Tie as tie
 
 returns : tie.Need-returns
 returns c =
-    let at_fill_lem = c.before in
-    let at-figures = at_fill_lem.before in
+    let at_fill = c.before in
+    let at-figures = at_fill.before in
     let at-answer = at-figures.before in
     let at_place = at-answer.before in
     record {
-      figures = λ ts. at-figures.update_figures.ensures ts ∙ rw (at-answer.answer.ensures, at_place.place.ensures.0);
-      next = rw (at_fill_lem.fill.ensures, at_place.place.ensures.0);
+      figures = λ ts. at-figures.update_figures-figures.ensures ts ∙ rw (at-answer.answer.ensures, at_place.place-i.ensures.0);
+      next = rw (at_fill.fill-head.ensures, at_place.place-i.ensures.0);
     }
 
-pub update-spec : {M : Type 1} → statement M
-update-spec =
+pub update_spec : {M : Type 1} → statement M
+update_spec =
     tie.close
     (tie.spec (λ c κs. search rules) (λ c κs. search rules) (λ c κs. search rules) (λ c κs. search rules) returns)

@@ -4,17 +4,17 @@ use Rattle.game.specs.Game.{is_win}
 use Rattle.play.proofs.is_win.Statement.{statement}
 use Rattle.play.proofs.is_win.Tie as tie
 
-returns : tie.Need-returns
+returns : tie.Need-returns-in-LanesWin
 unfolding is_win
-returns c = rw c.enum_told.given.1
+returns c = rw c.in-LanesWin.is
 
-returns_2 : tie.Need-returns-2
+returns_2 : tie.Need-returns-in-OfficeHolds
 unfolding is_win
-returns_2 c = rw c.enum-told2.given.1
+returns_2 c = rw c.in-OfficeHolds.is
 
-returns_3 : tie.Need-returns-3
+returns_3 : tie.Need-returns-in-Refused
 unfolding is_win
-returns_3 c = rw c.enum-told3.given.1
+returns_3 c = rw c.in-Refused.is
 
-pub is-win-spec : {M : Type 1} → statement M
-is-win-spec = tie.close (tie.spec (λ c. search rules) (λ c. search rules) (λ c. search rules) returns returns_2 returns_3)
+pub is_win_spec : {M : Type 1} → statement M
+is_win_spec = tie.close (tie.spec (λ c. search rules) (λ c. search rules) (λ c. search rules) returns returns_2 returns_3)

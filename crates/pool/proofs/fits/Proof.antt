@@ -5,23 +5,23 @@ use borrow.Author.Rules.{rules}
 use Rattle.pool.proofs.fits.Statement.{statement}
 use Rattle.pool.proofs.fits.Tie as tie
 
-returns : tie.Need-returns
+returns : tie.Need-returns-then-words-width-ne0
 unfolding pool_fits
-returns c = rw (ne_eqb _ _ c.if1.true)
+returns c = rw (ne_eqb _ _ c.if-words-width-ne0.true)
 
-returns_2 : tie.Need-returns-2
+returns_2 : tie.Need-returns-then-n-lt1
 unfolding pool_fits
-returns_2 c = rw (eq-eqb _ _ c.before.if1.false, lt-leb _ _ c.if2.true)
+returns_2 c = rw (eq-eqb _ _ c.if-words-width-ne0.false, lt-leb _ _ c.if-n-lt1.true)
 
-returns_3 : tie.Need-returns-3
+returns_3 : tie.Need-returns-then-most-n
 unfolding pool_fits
 returns_3 c =
-    rw (eq-eqb _ _ c.before.before.if1.false, le-leb _ _ c.before.if2.false, lt-leb _ _ c.if3.true)
+    rw (eq-eqb _ _ c.if-words-width-ne0.false, le-leb _ _ c.if-n-lt1.false, lt-leb _ _ c.if-most-n.true)
 
-returns_4 : tie.Need-returns-4
+returns_4 : tie.Need-returns
 unfolding pool_fits
 returns_4 c =
-    rw (eq-eqb _ _ c.before.before.if1.false, le-leb _ _ c.before.if2.false, le-leb _ _ c.if3.false)
+    rw (eq-eqb _ _ c.if-words-width-ne0.false, le-leb _ _ c.if-n-lt1.false, le-leb _ _ c.if-most-n.false)
 
-pub fits-spec : {M : Type 1} → statement M
-fits-spec = tie.close (tie.spec (λ c. search rules) returns (λ c. search rules) returns_2 returns_3 returns_4)
+pub fits_spec : {M : Type 1} → statement M
+fits_spec = tie.close (tie.spec (λ c. search rules) returns (λ c. search rules) returns_2 returns_3 returns_4)

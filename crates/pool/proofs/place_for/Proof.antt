@@ -9,9 +9,9 @@ use Rattle.pool.proofs.place_for.Tie as tie
 
 returns : tie.Need-returns
 returns c =
-    let a = c.before.before.before.args in
+    let a = c.args in
     let w = a.ns.now in
-    c.place-for-at.ensures ∙ ap (λ (k : ℕ). place w k (slot a.g a.tag (size w k))) c.before.number_of.ensures
+    c.place_for_at.ensures ∙ ap (λ (k : ℕ). place w k (slot a.g a.tag (size w k))) c.number_of-k.ensures
 
-pub place-for-spec : {M : Type 1} → statement M
-place-for-spec = tie.close (tie.spec (λ c κs. search rules) (λ c κs. search rules) returns)
+pub place_for_spec : {M : Type 1} → statement M
+place_for_spec = tie.close (tie.spec (λ c κs. search rules) (λ c κs. search rules) returns)

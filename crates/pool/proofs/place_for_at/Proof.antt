@@ -9,10 +9,10 @@ use Rattle.pool.proofs.place_for_at.Tie as tie
 
 returns : tie.Need-returns
 returns c =
-    let a = c.before.before.before.before.args in
+    let a = c.args in
     let w = a.ns.now in
-    let spot = c.before.slot.ensures ∙ ap (λ (z : ℕ). slot a.g a.tag z) c.before.before.size_at.ensures in
+    let spot = c.slot-i.ensures ∙ ap (λ (z : ℕ). slot a.g a.tag z) c.size_at-z.ensures in
     c.place_at.ensures ∙ ap (λ (i : ℕ). place w a.k i) spot
 
-pub place-for-at-spec : {M : Type 1} → statement M
-place-for-at-spec = tie.close (tie.spec (λ c κs. search rules) (λ c κs. search rules) (λ c κs. search rules) returns)
+pub place_for_at_spec : {M : Type 1} → statement M
+place_for_at_spec = tie.close (tie.spec (λ c κs. search rules) (λ c κs. search rules) (λ c κs. search rules) returns)

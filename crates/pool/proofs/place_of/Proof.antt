@@ -8,8 +8,8 @@ use Rattle.pool.proofs.place_of.Tie as tie
 
 returns : tie.Need-returns
 returns c =
-    c.place_at.ensures ∙ ap (λ (k : ℕ). place c.before.before.before.args.ns.now k c.before.before.before.args.i)
-    c.before.number_of.ensures
+    c.place_at.ensures ∙ ap (λ (k : ℕ). place c.args.ns.now k c.args.i)
+    c.number_of-k.ensures
 
-pub place-of-spec : {M : Type 1} → statement M
-place-of-spec = tie.close (tie.spec (λ c κs. search rules) (λ c κs. search rules) returns)
+pub place_of_spec : {M : Type 1} → statement M
+place_of_spec = tie.close (tie.spec (λ c κs. search rules) (λ c κs. search rules) returns)

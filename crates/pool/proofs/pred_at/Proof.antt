@@ -8,5 +8,5 @@ returns : tie.Need-returns
 unfolding pred
 returns c = c.word.ensures
 
-pub pred-at-spec : {M : Type 1} → statement M
-pred-at-spec = tie.close (tie.spec (λ c. search rules) (λ c. search rules) (λ c κs. search rules) returns)
+pub pred_at_spec : {M : Type 1} → statement M
+pred_at_spec = tie.close (tie.spec (λ c. search rules) (λ c. search rules) (λ c κs. search rules) returns)

@@ -8,7 +8,7 @@ use Rattle.pool.proofs.pred_of.Tie as tie
 
 returns : tie.Need-returns
 returns c =
-    c.pred_at.ensures ∙ ap (λ (k : ℕ). pred c.before.before.before.args.ns.now k) c.before.number_of.ensures
+    c.pred_at.ensures ∙ ap (λ (k : ℕ). pred c.args.ns.now k) c.number_of-k.ensures
 
-pub pred-of-spec : {M : Type 1} → statement M
-pred-of-spec = tie.close (tie.spec (λ c κs. search rules) (λ c κs. search rules) returns)
+pub pred_of_spec : {M : Type 1} → statement M
+pred_of_spec = tie.close (tie.spec (λ c κs. search rules) (λ c κs. search rules) returns)

@@ -5,8 +5,8 @@ use borrow.Author.Rules.{rules}
 use Rattle.pool.proofs.put.Statement.{statement}
 use Rattle.pool.proofs.put.Tie as tie
 
-returns_2 : tie.Need-returns-2
-returns_2 c = sym (set_out c.before.args.s.now c.before.args.at c.before.args.v c.if1.false)
+returns_2 : tie.Need-returns-else-at-s
+returns_2 c = sym (set_out c.args.s.now c.args.at c.args.v c.if-at-s.false)
 
 pub put_spec : {M : Type 1} → statement M
 put_spec = tie.close (tie.spec (λ c. search rules) (λ c. search rules) (λ c. search rules) (λ c. search rules) returns_2)

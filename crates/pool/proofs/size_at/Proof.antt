@@ -8,5 +8,5 @@ returns : tie.Need-returns
 unfolding size
 returns c = c.word.ensures
 
-pub size-at-spec : {M : Type 1} → statement M
-size-at-spec = tie.close (tie.spec (λ c. search rules) (λ c κs. search rules) returns)
+pub size_at_spec : {M : Type 1} → statement M
+size_at_spec = tie.close (tie.spec (λ c. search rules) (λ c κs. search rules) returns)

@@ -8,7 +8,7 @@ use Rattle.pool.proofs.size_of.Tie as tie
 
 returns : tie.Need-returns
 returns c =
-    c.size_at.ensures ∙ ap (λ (k : ℕ). size c.before.before.before.args.ns.now k) c.before.number_of.ensures
+    c.size_at.ensures ∙ ap (λ (k : ℕ). size c.args.ns.now k) c.number_of-k.ensures
 
-pub size-of-spec : {M : Type 1} → statement M
-size-of-spec = tie.close (tie.spec (λ c κs. search rules) (λ c κs. search rules) returns)
+pub size_of_spec : {M : Type 1} → statement M
+size_of_spec = tie.close (tie.spec (λ c κs. search rules) (λ c κs. search rules) returns)

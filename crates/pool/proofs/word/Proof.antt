@@ -5,8 +5,8 @@ use borrow.Author.Rules.{rules}
 use Rattle.pool.proofs.word.Statement.{statement}
 use Rattle.pool.proofs.word.Tie as tie
 
-returns_2 : tie.Need-returns-2
-returns_2 c = sym (get_or-eq_default c.before.args.s.now 0 c.if1.false)
+returns_2 : tie.Need-returns-else-at-s
+returns_2 c = sym (get_or-eq_default c.args.s.now 0 c.if-at-s.false)
 
-pub word-spec : {M : Type 1} → statement M
-word-spec = tie.close (tie.spec (λ c. search rules) (λ c. search rules) (λ c. search rules) returns_2)
+pub word_spec : {M : Type 1} → statement M
+word_spec = tie.close (tie.spec (λ c. search rules) (λ c. search rules) (λ c. search rules) returns_2)

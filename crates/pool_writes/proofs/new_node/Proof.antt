@@ -13,26 +13,26 @@ use borrow.Author.Rules.{rules}
 use Rattle.pool_writes.proofs.new_node.Statement.{statement}
 use Rattle.pool_writes.proofs.new_node.Tie as tie
 
-returns : tie.Need-returns
+returns : tie.Need-returns-then-ns-k
 unfolding store_node
-returns c = rw (le-ltb _ _ c.if1.true)
+returns c = rw (le-ltb _ _ c.if-ns-k.true)
 
-returns_2 : tie.Need-returns-2
+returns_2 : tie.Need-returns
 unfolding node_of write_front
 returns_2 c =
     let at-if1 = c.before.before.before.before.before in
-    let a = at-if1.before.before.args in
+    let a = at-if1.args in
     let p = a.ns.now in
-    let i = at-if1.if1.false in
+    let i = at-if1.if-ns-k.false in
     let d = drop (34 * a.k) p in
     let v = node_of a.size a.pred in
     let l : 34 ≤ length d = rw (length-drop (34 * a.k) p) (omega arith) in
     let f : write_front d v ≡ overwrite d 0 v = rw (le-leb _ _ l) in
-    back p (34 * a.k) v c.before.before.write-over.new.0 (c.before.before.write-over.ensures
+    back p (34 * a.k) v c.write_over.new.part (c.write_over.ensures
     ∙ ap (λ (w : List ℕ). write_front w v) (rest p (34 * a.k)) ∙ f) ∙ sym (node_here p a.k a.size a.pred (omega arith))
 
-pub new-node-spec : {M : Type 1} → statement M
-new-node-spec =
+pub new_node_spec : {M : Type 1} → statement M
+new_node_spec =
     tie.close
     (tie.spec
     returns

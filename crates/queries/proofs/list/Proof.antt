@@ -23,54 +23,54 @@ use borrow.Author.Rules.{rules}
 use Rattle.queries.proofs.list.Statement.{statement}
 use Rattle.queries.proofs.list.Tie as tie
 
-len : (c : tie.After-count) → length c.before.before.before.before.gather.result.bucket.words ≡ 66
+len : (c : tie.After-count-n) → length c.gather-g.result.bucket.words ≡ 66
 len c = search rules
 
-returns : tie.Need-returns
+returns : tie.Need-returns-then-not-sound
 returns c =
-    let a = c.before.before.before.before.before.args in
+    let a = c.args in
     let y : Machine = machine_of a.s a.ns.now a.bs.now in
-    let p = list_spoilt y a.out.now (sym c.before.sound.ensures ∙ not-true _ c.if1.true) in
+    let p = list_spoilt y a.out.now (sym c.sound.ensures ∙ not-true _ c.if-not-sound.true-raw) in
     (sym (ap (λ (z : Written). z.says) p), sym (ap (λ (z : Written). z.words) p))
 
-returns_2 : tie.Need-returns-2
+returns_2 : tie.Need-returns-then-full
 returns_2 c =
-    let a = c.before.before.before.before.before.before.before.args in
+    let a = c.args in
     let y : Machine = machine_of a.s a.ns.now a.bs.now in
-    let s = sym c.before.before.before.sound.ensures ∙ not-false _ c.before.before.if1.false in
-    let g : Holds c.before.gather.result (listed y) = rw c.before.gather.ensures (gathered y s) in
-    let p = list_over y a.out.now s (g.over c.if2.true) in
+    let s = sym c.sound.ensures ∙ not-false _ c.if-not-sound.false-raw in
+    let g : Holds c.gather-g.result (listed y) = rw c.gather-g.ensures (gathered y s) in
+    let p = list_over y a.out.now s (g.over c.if-full.true) in
     (sym (ap (λ (z : Written). z.says) p), sym (ap (λ (z : Written). z.words) p))
 
-returns_3 : tie.Need-returns-3
+returns_3 : tie.Need-returns-then-out-lt-MOST_TAGS
 returns_3 c =
-    let a = c.before.before.before.before.before.before.before.before.args in
+    let a = c.args in
     let y : Machine = machine_of a.s a.ns.now a.bs.now in
-    let s = sym c.before.before.before.before.sound.ensures ∙ not-false _ c.before.before.before.if1.false in
-    let g : Holds c.before.before.gather.result (listed y) = rw c.before.before.gather.ensures (gathered y s) in
-    let f = g.fine c.before.if2.false in
-    let p = list_short y a.out.now s f.0 c.if3.true in
+    let s = sym c.sound.ensures ∙ not-false _ c.if-not-sound.false-raw in
+    let g : Holds c.gather-g.result (listed y) = rw c.gather-g.ensures (gathered y s) in
+    let f = g.fine c.if-full.false in
+    let p = list_short y a.out.now s f.0 c.if-out-lt-MOST_TAGS.true in
     (sym (ap (λ (z : Written). z.says) p), sym (ap (λ (z : Written). z.words) p))
 
-part-write-over-end : tie.Need-slice-bounds-write-over-end
-part-write-over-end c = let e = len c.before.before.before in omega arith
+part-write-over-end : tie.Need-slice_bounds-write_over-end
+part-write-over-end c = let e = len c.before.before in omega arith
 
-returns_4 : tie.Need-returns-4
+returns_4 : tie.Need-returns
 unfolding overwrite write_front
 returns_4 c =
-    let at_count = c.before.before.before.before.before.before.before in
-    let counted = at_count.count in
+    let at_count = c.before.before.before.before.before.before in
+    let counted = at_count.count-n in
     let at_room = at_count.before.before in
     let at-full = at_room.before in
-    let held = at-full.before.gather in
+    let held = at-full.gather-g in
     let at-sound = at-full.before.before in
-    let a = at-sound.before.before.before.before.before.args in
+    let a = at-sound.args in
     let w = a.out.now in
     let y : Machine = machine_of a.s a.ns.now a.bs.now in
-    let s = sym at-sound.before.sound.ensures ∙ not-false _ at-sound.if1.false in
+    let s = sym at-sound.sound.ensures ∙ not-false _ at-sound.if-not-sound.false-raw in
     let g : Holds held.result (listed y) = rw held.ensures (gathered y s) in
-    let f = g.fine at-full.if2.false in
-    let room = at_room.if3.false in
+    let f = g.fine at-full.if-full.false in
+    let room = at_room.if-out-lt-MOST_TAGS.false in
     let ws = held.result.bucket.words in
     let t : tags_in ws ≡ listed y = ap tags_in f.1 ∙ tags_of_bucket 1 (listed y) in
     let n : counted.result ≡ length (listed y) = counted.ensures.0 ∙ ap length t in
@@ -80,11 +80,11 @@ returns_4 c =
     let o : overwrite w 0 (listed y) ≡ listed y ++ drop (length (listed y)) w = rw z in
     let p = list_goes y w s f.0 room in
     let front : write_front w (listed y) ≡ overwrite w 0 (listed y) = rw (le-leb (length (listed y)) (length w) (omega (arith, f.0, room))) in
-    let written = c.before.before.write-over.ensures ∙ ap (λ (l : List ℕ). write_front w l) v ∙ front ∙ o in
+    let written = c.write_over.ensures ∙ ap (λ (l : List ℕ). write_front w l) v ∙ front ∙ o in
     (ap Count n ∙ sym (ap (λ (z : Written). z.says) p), written ∙ sym (ap (λ (z : Written). z.words) p))
 
-pub list-spec : {M : Type 1} → statement M
-list-spec =
+pub list_spec : {M : Type 1} → statement M
+list_spec =
     tie.close
     (tie.spec
     (λ c κs. search rules)

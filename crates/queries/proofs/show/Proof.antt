@@ -15,58 +15,58 @@ use borrow.Author.Rules.{rules}
 use Rattle.queries.proofs.show.Statement.{statement}
 use Rattle.queries.proofs.show.Tie as tie
 
-returns : tie.Need-returns
+returns : tie.Need-returns-then-not-sound
 unfolding show
-returns c = rw (sym c.before.before.sound.ensures ∙ not-true _ c.before.if1.true)
+returns c = rw (sym c.sound.ensures ∙ not-true _ c.if-not-sound.true-raw)
 
-returns_2 : tie.Need-returns-2
+returns_2 : tie.Need-returns-then-s-k
 unfolding show
 returns_2 c =
     let at-sound = c.before.before.before in
-    let s = sym at-sound.before.sound.ensures ∙ not-false _ at-sound.if1.false in
-    rw (s, le-ltb _ _ c.before.if2.true)
+    let s = sym at-sound.sound.ensures ∙ not-false _ at-sound.if-not-sound.false-raw in
+    rw (s, le-ltb _ _ c.if-s-k.true)
 
-returns_3 : tie.Need-returns-3
+returns_3 : tie.Need-returns-then-k-ge-MOST_BUCKETS
 returns_3 c =
     let at-sound = c.before.before.before.before in
-    let a = at-sound.before.before.before.before.args in
+    let a = at-sound.args in
     let y : Machine = machine_of a.s a.ns.now a.bs.now in
-    let n = numbers_of y (sym at-sound.before.sound.ensures ∙ not-false _ at-sound.if1.false) in
-    absurd (omega (arith, c.before.before.if2.false, c.before.if3.true))
+    let n = numbers_of y (sym at-sound.sound.ensures ∙ not-false _ at-sound.if-not-sound.false-raw) in
+    absurd (omega (arith, c.if-s-k.false, c.if-k-ge-MOST_BUCKETS.true))
 
-returns_4 : tie.Need-returns-4
+returns_4 : tie.Need-returns-then-bs-e
 unfolding count
 returns_4 c =
     let at-word = c.before.before in
     let at-k = at-word.before.before in
     let at-sound = at-k.before.before in
-    let a = at-sound.before.before.before.before.args in
+    let a = at-sound.args in
     let w = a.bs.now in
     let y : Machine = machine_of a.s a.ns.now w in
-    let s = sym at-sound.before.sound.ensures ∙ not-false _ at-sound.if1.false in
+    let s = sym at-sound.sound.ensures ∙ not-false _ at-sound.if-not-sound.false-raw in
     let n = numbers_of y s in
-    let m : count w a.k ≤ 64 = few w a.k (bucket_fact y s a.k at-k.if2.false) in
-    let e : at-word.word.result ≡ count w a.k = at-word.word.ensures in
-    absurd (omega (arith, c.before.if4.true, at-k.if2.false))
+    let m : count w a.k ≤ 64 = few w a.k (bucket_fact y s a.k at-k.if-s-k.false) in
+    let e : at-word.word-n.result ≡ count w a.k = at-word.word-n.ensures in
+    absurd (omega (arith, c.if-bs-e.true, at-k.if-s-k.false))
 
-returns-5 : tie.Need-returns-5
+returns-5 : tie.Need-returns
 unfolding show tags count
 returns-5 c =
     let at-word = c.before.before in
     let at-k = at-word.before.before in
     let at-sound = at-k.before.before in
-    let a = at-sound.before.before.before.before.args in
+    let a = at-sound.args in
     let w = a.bs.now in
     let y : Machine = machine_of a.s a.ns.now w in
-    let s = sym at-sound.before.sound.ensures ∙ not-false _ at-sound.if1.false in
+    let s = sym at-sound.sound.ensures ∙ not-false _ at-sound.if-not-sound.false-raw in
     let n = numbers_of y s in
-    let m : count w a.k ≤ 64 = few w a.k (bucket_fact y s a.k at-k.if2.false) in
-    let e : at-word.word.result ≡ count w a.k = at-word.word.ensures in
-    let q : 66 * a.k + 2 + at-word.word.result - (66 * a.k + 2) ≡ count w a.k = omega arith in
-    rw (s, lt-ltb _ _ at-k.if2.false) (ap (λ (m : ℕ). take m (drop (66 * a.k + 2) w)) q)
+    let m : count w a.k ≤ 64 = few w a.k (bucket_fact y s a.k at-k.if-s-k.false) in
+    let e : at-word.word-n.result ≡ count w a.k = at-word.word-n.ensures in
+    let q : 66 * a.k + 2 + at-word.word-n.result - (66 * a.k + 2) ≡ count w a.k = omega arith in
+    rw (s, lt-ltb _ _ at-k.if-s-k.false) (ap (λ (m : ℕ). take m (drop (66 * a.k + 2) w)) q)
 
-pub show-spec : {M : Type 1} → statement M
-show-spec =
+pub show_spec : {M : Type 1} → statement M
+show_spec =
     tie.close
     (tie.spec
     (λ c κs. search rules)

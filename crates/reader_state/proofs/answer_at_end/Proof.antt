@@ -4,28 +4,28 @@ use borrow.Author.Rules.{rules}
 use Rattle.reader_state.proofs.answer_at_end.Statement.{statement}
 use Rattle.reader_state.proofs.answer_at_end.Tie as tie
 
-returns : tie.Need-returns
+returns : tie.Need-returns-in-Due
 unfolding answer_at_end
-returns c = rw c.enum_told.given.1
+returns c = rw c.in-Due.is
 
-returns_2 : tie.Need-returns-2
+returns_2 : tie.Need-returns-in-Event
 unfolding answer_at_end
-returns_2 c = rw c.enum-told2.given.1
+returns_2 c = rw c.in-Event.is
 
-returns_3 : tie.Need-returns-3
+returns_3 : tie.Need-returns-in-Printed
 unfolding answer_at_end
-returns_3 c = rw c.enum-told3.given.1
+returns_3 c = rw c.in-Printed.is
 
-returns_4 : tie.Need-returns-4
+returns_4 : tie.Need-returns-in-Listed
 unfolding answer_at_end
-returns_4 c = rw c.enum-told4.given.1
+returns_4 c = rw c.in-Listed.is
 
-returns-5 : tie.Need-returns-5
+returns-5 : tie.Need-returns-in-Decided
 unfolding answer_at_end
-returns-5 c = rw c.before.phase.given.1
+returns-5 c = rw c.in-Decided.is
 
-pub answer-at-end-spec : {M : Type 1} → statement M
-answer-at-end-spec =
+pub answer_at_end_spec : {M : Type 1} → statement M
+answer_at_end_spec =
     tie.close
     (tie.spec
     (λ c. search rules)

@@ -14,8 +14,8 @@ use Rattle.reader_state.proofs.new_reader.Tie as tie
 returns : tie.Need-returns
 unfolding new_reader empty_header
 returns c =
-    ap (λ (g : Config). reader_of (Due Tasks) (header g 0 0) c.zero-state.result 1) c.before.zero_config.ensures
-    ∙ ap (λ (m : State). reader_of (Due Tasks) (header zero_config 0 0) m 1) c.zero-state.ensures
+    ap (λ (g : Config). reader_of (Due Tasks) (header g 0 0) c.zero_state-z.result 1) c.zero_config-config.ensures
+    ∙ ap (λ (m : State). reader_of (Due Tasks) (header zero_config 0 0) m 1) c.zero_state-z.ensures
 
-pub new-reader-spec : {M : Type 1} → statement M
-new-reader-spec = tie.close (tie.spec (λ c κs. search rules) (λ c κs. search rules) returns)
+pub new_reader_spec : {M : Type 1} → statement M
+new_reader_spec = tie.close (tie.spec (λ c κs. search rules) (λ c κs. search rules) returns)

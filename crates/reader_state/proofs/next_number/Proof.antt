@@ -5,13 +5,13 @@ use borrow.Author.Rules.{rules}
 use Rattle.reader_state.proofs.next_number.Statement.{statement}
 use Rattle.reader_state.proofs.next_number.Tie as tie
 
-returns : tie.Need-returns
+returns : tie.Need-returns-then-n-lt-MOST_LINES
 unfolding next_number
-returns c = omega (arith, c.if1.true)
+returns c = omega (arith, c.if-n-lt-MOST_LINES.true)
 
-returns_2 : tie.Need-returns-2
+returns_2 : tie.Need-returns
 unfolding next_number
-returns_2 c = omega (arith, c.if1.false, c.before)
+returns_2 c = omega (arith, c.if-n-lt-MOST_LINES.false, c.before)
 
-pub next-number-spec : {M : Type 1} → statement M
-next-number-spec = tie.close (tie.spec (λ c. search rules) returns returns_2)
+pub next_number_spec : {M : Type 1} → statement M
+next_number_spec = tie.close (tie.spec (λ c. search rules) returns returns_2)

@@ -6,7 +6,10 @@ use Rattle.recorder.proofs.new_recorder.Tie as tie
 
 returns : tie.Need-returns
 unfolding new_recorder
-returns c = cc (c.before.new_session.ensures, c.no_lines.ensures)
+returns c = cc (c.new_session-session.ensures, c.no_lines-kept.ensures)
 
-pub new-recorder-spec : {M : Type 1} → statement M
-new-recorder-spec = tie.close (tie.spec (λ c κs. search rules) (λ c κs. search rules) returns)
+pub new_recorder_spec : {M : Type 1} → statement M
+new_recorder_spec = tie.close (tie.spec
+    (λ c κs. search rules)
+    (λ c κs. search rules)
+    returns)

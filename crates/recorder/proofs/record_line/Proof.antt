@@ -7,30 +7,30 @@ use borrow.Author.Rules.{rules}
 use Rattle.recorder.proofs.record_line.Statement.{statement}
 use Rattle.recorder.proofs.record_line.Tie as tie
 
-returns : tie.Need-returns
+returns : tie.Need-returns-in-Due
 unfolding recorded_phase
 returns c =
     let at-header-line = c.before.before.before.before.before.before in
-    let at_phase = at-header-line.before.before.before.before.before in
-    let entry = at_phase.before.before.before.before.before.before in
-    stands_at (Due at_phase.phase.given.0.0) _ _ entry.args.s _ _ _ _ _ _ _ at_phase.phase.given.1 at-header-line.header_line.ensures
+    let at_phase = at-header-line.before.before.before.before in
+    let entry = at_phase.before.before.before.before in
+    stands_at (Due at_phase.in-Due.due) _ _ entry.args.s _ _ _ _ _ _ _ at_phase.in-Due.is at-header-line.header_line.ensures
 
-returns_2 : tie.Need-returns-2
+returns_2 : tie.Need-returns-in-Events
 unfolding recorded_phase
 returns_2 c =
     let at-event-line = c.before.before.before.before.before.before in
     let at-enum-told = at-event-line.before.before.before.before in
-    let entry = at-enum-told.before.before.before.before.before.before in
-    stands_at Events _ entry.args.k entry.args.s _ _ _ _ _ _ _ at-enum-told.enum_told.given.1 at-event-line.event-line.ensures
+    let entry = at-enum-told.before.before.before.before.before in
+    stands_at Events _ entry.args.k entry.args.s _ _ _ _ _ _ _ at-enum-told.in-Events.is at-event-line.event_line.ensures
 
-returns_3 : tie.Need-returns-3
+returns_3 : tie.Need-returns-in-Stopped
 unfolding recorded_phase
 returns_3 c =
-    let entry = c.before.before.before.before.before.before in
-    stands_at Stopped _ entry.args.k entry.args.s _ _ _ _ _ _ _ c.enum-told2.given.1 (does_nothing _ _ _ _)
+    let entry = c.before.before.before.before.before in
+    stands_at Stopped _ entry.args.k entry.args.s _ _ _ _ _ _ _ c.in-Stopped.is (does_nothing _ _ _ _)
 
-pub record-line-spec : {M : Type 1} → statement M
-record-line-spec =
+pub record_line_spec : {M : Type 1} → statement M
+record_line_spec =
     tie.close
     (tie.spec
     (λ c. search rules)

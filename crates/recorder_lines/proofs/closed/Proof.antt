@@ -13,7 +13,7 @@ returns c =
     let at-one-byte = c.before.before in
     let at-all-bytes = at-one-byte.before.before.before.before in
     let entry = at-all-bytes.before.before.before.before in
-    append_2 entry.args.line.now (newline ∷ []) _ _ _ at-all-bytes.all-bytes.ensures at-one-byte.one_byte.ensures
+    append_2 entry.args.line.now (newline ∷ []) _ _ _ at-all-bytes.all_bytes-n.ensures at-one-byte.one_byte.ensures
 
-pub closed-spec : {M : Type 1} → statement M
-closed-spec = tie.close (tie.spec (λ c κs. search rules) (λ c κs. search rules) (λ c. search rules) returns)
+pub closed_spec : {M : Type 1} → statement M
+closed_spec = tie.close (tie.spec (λ c κs. search rules) (λ c κs. search rules) (λ c. search rules) returns)

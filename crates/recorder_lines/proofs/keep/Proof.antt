@@ -9,7 +9,7 @@ returns : tie.Need-returns
 unfolding keep_line
 returns c =
     let at-closed = c.before in
-    ap kept_in at-closed.closed.ensures
+    ap kept_in at-closed.closed-m.ensures
 
 pub keep_spec : {M : Type 1} → statement M
 keep_spec = tie.close (tie.spec (λ c. search rules) (λ c κs. search rules) returns)

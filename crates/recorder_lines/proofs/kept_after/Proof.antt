@@ -4,22 +4,22 @@ use borrow.Author.Rules.{rules}
 use Rattle.recorder_lines.proofs.kept_after.Statement.{statement}
 use Rattle.recorder_lines.proofs.kept_after.Tie as tie
 
-returns : tie.Need-returns
+returns : tie.Need-returns-in-Due
 unfolding kept_after
 returns c =
     let at-keep = c in
     let at-enum-told = at-keep.before in
-    rw at-enum-told.enum_told.given.1 at-keep.keep.ensures
+    rw at-enum-told.in-Due.is at-keep.keep.ensures
 
-returns_2 : tie.Need-returns-2
+returns_2 : tie.Need-returns-in-Events
 unfolding kept_after
-returns_2 c = rw c.enum-told2.given.1
+returns_2 c = rw c.in-Events.is
 
-returns_3 : tie.Need-returns-3
+returns_3 : tie.Need-returns-in-Stopped
 unfolding kept_after
-returns_3 c = rw c.enum-told3.given.1
+returns_3 c = rw c.in-Stopped.is
 
-pub kept-after-spec : {M : Type 1} → statement M
-kept-after-spec =
+pub kept_after_spec : {M : Type 1} → statement M
+kept_after_spec =
     tie.close
     (tie.spec (λ c. search rules) (λ c κs. search rules) (λ c. search rules) (λ c. search rules) returns returns_2 returns_3)

@@ -11,10 +11,10 @@ use Rattle.recorder_lines.proofs.kept_length.Tie as tie
 len : (c : tie.Start) → length c.args.k.bytes ≡ longest_header
 len c = search rules
 
-returns_2 : tie.Need-returns-2
+returns_2 : tie.Need-returns
 returns_2 c =
     let entry = c.before in
-    (omega arith, all_kept entry.args.k.bytes longest_header entry.args.k.len (len entry) c.if1.false)
+    (omega arith, all_kept entry.args.k.bytes longest_header entry.args.k.len (len entry) c.if-n-lt164.false)
 
-pub kept-length-spec : {M : Type 1} → statement M
-kept-length-spec = tie.close (tie.spec (λ c. search rules) returns_2)
+pub kept_length_spec : {M : Type 1} → statement M
+kept_length_spec = tie.close (tie.spec (λ c. search rules) returns_2)

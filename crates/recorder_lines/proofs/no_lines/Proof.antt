@@ -8,5 +8,5 @@ returns : tie.Need-returns
 unfolding no_lines
 returns c = refl
 
-pub no-lines-spec : {M : Type 1} → statement M
-no-lines-spec = tie.close (tie.spec returns)
+pub no_lines_spec : {M : Type 1} → statement M
+no_lines_spec = tie.close (tie.spec returns)

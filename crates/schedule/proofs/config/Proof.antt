@@ -12,10 +12,10 @@ returns : tie.Need-returns
 returns c =
     let at-version = c.before in
     let at-config = at-version.before in
-    let a = at-config.before.args in
+    let a = at-config.args in
     let ruled : Config → Config = λ g. with_zero_withdrawn (not (eqb a.withdrawn 0)) g in
-    let versioned = at-version.with_version.ensures ∙ ap (λ (g : Config). with_version a.version g) at-config.config.ensures in
+    let versioned = at-version.with_version-h.ensures ∙ ap (λ (g : Config). with_version a.version g) at-config.config-g.ensures in
     c.with_zero_withdrawn.ensures ∙ ap ruled versioned
 
-pub config-spec : {M : Type 1} → statement M
-config-spec = tie.close (tie.spec (λ c κs. search rules) (λ c κs. search rules) (λ c κs. search rules) returns)
+pub config_spec : {M : Type 1} → statement M
+config_spec = tie.close (tie.spec (λ c κs. search rules) (λ c κs. search rules) (λ c κs. search rules) returns)

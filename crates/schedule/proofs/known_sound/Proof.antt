@@ -10,17 +10,17 @@ use borrow.Author.Rules.{rules}
 use Rattle.schedule.proofs.known_sound.Statement.{statement}
 use Rattle.schedule.proofs.known_sound.Tie as tie
 
-returns : tie.Need-returns
+returns : tie.Need-returns-then-k-ge8
 returns c =
-    let k = c.before.before.args.k in
-    λ y l e. rw c.idle.ensures (sym (told_sound refl ∙ rw (no_such_task y k l c.before.if1.true)))
+    let k = c.args.k in
+    λ y l e. rw c.idle-none.ensures (sym (told_sound refl ∙ rw (no_such_task y k l c.if-k-ge8.true)))
 
-returns_2 : tie.Need-returns-2
+returns_2 : tie.Need-returns
 returns_2 c =
-    let k = c.before.args.k in
+    let k = c.args.k in
     λ y l e.
     let low : k % 8 ≡ k = omega arith in
     sym (told_sound refl ∙ ap (λ (z : Task). record { sound = true; task = z }) (sym (e ∙ ap (task_of y) low)))
 
-pub known-sound-spec : {M : Type 1} → statement M
-known-sound-spec = tie.close (tie.spec (λ c κs. search rules) returns returns_2)
+pub known_sound_spec : {M : Type 1} → statement M
+known_sound_spec = tie.close (tie.spec (λ c κs. search rules) returns returns_2)

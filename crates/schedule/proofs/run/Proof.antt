@@ -4,54 +4,39 @@
 use Rattle.schedule.specs.Encoding.{room_for, decoded}
 use native.Mathlib.Omega.{arith}
 use Rattle.laws.specs.OpeningSound.{opening_sound}
-use Rattle.linear.specs.Theorems.{linearizable, contains_exact, never_8}
-use Rattle.pace.specs.Theorems.{steps_within}
+use Rattle.linear.proofs.Theorems.{linearizable, contains_exact, never_8}
+use Rattle.pace.proofs.Theorems.{steps_within}
 use mathlib.Core.Path.{sym, ◌∙◌}
 use Rattle.schedule.proofs.Laws.{not_run, all_run}
 use borrow.Author.Rules.{rules}
 use Rattle.schedule.proofs.run.Statement.{statement}
 use Rattle.schedule.proofs.run.Tie as tie
 
--- ---- the places before: where the opening has answered, from where the number of events is known; the start
-
-abbrev opened : tie.After-number-of-events → tie.After-open
-opened p = p.before.before.before.before.before.before.before
-
-abbrev start : tie.After-open → tie.Start
-start p = p.before.before.before.before.before.before.before.before
-
-returns : tie.Need-returns
+returns : tie.Need-returns-then-refusal-ne0
 returns c =
-    let at_open = c.before.before.before.before.before.before in
-    let a = (start at_open).args in
-    let o = at_open.«open».ensures in
-    let d = c.if1.true in (
+    let a = c.args in
+    let o = c.open-o.ensures in
+    let d = c.if-refusal-ne0.true in (
       not_run a.g a.ns.now a.bs.now a.events.now a.outs.now a.tags.now _ o.0 _ o.1 d,
       (λ z. absurd (d z), (λ z. absurd (d z), (λ z. absurd (d z), λ z. absurd (d z)))),
     )
 
-run-events-requires : tie.Need-run-events-requires
+run-events-requires : tie.Need-run_events-t-requires
 run-events-requires c κs =
-    let at_number = c.before.before.before in
-    let at_open = opened at_number in
-    let a = (start at_open).args in
-    let o = at_open.«open».ensures in
-    let accepted = sym o.0 ∙ at_number.before.if1.false in
+    let a = c.args in
+    let o = c.open-o.ensures in
+    let accepted = sym o.0 ∙ c.if-refusal-ne0.false in
     (omega arith, omega arith, rw o.1 (opening_sound a.g a.ns.now a.bs.now accepted))
 
-returns_2 : tie.Need-returns-2
+returns_2 : tie.Need-returns
 unfolding room_for
 returns_2 c =
-    let at-list = c.before.before in
-    let at_events = at-list.before.before.before.before.before.before.before.before.before.before in
-    let at_number = at_events.before.before.before.before in
-    let at_open = opened at_number in
-    let a = (start at_open).args in
-    let o = at_open.«open».ensures in
-    let z = at_number.before.if1.false in
-    let n = at_number.number_of_events.ensures in
-    let r = at_events.run-events.ensures in
-    let l = at-list.list.ensures in
+    let a = c.args in
+    let o = c.open-o.ensures in
+    let z = c.if-refusal-ne0.false in
+    let n = c.number_of_events-n.ensures in
+    let r = c.run_events-t.ensures in
+    let l = c.list-l.ensures in
     let ok = sym o.0 ∙ z in
     let es = decoded a.events.now a.outs.now in (
       all_run a.g a.ns.now a.bs.now a.events.now a.outs.now a.tags.now _ o.0 _ o.1 z _ n _ r.0 _ r.1 _ l.0 _ l.1,

@@ -18,110 +18,98 @@ use borrow.Author.Rules.{rules, set_long}
 use Rattle.schedule.proofs.run_events.Statement.{statement}
 use Rattle.schedule.proofs.run_events.Tie as tie
 
-abbrev invariant-loop : tie.invariant-loop
+abbrev invariant-loop : tie.invariant-loop-i
 invariant-loop n events ns₀ bs₀ outs₀ t₀ i₀ ns bs outs t i =
     (i ≤ n) × (length ns ≡ length ns₀) × (length bs ≡ length bs₀) × (length outs ≡ length outs₀)
     × (sound (machine_of t ns bs) ≡ true) × (length t.task ≡ 8)
     × Rest (machine_of t₀ ns₀ bs₀) outs₀ (events_of n events) (machine_of t ns bs) outs (4 * i) (events_of (n - i) (drop (4 * i) events))
 
-abbrev decreases-loop : tie.decreases-loop
+abbrev decreases-loop : tie.decreases-loop-i
 decreases-loop n events ns₀ bs₀ outs₀ t₀ i₀ ns bs outs t i = n - i
-
--- where the loop's test has been passed, from where the event has been run
-abbrev in-loop : tie.After-run-event invariant-loop decreases-loop → tie.In-loop invariant-loop decreases-loop
-in-loop p = p.before.before.before.before.before.before.before.before
 
 -- the state that is given has eight records
 len : (c : tie.Start invariant-loop decreases-loop) → length c.args.s.task ≡ 8
 len c = search (rules, length_mapped)
 
-loop_holds : tie.Need-loop-init invariant-loop decreases-loop
+loop_holds : tie.Need-loop-i-init invariant-loop decreases-loop
 loop_holds c =
     let start = c.before.before.before.before in
     let a = start.args in
     (omega arith, refl, refl, refl, start.requires.2, len start, rest_start a.events.now a.n 0 _ _)
 
-mul-c : tie.Need-overflow-mul-c invariant-loop decreases-loop
+mul-c : tie.Need-offset_bounds-t-k invariant-loop decreases-loop
 mul-c c = omega arith
 
-element-copy-out-c : tie.Need-element-copy-out-c invariant-loop decreases-loop
+element-copy-out-c : tie.Need-bounds-t-k invariant-loop decreases-loop
 element-copy-out-c c = omega arith
 
-run-event-requires : tie.Need-run-event-requires invariant-loop decreases-loop
+run-event-requires : tie.Need-run_event-m-requires invariant-loop decreases-loop
 unfolding task_of idle
 run-event-requires c κs =
     let at-known = c.before.before.before.before in
     let at-loop = at-known.before.before.before.before in
-    let l = at-loop.loop in
+    let l = at-loop.loop-i in
     let y = machine_of l.t l.ns l.bs in
-    rw l.invariant.4 (at-known.known-sound.ensures y l.invariant.5 refl)
+    rw l.invariant.4 (at-known.known_sound-d.ensures y l.invariant.5 refl)
 
-cast-j : tie.Need-overflow-cast-j invariant-loop decreases-loop
-cast-j c = let h = changes_below _ _ (sym c.before.before.changes.ensures ∙ c.before.if1.true) in omega arith
+cast-j : tie.Need-overflow_cast-j invariant-loop decreases-loop
+cast-j c = let h = changes_below _ _ (sym c.changes.ensures ∙ c.if-changes.true) in omega arith
 
-mul-x : tie.Need-overflow-mul-x invariant-loop decreases-loop
-mul-x c = let h = changes_below _ _ (sym c.before.before.changes.ensures ∙ c.before.if1.true) in omega arith
+mul-x : tie.Need-offset_bounds-t-j invariant-loop decreases-loop
+mul-x c = let h = changes_below _ _ (sym c.changes.ensures ∙ c.if-changes.true) in omega arith
 
-element-set-from-x : tie.Need-element-set-from-x invariant-loop decreases-loop
-element-set-from-x c = changes_below _ _ (sym c.before.before.changes.ensures ∙ c.before.if1.true)
+element-set-from-x : tie.Need-bounds-t-j invariant-loop decreases-loop
+element-set-from-x c = changes_below _ _ (sym c.changes.ensures ∙ c.if-changes.true)
 
-loop_again : tie.Need-loop-preserved invariant-loop decreases-loop
+loop_again : tie.Need-loop-i-preserved-then-changes invariant-loop decreases-loop
 unfolding state_head state_last_node state_last_bucket state_task
 loop_again c =
-    let at-write = c.before.before.before.before.before in
-    let at_event = at-write.before.before.before.before.before.before in
-    let at_test = in-loop at_event in
-    let at-loop = at_test.before in
-    let start = at-loop.before.before.before.before.before in
-    let room = start.pre.1 in
-    let l = at-loop.loop in
-    let h = at_test.loop-test.taken in
-    let m = at_event.run_event in
-    let o = at-write.write-output in
-    let k = get_or start.args.events.now (4 * l.i + 1) 0 in
-    let q = sym c.before.before.changes.ensures ∙ c.before.if1.true in
+    let a = c.args in
+    let room = c.requires.1 in
+    let l = c.loop-i in
+    let h = c.loop-i-test.true in
+    let m = c.run_event-m in
+    let o = c.write_output in
+    let k = get_or a.events.now (4 * l.i + 1) 0 in
+    let q = sym c.changes.ensures ∙ c.if-changes.true in
     let reply = moved_on l.t k m.result _ _ m.ensures q in (
       omega arith,
-      m.auto.1.1.1.1.1.0 ∙ l.inv.1,
-      m.auto.1.1.1.1.1.1.0 ∙ l.inv.2,
-      o.auto.0 ∙ l.inv.3,
-      stays_sound _ (event_at start.args.events.now l.i) l.inv.4 _ reply,
-      set_long Task l.t.task k 8 m.result.task l.inv.5,
-      turn start.args.events.now start.args.n l.i h (omega arith) l.inv.6 _ reply _ o.ensures,
+      m.auto.ns ∙ l.invariant.1,
+      m.auto.bs ∙ l.invariant.2,
+      o.auto.outs ∙ l.invariant.3,
+      stays_sound _ (event_at a.events.now l.i) l.invariant.4 _ reply,
+      set_long Task l.t.task k 8 m.result.task l.invariant.5,
+      turn a.events.now a.n l.i h (omega arith) l.invariant.6 _ reply _ o.ensures,
     )
 
-loop_again_2 : tie.Need-loop-preserved-2 invariant-loop decreases-loop
+loop_again_2 : tie.Need-loop-i-preserved invariant-loop decreases-loop
 loop_again_2 c =
-    let at-write = c.before.before.before.before in
-    let at_event = at-write.before.before.before.before.before.before in
-    let at_test = in-loop at_event in
-    let at-loop = at_test.before in
-    let start = at-loop.before.before.before.before.before in
-    let room = start.pre.1 in
-    let l = at-loop.loop in
-    let h = at_test.loop-test.taken in
-    let m = at_event.run_event in
-    let o = at-write.write-output in
-    let k = get_or start.args.events.now (4 * l.i + 1) 0 in
-    let q = sym c.before.changes.ensures ∙ c.if1.false in
+    let a = c.args in
+    let room = c.requires.1 in
+    let l = c.loop-i in
+    let h = c.loop-i-test.true in
+    let m = c.run_event-m in
+    let o = c.write_output in
+    let k = get_or a.events.now (4 * l.i + 1) 0 in
+    let q = sym c.changes.ensures ∙ c.if-changes.false in
     let reply = moved_off l.t k m.result _ _ m.ensures q in (
       omega arith,
-      m.auto.1.1.1.1.1.0 ∙ l.inv.1,
-      m.auto.1.1.1.1.1.1.0 ∙ l.inv.2,
-      o.auto.0 ∙ l.inv.3,
-      stays_sound _ (event_at start.args.events.now l.i) l.inv.4 _ reply,
-      l.inv.5,
-      turn start.args.events.now start.args.n l.i h (omega arith) l.inv.6 _ reply _ o.ensures,
+      m.auto.ns ∙ l.invariant.1,
+      m.auto.bs ∙ l.invariant.2,
+      o.auto.outs ∙ l.invariant.3,
+      stays_sound _ (event_at a.events.now l.i) l.invariant.4 _ reply,
+      l.invariant.5,
+      turn a.events.now a.n l.i h (omega arith) l.invariant.6 _ reply _ o.ensures,
     )
 
 returns : tie.Need-returns invariant-loop decreases-loop
 returns c =
-    let l = c.before.loop in
-    let a = c.before.before.before.before.before.before.args in
+    let l = c.loop-i in
+    let a = c.args in
     finished a.events.now a.n l.i (omega arith) l.invariant.6
 
-pub run-events-spec : {M : Type 1} → statement M
-run-events-spec =
+pub run_events_spec : {M : Type 1} → statement M
+run_events_spec =
     tie.close
     (tie.spec
     invariant-loop

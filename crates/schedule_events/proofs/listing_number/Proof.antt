@@ -8,12 +8,12 @@ use borrow.Author.Rules.{rules}
 use Rattle.schedule_events.proofs.listing_number.Statement.{statement}
 use Rattle.schedule_events.proofs.listing_number.Tie as tie
 
-add-result : tie.Need-overflow-add-result
+add-result : tie.Need-overflow_add-result
 add-result c =
-    let z : listing_number (Refused c.before.l2.given.0.0) ≤ 267 = rw c.before.l2.given.1 at c.before.before.before.requires in omega arith
+    let z : listing_number (Refused c.in-Refused.why) ≤ 267 = rw c.in-Refused.is at c.requires in omega arith
 
-returns_2 : tie.Need-returns-2
-returns_2 c = rw c.before.l2.given.1
+returns_2 : tie.Need-returns-in-Refused
+returns_2 c = rw c.in-Refused.is
 
-pub listing-number-spec : {M : Type 1} → statement M
-listing-number-spec = tie.close (tie.spec (λ c. search rules) (λ c. search rules) add-result (λ c. search rules) returns_2)
+pub listing_number_spec : {M : Type 1} → statement M
+listing_number_spec = tie.close (tie.spec (λ c. search rules) (λ c. search rules) add-result (λ c. search rules) returns_2)

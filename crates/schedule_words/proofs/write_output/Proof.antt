@@ -11,8 +11,8 @@ returns : tie.Need-returns
 returns c =
     let at-write = c.before.before in
     let at_words = at-write.before.before in
-    let a = at_words.before.before.args in
-    at-write.write-words.ensures ∙ ap (λ (w : List ℕ). overwrite a.outs.now (4 * a.i) w) at_words.output_words.ensures
+    let a = at_words.args in
+    at-write.write_words.ensures ∙ ap (λ (w : List ℕ). overwrite a.outs.now (4 * a.i) w) at_words.output_words-w.ensures
 
-pub write-output-spec : {M : Type 1} → statement M
-write-output-spec = tie.close (tie.spec (λ c κs. search rules) (λ c κs. search rules) (λ c. search rules) returns)
+pub write_output_spec : {M : Type 1} → statement M
+write_output_spec = tie.close (tie.spec (λ c κs. search rules) (λ c κs. search rules) (λ c. search rules) returns)

@@ -13,7 +13,7 @@ use borrow.Author.Rules.{rules}
 use Rattle.schedule_words.proofs.write_words.Statement.{statement}
 use Rattle.schedule_words.proofs.write_words.Tie as tie
 
-four : (c : tie.Start) → length c.args.t3 ≡ 4
+four : (c : tie.Start) → length c.args.w ≡ 4
 four c = search rules
 
 returns : tie.Need-returns
@@ -24,14 +24,14 @@ returns c =
     let a = start.args in
     let p = a.outs.now in
     let i = 4 * a.i in
-    let v = a.t3 in
+    let v = a.w in
     let n = four start in
     let l : length v ≤ length (drop i p) = rw (length-drop i p) (omega (arith, start.requires)) in
     let f : write_front (drop i p) v ≡ overwrite (drop i p) 0 v = rw (le-leb (length v) (length (drop i p)) l) in
-    back p i v at-write.write-over.new.0 (at-write.write-over.ensures ∙ ap (λ (u : List ℕ). write_front u v) (rest p i) ∙ f)
+    back p i v at-write.write_over.new.part (at-write.write_over.ensures ∙ ap (λ (u : List ℕ). write_front u v) (rest p i) ∙ f)
 
-pub write-words-spec : {M : Type 1} → statement M
-write-words-spec =
+pub write_words_spec : {M : Type 1} → statement M
+write_words_spec =
     tie.close
     (tie.spec
     (λ c. search rules)

@@ -6,7 +6,7 @@ use Rattle.session_bytes.proofs.key_line.Tie as tie
 
 returns : tie.Need-returns
 unfolding key_line
-returns c = c.before.before.keyed.ensures
+returns c = c.keyed.ensures
 
-pub key-line-spec : {M : Type 1} → statement M
-key-line-spec = tie.close (tie.spec (λ c κs. search rules) (λ c. search rules) returns)
+pub key_line_spec : {M : Type 1} → statement M
+key_line_spec = tie.close (tie.spec (λ c κs. search rules) (λ c. search rules) returns)

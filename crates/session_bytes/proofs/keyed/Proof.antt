@@ -14,9 +14,9 @@ returns c =
     let at-all-bytes = at_number.before.before.before.before in
     let entry = at-all-bytes.before.before.before.before in
     let a = entry.args in
-    append_3 a.key.now (decimal a.n) (a.last ∷ []) _ _ _ _ at-all-bytes.all-bytes.ensures at_number.number.ensures
-    c.before.before.one_byte.ensures
+    append_3 a.key.now (decimal a.n) (a.last ∷ []) _ _ _ _ at-all-bytes.all_bytes-a.ensures at_number.number-e.ensures
+    c.one_byte.ensures
 
-pub keyed-spec : {M : Type 1} → statement M
-keyed-spec =
+pub keyed_spec : {M : Type 1} → statement M
+keyed_spec =
     tie.close (tie.spec (λ c κs. search rules) (λ c κs. search rules) (λ c κs. search rules) (λ c. search rules) returns)

@@ -6,7 +6,7 @@ use Rattle.session_bytes.proofs.number.Tie as tie
 
 returns : tie.Need-returns
 unfolding decimal
-returns c = c.before.before.digits.ensures
+returns c = c.digits.ensures
 
-pub number-spec : {M : Type 1} → statement M
-number-spec = tie.close (tie.spec (λ c κs. search rules) (λ c. search rules) returns)
+pub number_spec : {M : Type 1} → statement M
+number_spec = tie.close (tie.spec (λ c κs. search rules) (λ c. search rules) returns)

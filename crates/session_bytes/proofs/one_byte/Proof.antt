@@ -5,11 +5,11 @@ use borrow.Author.Rules.{rules}
 use Rattle.session_bytes.proofs.one_byte.Statement.{statement}
 use Rattle.session_bytes.proofs.one_byte.Tie as tie
 
-returns : tie.Need-returns
-returns c = sym (append_in c.before.args.buf.now c.before.args.at c.before.args.b c.if1.true)
+returns : tie.Need-returns-then-at-buf
+returns c = sym (append_in c.args.buf.now c.args.at c.args.b c.if-at-buf.true)
 
-returns_2 : tie.Need-returns-2
-returns_2 c = sym (append_out c.before.args.buf.now c.before.args.at c.before.args.b c.if1.false)
+returns_2 : tie.Need-returns
+returns_2 c = sym (append_out c.args.buf.now c.args.at c.args.b c.if-at-buf.false)
 
-pub one-byte-spec : {M : Type 1} → statement M
-one-byte-spec = tie.close (tie.spec (λ c. search rules) (λ c. search rules) (λ c. search rules) returns returns_2)
+pub one_byte_spec : {M : Type 1} → statement M
+one_byte_spec = tie.close (tie.spec (λ c. search rules) (λ c. search rules) (λ c. search rules) returns returns_2)

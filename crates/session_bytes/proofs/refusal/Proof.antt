@@ -6,8 +6,8 @@ use Rattle.session_bytes.proofs.refusal.Tie as tie
 
 returns : tie.Need-returns
 unfolding refusal_line
-returns c = c.before.before.key_line.ensures
+returns c = c.key_line.ensures
 
-pub refusal-spec : {M : Type 1} → statement M
-refusal-spec =
-    tie.close (tie.spec (λ c. search rules) (λ c κs. search rules) (λ c. search rules) returns)
+pub refusal_spec : {M : Type 1} → statement M
+refusal_spec =
+    tie.close (tie.spec (λ c κs. search rules) (λ c. search rules) returns)

@@ -5,20 +5,20 @@ use borrow.Author.Rules.{rules}
 use Rattle.session_dump.proofs.dump.Statement.{statement}
 use Rattle.session_dump.proofs.dump.Tie as tie
 
-slice-aggregate-dump : tie.Need-slice-aggregate-dump
+slice-aggregate-dump : tie.Need-slice_bounds-dump-end
 slice-aggregate-dump c =
-    let at-node-extent = c.before.before in
+    let at-node-extent = c.before in
     let entry = at-node-extent.before.before.before.before.before.before in
-    sym (length-take-le at-node-extent.node_extent.result entry.args.ns.now at-node-extent.node_extent.ensures.1)
+    sym (length-take-le at-node-extent.node_extent-a.result entry.args.ns.now at-node-extent.node_extent-a.ensures.1)
 
-slice-aggregate-dump-2 : tie.Need-slice-aggregate-dump-2
+slice-aggregate-dump-2 : tie.Need-slice_bounds-dump-end-2
 slice-aggregate-dump-2 c =
-    let at-bucket-extent = c.before.before in
+    let at-bucket-extent = c in
     let entry = at-bucket-extent.before.before.before.before.before.before.before in
-    sym (length-take-le at-bucket-extent.bucket_extent.result entry.args.bs.now at-bucket-extent.bucket_extent.ensures.1)
+    sym (length-take-le at-bucket-extent.bucket_extent-b.result entry.args.bs.now at-bucket-extent.bucket_extent-b.ensures.1)
 
-pub dump-spec : {M : Type 1} → statement M
-dump-spec =
+pub dump_spec : {M : Type 1} → statement M
+dump_spec =
     tie.close
     (tie.spec
     (λ c κs. search rules)

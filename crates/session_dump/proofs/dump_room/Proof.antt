@@ -8,5 +8,6 @@ use Rattle.session_dump.proofs.dump_room.Tie as tie
 returns : tie.Need-returns
 returns c = sym (length-replicate {A = ℕ} 524288 0)
 
-pub dump-room-spec : {M : Type 1} → statement M
-dump-room-spec = tie.close (tie.spec returns)
+pub dump_room_spec : {M : Type 1} → statement M
+dump_room_spec = tie.close (tie.spec
+    returns)

@@ -6,40 +6,28 @@ use borrow.Author.Rules.{rules}
 use Rattle.session_dump.proofs.ended.Statement.{statement}
 use Rattle.session_dump.proofs.ended.Tie as tie
 
-add-t24 : tie.Need-overflow-add-t24
-add-t24 c =
-    let at-handle-line = c.before.before.before.before.before.before.before in
-    let at-slice-known3 = at-handle-line.before.before.before.before.before.before.before.before in
-    let entry = at-slice-known3.before.before.before in
-    let a = entry.args in
-    omega (arith, append_within _ _ _ _ at-handle-line.handle-line.ensures.wrote, rest_length a.out.now a.due, at-slice-known3, entry.requires)
+add-t23 : tie.Need-overflow_add-result
+add-t23 c =
+    let a = c.args in
+    omega (arith, append_within _ _ _ _ c.handle_line-t.ensures.wrote, rest_length a.out.now a.due, c.requires)
 
-returns : tie.Need-returns
+returns : tie.Need-returns-then-cut_off
 returns c =
-    let at-handle-line = c.before.before.before.before.before.before.before in
-    let at-slice-known3 = at-handle-line.before.before.before.before.before.before.before.before in
-    let entry = at-slice-known3.before.before.before in
-    let a = entry.args in
-    omega (arith, append_within _ _ _ _ at-handle-line.handle-line.ensures.wrote, rest_length a.out.now a.due, at-slice-known3, entry.requires)
+    let a = c.args in
+    omega (arith, append_within _ _ _ _ c.handle_line-t.ensures.wrote, rest_length a.out.now a.due, c.requires)
 
-add-t34 : tie.Need-overflow-add-t34
+add-t34 : tie.Need-overflow_add-result-2
 add-t34 c =
-    let at-handle-line2 = c.before.before.before.before.before.before.before in
-    let at-slice-known3 = at-handle-line2.before.before.before.before.before.before.before in
-    let entry = at-slice-known3.before.before.before in
-    let a = entry.args in
-    omega (arith, append_within _ _ _ _ at-handle-line2.handle-line2.ensures.wrote, rest_length a.out.now a.due, at-slice-known3, entry.requires)
+    let a = c.args in
+    omega (arith, append_within _ _ _ _ c.handle_line-e.ensures.wrote, rest_length a.out.now a.due, c.requires)
 
-returns_2 : tie.Need-returns-2
+returns_2 : tie.Need-returns
 returns_2 c =
-    let at-handle-line2 = c.before.before.before.before.before.before.before in
-    let at-slice-known3 = at-handle-line2.before.before.before.before.before.before.before in
-    let entry = at-slice-known3.before.before.before in
-    let a = entry.args in
-    omega (arith, append_within _ _ _ _ at-handle-line2.handle-line2.ensures.wrote, rest_length a.out.now a.due, at-slice-known3, entry.requires)
+    let a = c.args in
+    omega (arith, append_within _ _ _ _ c.handle_line-e.ensures.wrote, rest_length a.out.now a.due, c.requires)
 
-pub ended-spec : {M : Type 1} → statement M
-ended-spec =
+pub ended_spec : {M : Type 1} → statement M
+ended_spec =
     tie.close
     (tie.spec
     (λ c κs. search rules)
@@ -49,12 +37,11 @@ ended-spec =
     (λ c. search rules)
     (λ c. search rules)
     (λ c κs. search rules)
-    add-t24
+    add-t23
     (λ c. search rules)
     (λ c. search rules)
     (λ c. search rules)
     returns
-    (λ c. search rules)
     (λ c. search rules)
     (λ c. search rules)
     (λ c. search rules)

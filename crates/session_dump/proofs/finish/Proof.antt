@@ -6,11 +6,10 @@ use borrow.Author.Rules.{rules}
 use Rattle.session_dump.proofs.finish.Statement.{statement}
 use Rattle.session_dump.proofs.finish.Tie as tie
 
-slice-aggregate-answer-2 : tie.Need-slice-aggregate-answer-2
+slice-aggregate-answer-2 : tie.Need-slice_bounds-answer-end-3
 slice-aggregate-answer-2 c =
-    let at-dump = c.before.before.before.before in
-    let d = at-dump.dump in
-    sym (length-take-le d.result d.new.1.1.1.0 (omega (arith, d.ensures, d.auto.1.1.1.0)))
+    let d = c.dump-n in
+    sym (length-take-le d.result d.new.out (omega (arith, d.ensures, d.auto.out)))
 
 pub finish_spec : {M : Type 1} → statement M
 finish_spec =
@@ -24,7 +23,6 @@ finish_spec =
     (λ c. search rules)
     (λ c. search rules)
     (λ c κs. search rules)
-    (λ c. search rules)
     (λ c. search rules)
     slice-aggregate-answer-2
     (λ c κs. search rules)

@@ -4,43 +4,38 @@ use borrow.Author.Rules.{rules}
 use Rattle.session_header_numbers.proofs.line_number.Statement.{statement}
 use Rattle.session_header_numbers.proofs.line_number.Tie as tie
 
-returns : tie.Need-returns
+returns : tie.Need-returns-in-Tasks
 unfolding line_number
-returns c = rw c.before.before.enum_told.given.1 c.header-number.ensures
+returns c = rw c.in-Tasks.is c.header_number.ensures
 
-returns_2 : tie.Need-returns-2
+returns_2 : tie.Need-returns-in-Nodes
 unfolding line_number
-returns_2 c = rw c.before.before.enum-told2.given.1 c.header-number2.ensures
+returns_2 c = rw c.in-Nodes.is c.header_number-in-Nodes.ensures
 
-returns_3 : tie.Need-returns-3
+returns_3 : tie.Need-returns-in-Buckets
 unfolding line_number
-returns_3 c = rw c.before.before.enum-told3.given.1 c.header-number3.ensures
+returns_3 c = rw c.in-Buckets.is c.header_number-in-Buckets.ensures
 
-returns_4 : tie.Need-returns-4
+returns_4 : tie.Need-returns-in-Version
 unfolding line_number
-returns_4 c = rw c.before.before.enum-told4.given.1 c.header-number4.ensures
+returns_4 c = rw c.in-Version.is c.header_number-in-Version.ensures
 
-returns-5 : tie.Need-returns-5
+returns-5 : tie.Need-returns-in-Blank
 unfolding line_number
-returns-5 c = rw c.before.before.enum-told5.given.1 c.fixed-line.ensures
+returns-5 c = rw c.in-Blank.is c.fixed_line.ensures
 
-pub line-number-spec : {M : Type 1} → statement M
-line-number-spec =
+pub line_number_spec : {M : Type 1} → statement M
+line_number_spec =
     tie.close
     (tie.spec
     (λ c. search rules)
+    (λ c κs. search rules)
     (λ c. search rules)
     (λ c κs. search rules)
     (λ c. search rules)
-    (λ c. search rules)
     (λ c κs. search rules)
     (λ c. search rules)
-    (λ c. search rules)
     (λ c κs. search rules)
-    (λ c. search rules)
-    (λ c. search rules)
-    (λ c κs. search rules)
-    (λ c. search rules)
     (λ c. search rules)
     (λ c κs. search rules)
     returns

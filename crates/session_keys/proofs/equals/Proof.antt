@@ -5,13 +5,13 @@ use borrow.Author.Rules.{rules}
 use Rattle.session_keys.proofs.equals.Statement.{statement}
 use Rattle.session_keys.proofs.equals.Tie as tie
 
-returns : tie.Need-returns
+returns : tie.Need-returns-then-s-word
 unfolding equals
-returns c = rw (ne_eqb _ _ c.if1.true)
+returns c = rw (ne_eqb _ _ c.if-s-word.true)
 
-returns_2 : tie.Need-returns-2
+returns_2 : tie.Need-returns
 unfolding equals
-returns_2 c = rw (eq-eqb _ _ c.before.if1.false) c.starts_with.ensures
+returns_2 c = rw (eq-eqb _ _ c.if-s-word.false) c.starts_with.ensures
 
-pub equals-spec : {M : Type 1} → statement M
-equals-spec = tie.close (tie.spec returns (λ c κs. search rules) returns_2)
+pub equals_spec : {M : Type 1} → statement M
+equals_spec = tie.close (tie.spec returns (λ c κs. search rules) returns_2)

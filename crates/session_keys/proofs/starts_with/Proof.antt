@@ -10,47 +10,47 @@ use borrow.Author.Rules.{rules}
 use Rattle.session_keys.proofs.starts_with.Statement.{statement}
 use Rattle.session_keys.proofs.starts_with.Tie as tie
 
-abbrev invariant-loop : tie.invariant-loop
+abbrev invariant-loop : tie.invariant-loop-i
 invariant-loop s key i₀ i = starts_with (drop i key) (drop i s) ≡ starts_with key s
 
-abbrev decreases-loop : tie.decreases-loop
+abbrev decreases-loop : tie.decreases-loop-i
 decreases-loop s key i₀ i = length key - i
 
-loop_holds : tie.Need-loop-init invariant-loop decreases-loop
+loop_holds : tie.Need-loop-i-init invariant-loop decreases-loop
 loop_holds c = refl
 
-returns : tie.Need-returns invariant-loop decreases-loop
+returns : tie.Need-returns-then-s-i invariant-loop decreases-loop
 returns c =
     let w = c.before in
-    let l = w.before.loop in
-    let a = w.before.before.args in
-    sym (sym l.invariant ∙ starts_short a.key.now a.s.now l.i w.loop-test.true c.if1.true)
+    let l = w.loop-i in
+    let a = w.args in
+    sym (sym l.invariant ∙ starts_short a.key.now a.s.now l.i w.loop-i-test.true c.if-s-i.true)
 
-returns_2 : tie.Need-returns-2 invariant-loop decreases-loop
+returns_2 : tie.Need-returns-then-s-i-2 invariant-loop decreases-loop
 returns_2 c =
     let w = c.before.before.before.before in
-    let l = w.before.loop in
-    let a = w.before.before.args in
-    sym (sym l.invariant ∙ starts_other a.key.now a.s.now l.i w.loop-test.true c.before.before.before.if1.false c.if2.true)
+    let l = w.loop-i in
+    let a = w.args in
+    sym (sym l.invariant ∙ starts_other a.key.now a.s.now l.i w.loop-i-test.true c.if-s-i.false c.if-s-i-2.true)
 
-loop_less : tie.Need-loop-smaller invariant-loop decreases-loop
+loop_less : tie.Need-loop-i-smaller invariant-loop decreases-loop
 loop_less c = omega arith
 
-loop_again : tie.Need-loop-preserved invariant-loop decreases-loop
+loop_again : tie.Need-loop-i-preserved invariant-loop decreases-loop
 loop_again c =
     let w = c.before.before.before.before in
-    let l = w.before.loop in
-    let a = w.before.before.args in
-    sym (starts_on a.key.now a.s.now l.i w.loop-test.true c.before.before.before.if1.false c.if2.false) ∙ l.invariant
+    let l = w.loop-i in
+    let a = w.args in
+    sym (starts_on a.key.now a.s.now l.i w.loop-i-test.true c.if-s-i.false c.if-s-i-2.false) ∙ l.invariant
 
-returns_3 : tie.Need-returns-3 invariant-loop decreases-loop
+returns_3 : tie.Need-returns invariant-loop decreases-loop
 returns_3 c =
-    let l = c.before.loop in
-    let a = c.before.before.args in
-    sym (sym l.invariant ∙ starts_end a.key.now a.s.now l.i c.loop-test.false)
+    let l = c.loop-i in
+    let a = c.args in
+    sym (sym l.invariant ∙ starts_end a.key.now a.s.now l.i c.loop-i-test.false)
 
-pub starts-with-spec : {M : Type 1} → statement M
-starts-with-spec =
+pub starts_with_spec : {M : Type 1} → statement M
+starts_with_spec =
     tie.close
     (tie.spec
     invariant-loop

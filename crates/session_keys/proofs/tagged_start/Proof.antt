@@ -4,13 +4,13 @@ use borrow.Author.Rules.{rules}
 use Rattle.session_keys.proofs.tagged_start.Statement.{statement}
 use Rattle.session_keys.proofs.tagged_start.Tie as tie
 
-returns : tie.Need-returns
+returns : tie.Need-returns-in-Value
 unfolding tagged_start
-returns c = rw c.before.tag.given.1
+returns c = rw c.in-Value.is
 
-returns_2 : tie.Need-returns-2
+returns_2 : tie.Need-returns-in-NotDecimal
 unfolding tagged_start
-returns_2 c = rw c.enum_told.given.1
+returns_2 c = rw c.in-NotDecimal.is
 
-pub tagged-start-spec : {M : Type 1} → statement M
-tagged-start-spec = tie.close (tie.spec (λ c. search rules) (λ c. search rules) returns returns_2)
+pub tagged_start_spec : {M : Type 1} → statement M
+tagged_start_spec = tie.close (tie.spec (λ c. search rules) (λ c. search rules) returns returns_2)

@@ -8,13 +8,13 @@ returns : tie.Need-returns
 returns c =
     let at-bucket-extent = c.before.before in
     let at-node-extent = at-bucket-extent.before in
-    let call = at-node-extent.before.before.before.args in
-    let a = at-node-extent.node_extent.ensures in
-    let b = at-bucket-extent.bucket_extent.ensures in
+    let call = at-node-extent.args in
+    let a = at-node-extent.node_extent-a.ensures in
+    let b = at-bucket-extent.bucket_extent-b.ensures in
     judged call.h call.ns.now call.bs.now _ _ a.0 b.0 a.1 b.1 c.refusal.ensures
 
-pub judge-opening-spec : {M : Type 1} → statement M
-judge-opening-spec =
+pub judge_opening_spec : {M : Type 1} → statement M
+judge_opening_spec =
     tie.close
     (tie.spec
     (λ c κs. search rules)

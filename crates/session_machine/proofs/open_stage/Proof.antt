@@ -4,18 +4,18 @@ use borrow.Author.Rules.{rules}
 use Rattle.session_machine.proofs.open_stage.Statement.{statement}
 use Rattle.session_machine.proofs.open_stage.Tie as tie
 
-returns : tie.Need-returns
+returns : tie.Need-returns-then-refusal-eq0
 returns c =
-    let o = c.before.before.before.before.before.before.«open» in
-    accepted _ _ o.result _ _ _ o.ensures c.if1.true
+    let o = c.before.before.before.before.before.before.open-o in
+    accepted _ _ o.result _ _ _ o.ensures c.if-refusal-eq0.true
 
-returns_2 : tie.Need-returns-2
+returns_2 : tie.Need-returns
 returns_2 c =
-    let o = c.before.before.before.before.before.before.«open» in
-    refused _ _ o.result _ _ _ o.ensures c.if1.false
+    let o = c.before.before.before.before.before.before.open-o in
+    refused _ _ o.result _ _ _ o.ensures c.if-refusal-eq0.false
 
-pub open-stage-spec : {M : Type 1} → statement M
-open-stage-spec =
+pub open_stage_spec : {M : Type 1} → statement M
+open_stage_spec =
     tie.close
     (tie.spec
     (λ c κs. search rules)

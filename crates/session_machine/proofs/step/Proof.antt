@@ -9,17 +9,17 @@ use borrow.Author.Rules.{rules}
 use Rattle.session_machine.proofs.step.Statement.{statement}
 use Rattle.session_machine.proofs.step.Tie as tie
 
-slice-aggregate-step : tie.Need-slice-aggregate-step
+slice-aggregate-step : tie.Need-slice_bounds-step-end-2
 slice-aggregate-step c =
     let at-node-extent = c.before.before in
     let entry = at-node-extent.before.before.before in
-    sym (length-take-le at-node-extent.node_extent.result entry.args.ns.now at-node-extent.node_extent.ensures.1)
+    sym (length-take-le at-node-extent.node_extent-a.result entry.args.ns.now at-node-extent.node_extent-a.ensures.1)
 
-slice-aggregate-step-2 : tie.Need-slice-aggregate-step-2
+slice-aggregate-step-2 : tie.Need-slice_bounds-step-end-4
 slice-aggregate-step-2 c =
     let at-bucket-extent = c.before.before in
     let entry = at-bucket-extent.before.before.before.before in
-    sym (length-take-le at-bucket-extent.bucket_extent.result entry.args.bs.now at-bucket-extent.bucket_extent.ensures.1)
+    sym (length-take-le at-bucket-extent.bucket_extent-b.result entry.args.bs.now at-bucket-extent.bucket_extent-b.ensures.1)
 
 step-requires : tie.Need-step-requires
 step-requires c κs =
@@ -27,8 +27,8 @@ step-requires c κs =
     let at-node-extent = at-bucket-extent.before in
     let entry = at-node-extent.before.before.before in
     let call = entry.args in
-    let a = at-node-extent.node_extent in
-    let b = at-bucket-extent.bucket_extent in
+    let a = at-node-extent.node_extent-a in
+    let b = at-bucket-extent.bucket_extent-b in
     entry.requires
     ∙ ap sound (sym (same_part call.h call.ns.now call.bs.now a.result b.result a.ensures.0 b.ensures.0 call.m))
 
@@ -37,9 +37,9 @@ returns c =
     let at-step = c.before.before.before.before in
     let at-bucket-extent = at-step.before.before.before in
     let at-node-extent = at-bucket-extent.before in
-    let call = at-node-extent.before.before.before.args in
-    let a = at-node-extent.node_extent in
-    let b = at-bucket-extent.bucket_extent in
+    let call = at-node-extent.args in
+    let a = at-node-extent.node_extent-a in
+    let b = at-bucket-extent.bucket_extent-b in
     let same = same_part call.h call.ns.now call.bs.now a.result b.result a.ensures.0 b.ensures.0 call.m in
     put_back call.h call.ns.now call.bs.now a.result b.result a.ensures.0 b.ensures.0 _ _ _ _
     (at-step.step.ensures ∙ ap (λ (y : Machine). step y call.k) same)

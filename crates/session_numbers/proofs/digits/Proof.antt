@@ -10,69 +10,69 @@ use borrow.Author.Rules.{rules}
 use Rattle.session_numbers.proofs.digits.Statement.{statement}
 use Rattle.session_numbers.proofs.digits.Tie as tie
 
-abbrev invariant-loop : tie.invariant-loop
+abbrev invariant-loop : tie.invariant-loop-i
 invariant-loop s n₀ i₀ n i = (n ≤ 4294967295) × (parse_digits n (drop i s) ≡ parse_digits 0 s)
 
-abbrev decreases-loop : tie.decreases-loop
+abbrev decreases-loop : tie.decreases-loop-i
 decreases-loop s n₀ i₀ n i = length s - i
 
-loop_holds : tie.Need-loop-init invariant-loop decreases-loop
+loop_holds : tie.Need-loop-i-init invariant-loop decreases-loop
 loop_holds c = (omega arith, refl)
 
-returns : tie.Need-returns invariant-loop decreases-loop
+returns : tie.Need-returns-then-x-lt48 invariant-loop decreases-loop
 returns c =
     let v = c.before in
     let w = v.before.before in
-    let l = w.before.loop in
-    let s = w.before.before.before.args.s.now in
-    let x = v.wide.result in
-    let t = w.loop-test.true in
-    let e = v.wide.ensures.0 in
-    sym (sym l.invariant.1 ∙ digits_low l.n s l.i t x e c.if1.true)
+    let l = w.loop-i in
+    let s = w.args.s.now in
+    let x = v.wide-x.result in
+    let t = w.loop-i-test.true in
+    let e = v.wide-x.ensures.0 in
+    sym (sym l.invariant.1 ∙ digits_low l.n s l.i t x e c.if-x-lt48.true)
 
-returns_2 : tie.Need-returns-2 invariant-loop decreases-loop
+returns_2 : tie.Need-returns-then-x-gt57 invariant-loop decreases-loop
 returns_2 c =
     let v = c.before.before in
     let w = v.before.before in
-    let l = w.before.loop in
-    let s = w.before.before.before.args.s.now in
-    let x = v.wide.result in
-    let t = w.loop-test.true in
-    let e = v.wide.ensures.0 in
-    sym (sym l.invariant.1 ∙ digits_high l.n s l.i t x e c.before.if1.false c.if2.true)
+    let l = w.loop-i in
+    let s = w.args.s.now in
+    let x = v.wide-x.result in
+    let t = w.loop-i-test.true in
+    let e = v.wide-x.ensures.0 in
+    sym (sym l.invariant.1 ∙ digits_high l.n s l.i t x e c.if-x-lt48.false c.if-x-gt57.true)
 
-returns_3 : tie.Need-returns-3 invariant-loop decreases-loop
+returns_3 : tie.Need-returns-then-m-gt4294967295 invariant-loop decreases-loop
 returns_3 c =
     let v = c.before.before.before in
     let w = v.before.before in
-    let l = w.before.loop in
-    let s = w.before.before.before.args.s.now in
-    let x = v.wide.result in
-    let t = w.loop-test.true in
-    let e = v.wide.ensures.0 in
-    sym (sym l.invariant.1 ∙ digits_over l.n s l.i t x e c.before.before.if1.false c.before.if2.false c.if3.true)
+    let l = w.loop-i in
+    let s = w.args.s.now in
+    let x = v.wide-x.result in
+    let t = w.loop-i-test.true in
+    let e = v.wide-x.ensures.0 in
+    sym (sym l.invariant.1 ∙ digits_over l.n s l.i t x e c.if-x-lt48.false c.if-x-gt57.false c.if-m-gt4294967295.true)
 
-loop_less : tie.Need-loop-smaller invariant-loop decreases-loop
+loop_less : tie.Need-loop-i-smaller invariant-loop decreases-loop
 loop_less c = omega arith
 
-loop_again : tie.Need-loop-preserved invariant-loop decreases-loop
+loop_again : tie.Need-loop-i-preserved invariant-loop decreases-loop
 loop_again c =
     let v = c.before.before.before in
     let w = v.before.before in
-    let l = w.before.loop in
-    let s = w.before.before.before.args.s.now in
-    let x = v.wide.result in
-    let t = w.loop-test.true in
-    let e = v.wide.ensures.0 in
-    (c.if3.false, sym (digits_on l.n s l.i t x e c.before.before.if1.false c.before.if2.false c.if3.false) ∙ l.invariant.1)
+    let l = w.loop-i in
+    let s = w.args.s.now in
+    let x = v.wide-x.result in
+    let t = w.loop-i-test.true in
+    let e = v.wide-x.ensures.0 in
+    (c.if-m-gt4294967295.false, sym (digits_on l.n s l.i t x e c.if-x-lt48.false c.if-x-gt57.false c.if-m-gt4294967295.false) ∙ l.invariant.1)
 
-returns_4 : tie.Need-returns-4 invariant-loop decreases-loop
+returns_4 : tie.Need-returns invariant-loop decreases-loop
 returns_4 c =
-    let l = c.before.loop in
-    sym (sym l.invariant.1 ∙ digits_end l.n c.before.before.before.args.s.now l.i c.loop-test.false)
+    let l = c.loop-i in
+    sym (sym l.invariant.1 ∙ digits_end l.n c.args.s.now l.i c.loop-i-test.false)
 
-pub digits-spec : {M : Type 1} → statement M
-digits-spec =
+pub digits_spec : {M : Type 1} → statement M
+digits_spec =
     tie.close
     (tie.spec
     invariant-loop

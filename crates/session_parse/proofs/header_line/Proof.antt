@@ -7,7 +7,7 @@ use Rattle.session_parse.proofs.header_line.Tie as tie
 
 returns : tie.Need-returns
 unfolding header_step
-returns c = rw (sym c.before.other-line.ensures) c.number-line.ensures
+returns c = rw (sym c.other_line-other.ensures) c.number_line.ensures
 
-pub header-line-spec : {M : Type 1} → statement M
-header-line-spec = tie.close (tie.spec (λ c κs. search rules) (λ c κs. search rules) returns)
+pub header_line_spec : {M : Type 1} → statement M
+header_line_spec = tie.close (tie.spec (λ c κs. search rules) (λ c κs. search rules) returns)

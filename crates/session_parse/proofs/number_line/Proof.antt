@@ -5,17 +5,17 @@ use borrow.Author.Rules.{rules}
 use Rattle.session_parse.proofs.number_line.Statement.{statement}
 use Rattle.session_parse.proofs.number_line.Tie as tie
 
-returns : tie.Need-returns
+returns : tie.Need-returns-in-Value
 unfolding number_step
 returns c =
-    let at_n = c.before.before in
-    rw (sym at_n.before.before.line_number.ensures ∙ at_n.n.given.1) c.with_number.ensures
+    let at_n = c.before in
+    rw (sym at_n.line_number.ensures ∙ at_n.in-Value.is) c.with_number.ensures
 
-returns_2 : tie.Need-returns-2
+returns_2 : tie.Need-returns-in-NotDecimal
 unfolding number_step
-returns_2 c = rw (sym c.before.before.line_number.ensures ∙ c.enum_told.given.1)
+returns_2 c = rw (sym c.line_number.ensures ∙ c.in-NotDecimal.is)
 
-pub number-line-spec : {M : Type 1} → statement M
-number-line-spec =
+pub number_line_spec : {M : Type 1} → statement M
+number_line_spec =
     tie.close
     (tie.spec (λ c κs. search rules) (λ c. search rules) (λ c κs. search rules) (λ c. search rules) returns returns_2)

@@ -4,28 +4,28 @@ use borrow.Author.Rules.{rules}
 use Rattle.session_parse.proofs.other_line.Statement.{statement}
 use Rattle.session_parse.proofs.other_line.Tie as tie
 
-returns : tie.Need-returns
+returns : tie.Need-returns-in-Tasks
 unfolding other_step
-returns c = rw c.enum_told.given.1
+returns c = rw c.in-Tasks.is
 
-returns_2 : tie.Need-returns-2
+returns_2 : tie.Need-returns-in-Nodes
 unfolding other_step
-returns_2 c = rw c.enum-told2.given.1
+returns_2 c = rw c.in-Nodes.is
 
-returns_3 : tie.Need-returns-3
+returns_3 : tie.Need-returns-in-Buckets
 unfolding other_step
-returns_3 c = rw c.enum-told3.given.1
+returns_3 c = rw c.in-Buckets.is
 
-returns_4 : tie.Need-returns-4
+returns_4 : tie.Need-returns-in-Version
 unfolding other_step
-returns_4 c = rw c.before.enum-told4.given.1 c.number-line.ensures
+returns_4 c = rw c.in-Version.is c.number_line.ensures
 
-returns-5 : tie.Need-returns-5
+returns-5 : tie.Need-returns-in-Blank
 unfolding other_step
-returns-5 c = rw c.enum-told5.given.1
+returns-5 c = rw c.in-Blank.is
 
-pub other-line-spec : {M : Type 1} → statement M
-other-line-spec =
+pub other_line_spec : {M : Type 1} → statement M
+other_line_spec =
     tie.close
     (tie.spec
     (λ c. search rules)

@@ -4,13 +4,13 @@ use borrow.Author.Rules.{rules}
 use Rattle.session_parse.proofs.step.Statement.{statement}
 use Rattle.session_parse.proofs.step.Tie as tie
 
-returns : tie.Need-returns
+returns : tie.Need-returns-in-Value
 unfolding step_event
-returns c = rw c.before.task.given.1
+returns c = rw c.in-Value.is
 
-returns_2 : tie.Need-returns-2
+returns_2 : tie.Need-returns-in-NotDecimal
 unfolding step_event
-returns_2 c = rw c.enum_told.given.1
+returns_2 c = rw c.in-NotDecimal.is
 
 pub step_spec : {M : Type 1} → statement M
 step_spec = tie.close (tie.spec (λ c. search rules) (λ c. search rules) returns returns_2)

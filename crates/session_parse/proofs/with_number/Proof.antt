@@ -8,34 +8,34 @@ use borrow.Author.Rules.{rules}
 use Rattle.session_parse.proofs.with_number.Statement.{statement}
 use Rattle.session_parse.proofs.with_number.Tie as tie
 
-returns : tie.Need-returns
+returns : tie.Need-returns-in-Tasks
 unfolding with_number
 returns c =
-    let h = c.before.before.before.args.h in
-    rw c.before.enum_told.given.1 (ap (λ (g : Config). Next Nodes (header g h.nodes h.buckets)) c.config.ensures)
+    let h = c.args.h in
+    rw c.in-Tasks.is (ap (λ (g : Config). Next Nodes (header g h.nodes h.buckets)) c.config-config.ensures)
 
-returns_2 : tie.Need-returns-2
+returns_2 : tie.Need-returns-in-Nodes
 unfolding with_number
-returns_2 c = rw c.before.enum-told2.given.1
+returns_2 c = rw c.in-Nodes.is
 
-returns_3 : tie.Need-returns-3
+returns_3 : tie.Need-returns-in-Buckets
 unfolding with_number
-returns_3 c = rw c.before.enum-told3.given.1
+returns_3 c = rw c.in-Buckets.is
 
-returns_4 : tie.Need-returns-4
+returns_4 : tie.Need-returns-in-Version
 unfolding with_number
 returns_4 c =
-    let h = c.before.before.before.args.h in
-    rw c.before.enum-told4.given.1 (ap (λ (g : Config). Next Blank (header g h.nodes h.buckets)) c.with_version.ensures)
+    let h = c.args.h in
+    rw c.in-Version.is (ap (λ (g : Config). Next Blank (header g h.nodes h.buckets)) c.with_version-config.ensures)
 
-returns-5 : tie.Need-returns-5
+returns-5 : tie.Need-returns-in-Blank
 unfolding with_number
 returns-5 c =
-    let h = c.before.before.before.args.h in
-    rw c.before.enum-told5.given.1 (ap (λ (g : Config). Complete (header g h.nodes h.buckets)) c.with_zero_withdrawn.ensures)
+    let h = c.args.h in
+    rw c.in-Blank.is (ap (λ (g : Config). Complete (header g h.nodes h.buckets)) c.with_zero_withdrawn-config.ensures)
 
-pub with-number-spec : {M : Type 1} → statement M
-with-number-spec =
+pub with_number_spec : {M : Type 1} → statement M
+with_number_spec =
     tie.close
     (tie.spec
     (λ c. search rules)

@@ -7,23 +7,23 @@ use borrow.Author.Rules.{rules}
 use Rattle.session_pools.proofs.node_extent.Statement.{statement}
 use Rattle.session_pools.proofs.node_extent.Tie as tie
 
-returns : tie.Need-returns
-returns c = (sym (extent_low 34 64 c.before.args.n c.before.args.words c.if1.true), omega arith)
+returns : tie.Need-returns-then-n-lt1
+returns c = (sym (extent_low 34 64 c.args.n c.args.words c.if-n-lt1.true), omega arith)
 
-returns_2 : tie.Need-returns-2
+returns_2 : tie.Need-returns-then-n-gt64
 returns_2 c =
     let entry = c.before.before in
-    (sym (extent_high 34 64 entry.args.n entry.args.words c.before.if1.false c.if2.true), omega arith)
+    (sym (extent_high 34 64 entry.args.n entry.args.words c.if-n-lt1.false c.if-n-gt64.true), omega arith)
 
-returns_3 : tie.Need-returns-3
+returns_3 : tie.Need-returns-then-a-words
 returns_3 c =
     let entry = c.before.before.before in
-    (sym (extent_fits 34 64 entry.args.n entry.args.words c.before.before.if1.false c.before.if2.false c.if3.true), omega arith)
+    (sym (extent_fits 34 64 entry.args.n entry.args.words c.if-n-lt1.false c.if-n-gt64.false c.if-a-words.true), omega arith)
 
-returns_4 : tie.Need-returns-4
+returns_4 : tie.Need-returns
 returns_4 c =
     let entry = c.before.before.before in
-    (sym (extent_short 34 64 entry.args.n entry.args.words c.before.before.if1.false c.before.if2.false c.if3.false), omega arith)
+    (sym (extent_short 34 64 entry.args.n entry.args.words c.if-n-lt1.false c.if-n-gt64.false c.if-a-words.false), omega arith)
 
-pub node-extent-spec : {M : Type 1} → statement M
-node-extent-spec = tie.close (tie.spec returns returns_2 (λ c. search rules) returns_3 returns_4)
+pub node_extent_spec : {M : Type 1} → statement M
+node_extent_spec = tie.close (tie.spec returns returns_2 (λ c. search rules) returns_3 returns_4)

@@ -5,11 +5,11 @@ use borrow.Author.Rules.{rules}
 use Rattle.session_pools.proofs.node_size.Statement.{statement}
 use Rattle.session_pools.proofs.node_size.Tie as tie
 
-returns : tie.Need-returns
-returns c = size_in c.before.before.args.ns.now c.before.before.args.k
+returns : tie.Need-returns-then-at-ns
+returns c = size_in c.args.ns.now c.args.k
 
-returns_2 : tie.Need-returns-2
-returns_2 c = size_past c.before.args.ns.now c.before.args.k c.if1.false
+returns_2 : tie.Need-returns
+returns_2 c = size_past c.args.ns.now c.args.k c.if-at-ns.false
 
-pub node-size-spec : {M : Type 1} → statement M
-node-size-spec = tie.close (tie.spec (λ c. search rules) (λ c. search rules) (λ c. search rules) returns returns_2)
+pub node_size_spec : {M : Type 1} → statement M
+node_size_spec = tie.close (tie.spec (λ c. search rules) (λ c. search rules) (λ c. search rules) returns returns_2)

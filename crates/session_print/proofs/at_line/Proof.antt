@@ -15,9 +15,15 @@ returns c =
     let at-keyed = at_number.before.before.before.before in
     let entry = at-keyed.before.before.before.before in
     let a = entry.args in
-    append_3 (at_key ++ decimal a.k ++ (44 ∷ [])) (decimal a.l) (10 ∷ []) _ _ _ _ at-keyed.keyed.ensures
-    at_number.number.ensures c.before.before.one_byte.ensures
+    append_3 (at_key ++ decimal a.k ++ (44 ∷ [])) (decimal a.l) (10 ∷ []) _ _ _ _ at-keyed.keyed-a.ensures
+    at_number.number-b.ensures c.one_byte.ensures
 
-pub at-line-spec : {M : Type 1} → statement M
-at-line-spec =
-    tie.close (tie.spec (λ c. search rules) (λ c κs. search rules) (λ c κs. search rules) (λ c κs. search rules) (λ c. search rules) returns)
+pub at_line_spec : {M : Type 1} → statement M
+at_line_spec =
+    tie.close
+    (tie.spec
+    (λ c κs. search rules)
+    (λ c κs. search rules)
+    (λ c κs. search rules)
+    (λ c. search rules)
+    returns)

@@ -17,16 +17,15 @@ returns c =
     let at-one-byte = at_number.before.before.before.before in
     let at-answer = at-one-byte.before.before.before.before in
     let at-keyed = at-answer.before.before.before.before in
-    let a = at-keyed.before.before.before.before.args in
+    let a = at-keyed.args in
     append_6 (end_key ++ decimal a.k ++ (44 ∷ [])) (answer_word a.w) (44 ∷ []) (decimal a.own) (occupancy_field a.full) (10 ∷ []) _ _ _ _ _ _ _
-    at-keyed.keyed.ensures at-answer.answer.ensures at-one-byte.one_byte.ensures at_number.number.ensures
-    at_field.occupancy_field.ensures at_last.one-byte2.ensures
+    at-keyed.keyed-a.ensures at-answer.answer-b.ensures at-one-byte.one_byte-c.ensures at_number.number-d.ensures
+    at_field.occupancy_field-e.ensures at_last.one_byte.ensures
 
-pub end-line-spec : {M : Type 1} → statement M
-end-line-spec =
+pub end_line_spec : {M : Type 1} → statement M
+end_line_spec =
     tie.close
     (tie.spec
-    (λ c. search rules)
     (λ c κs. search rules)
     (λ c κs. search rules)
     (λ c κs. search rules)

@@ -11,19 +11,17 @@ returns : tie.Need-returns
 unfolding listing_lines
 returns c =
     let at-key-line2 = c.before.before.before.before.before.before in
-    let at-key-line = at-key-line2.before.before.before.before.before in
+    let at-key-line = at-key-line2.before.before.before.before.before.before in
     let entry = at-key-line.before.before.before.before.before in
     let a = entry.args in
     append_3 (key_line size_key a.size) (key_line tags_key (length a.ts.now)) (tag_lines a.ts.now) _ _ _ _
-    at-key-line.key_line.ensures at-key-line2.key-line2.ensures c.before.before.tags.ensures
+    at-key-line.key_line-a.ensures at-key-line2.key_line-b.ensures c.tags.ensures
 
-pub listing-spec : {M : Type 1} → statement M
-listing-spec =
+pub listing_spec : {M : Type 1} → statement M
+listing_spec =
     tie.close
     (tie.spec
-    (λ c. search rules)
     (λ c κs. search rules)
-    (λ c. search rules)
     (λ c κs. search rules)
     (λ c κs. search rules)
     (λ c. search rules)

@@ -6,20 +6,20 @@ use borrow.Author.Rules.{rules}
 use Rattle.session_print.proofs.occupancy_field.Statement.{statement}
 use Rattle.session_print.proofs.occupancy_field.Tie as tie
 
-returns : tie.Need-returns
+returns : tie.Need-returns-in-NotGiven
 unfolding occupancy_field append
-returns c = rw c.enum_told.given.1
+returns c = rw c.in-NotGiven.is
 
-returns_2 : tie.Need-returns-2
+returns_2 : tie.Need-returns-in-Tags
 unfolding occupancy_field append
 returns_2 c =
     let at_number = c.before.before in
     let at_comma = at_number.before.before.before.before in
-    let given = at_comma.before.before.before in
-    rw given.full.given.1 (at_number.number.ensures ∙ ap (append (decimal given.full.given.0.0)) at_comma.one_byte.ensures)
+    let given = at_comma.before.before in
+    rw given.in-Tags.is (at_number.number.ensures ∙ ap (append (decimal given.in-Tags.n)) at_comma.one_byte-a.ensures)
 
-pub occupancy-field-spec : {M : Type 1} → statement M
-occupancy-field-spec =
+pub occupancy_field_spec : {M : Type 1} → statement M
+occupancy_field_spec =
     tie.close
     (tie.spec
     (λ c. search rules)

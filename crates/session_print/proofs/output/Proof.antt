@@ -4,24 +4,24 @@ use borrow.Author.Rules.{rules}
 use Rattle.session_print.proofs.output.Statement.{statement}
 use Rattle.session_print.proofs.output.Tie as tie
 
-returns : tie.Need-returns
+returns : tie.Need-returns-in-At
 returns c =
-    let at-o = c.before.before.before.before.before in
-    rw at-o.o.given.1 c.before.before.at_line.ensures
+    let at-o = c.before.before.before.before in
+    rw at-o.in-At.is c.at_line.ensures
 
-returns_2 : tie.Need-returns-2
+returns_2 : tie.Need-returns-in-End
 returns_2 c =
-    let at-o2 = c.before.before.before.before.before in
-    rw at-o2.o2.given.1 c.before.before.end_line.ensures
+    let at-o2 = c.before.before.before.before in
+    rw at-o2.in-End.is c.end_line.ensures
 
-returns_3 : tie.Need-returns-3
+returns_3 : tie.Need-returns-in-Refuse
 unfolding output_line
 returns_3 c =
-    let at-o3 = c.before.before.before.before.before in
-    rw at-o3.o3.given.1 c.before.before.refusal.ensures
+    let at-o3 = c.before.before.before.before in
+    rw at-o3.in-Refuse.is c.refusal.ensures
 
-pub output-spec : {M : Type 1} → statement M
-output-spec =
+pub output_spec : {M : Type 1} → statement M
+output_spec =
     tie.close
     (tie.spec
     (λ c. search rules)

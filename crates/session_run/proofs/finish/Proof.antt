@@ -12,15 +12,15 @@ use Rattle.session_run.proofs.finish.Tie as tie
 len : (c : tie.Start) → length c.args.p.line.bytes ≡ 41
 len c = search rules
 
-add-result : tie.Need-overflow-add-result
+add-result : tie.Need-overflow_add-result
 add-result c =
     let at-handle-line = c.before.before.before.before.before.before.before in
     let at-slice-known3 = at-handle-line.before.before.before.before.before.before.before.before in
     let entry = at-slice-known3.before.before.before in
     let a = entry.args in
-    omega (arith, append_within _ _ _ _ at-handle-line.handle-line.ensures.wrote, rest_length a.out.now a.due, at-slice-known3, entry.requires)
+    omega (arith, append_within _ _ _ _ at-handle-line.handle_line-t.ensures.wrote, rest_length a.out.now a.due, at-slice-known3, entry.requires)
 
-returns : tie.Need-returns
+returns : tie.Need-returns-then-cut_off
 returns c =
     let at-handle-line = c.before.before.before.before.before.before.before in
     let at-too-long = at-handle-line.before.before.before.before.before in
@@ -29,19 +29,19 @@ returns c =
     let entry = at-cut-off.before.before.before.before in
     let a = entry.args in
     let ends =
-    ends_cut_off a.s a.ns.now a.bs.now a.due a.out.now at-handle-line.handle-line.result _ _ _ entry.requires a.p
-    (sym at-cut-off.cut_off.ensures ∙ at-if1.if1.true) _ at-too-long.too_long.ensures at-handle-line.handle-line.ensures in
+    ends_cut_off a.s a.ns.now a.bs.now a.due a.out.now at-handle-line.handle_line-t.result _ _ _ entry.requires a.p
+    (sym at-cut-off.cut_off.ensures ∙ at-if1.if-cut_off.true) _ at-too-long.too_long-long.ensures at-handle-line.handle_line-t.ensures in
     (ends.0, (ends.1, len entry))
 
-add-result-2 : tie.Need-overflow-add-result-2
+add-result-2 : tie.Need-overflow_add-result-2
 add-result-2 c =
     let at-end-input = c.before.before.before.before.before.before.before in
     let at-slice-known3 = at-end-input.before.before.before.before.before.before in
     let entry = at-slice-known3.before.before.before in
     let a = entry.args in
-    omega (arith, append_within _ _ _ _ at-end-input.end-input.ensures.wrote, rest_length a.out.now a.due, at-slice-known3, entry.requires)
+    omega (arith, append_within _ _ _ _ at-end-input.end_input-e.ensures.wrote, rest_length a.out.now a.due, at-slice-known3, entry.requires)
 
-returns_2 : tie.Need-returns-2
+returns_2 : tie.Need-returns
 returns_2 c =
     let at-end-input = c.before.before.before.before.before.before.before in
     let at-if1 = at-end-input.before.before.before.before in
@@ -49,8 +49,8 @@ returns_2 c =
     let entry = at-cut-off.before.before.before.before in
     let a = entry.args in
     let ends =
-    ends_closed a.s a.ns.now a.bs.now a.due a.out.now at-end-input.end-input.result _ _ _ entry.requires a.p
-    (sym at-cut-off.cut_off.ensures ∙ at-if1.if1.false) at-end-input.end-input.ensures in
+    ends_closed a.s a.ns.now a.bs.now a.due a.out.now at-end-input.end_input-e.result _ _ _ entry.requires a.p
+    (sym at-cut-off.cut_off.ensures ∙ at-if1.if-cut_off.false) at-end-input.end_input-e.ensures in
     (ends.0, (ends.1, len entry))
 
 pub finish_spec : {M : Type 1} → statement M

@@ -14,29 +14,29 @@ use Rattle.session_run.proofs.take_given.Tie as tie
 len : (c : tie.Start) → length c.args.q.line.bytes ≡ 41
 len c = search rules
 
-array-share-prefix-b : tie.Need-array-share-prefix-b
+array-share-prefix-b : tie.Need-slice_bounds-b-end
 array-share-prefix-b c =
     let at-line-length = c.before.before.before in
     let entry = at-line-length.before.before.before.before.before.before.before in
     let l : length entry.args.q.line.bytes ≡ 41 = len entry in
-    omega (arith, at-line-length.line_length.ensures.0)
+    omega (arith, at-line-length.line_length-n.ensures.0)
 
-slice-aggregate-known-line : tie.Need-slice-aggregate-known-line
+slice-aggregate-known-line : tie.Need-slice_bounds-known_line-end
 slice-aggregate-known-line c =
     let at-line-length = c.before.before.before.before in
     let entry = at-line-length.before.before.before.before.before.before.before in
     let l : length entry.args.q.line.bytes ≡ 41 = len entry in
-    sym (length-take-le at-line-length.line_length.result entry.args.q.line.bytes (omega (arith, at-line-length.line_length.ensures.0)))
+    sym (length-take-le at-line-length.line_length-n.result entry.args.q.line.bytes (omega (arith, at-line-length.line_length-n.ensures.0)))
 
-add-t21 : tie.Need-overflow-add-t21
+add-t21 : tie.Need-overflow_add-result
 add-t21 c =
     let at-known-line = c.before.before.before.before.before.before.before in
     let at-slice-known3 = at-known-line.before.before.before.before.before.before.before.before.before.before in
     let entry = at-slice-known3.before.before.before in
     let a = entry.args in
-    omega (arith, append_within _ _ _ _ at-known-line.known-line.ensures.wrote, rest_length a.out.now a.due, at-slice-known3, entry.requires)
+    omega (arith, append_within _ _ _ _ at-known-line.known_line-t.ensures.wrote, rest_length a.out.now a.due, at-slice-known3, entry.requires)
 
-returns : tie.Need-returns
+returns : tie.Need-returns-then-has_line
 returns c =
     let at-known-line = c.before.before.before.before.before.before.before in
     let at-line-length = at-known-line.before.before.before.before.before.before in
@@ -44,19 +44,19 @@ returns c =
     let at-has-line = at-if1.before in
     let entry = at-has-line.before.before.before.before in
     let a = entry.args in
-    line_taken a.s a.ns.now a.bs.now a.due a.out.now at-known-line.known-line.result _ _ _ entry.requires.0 entry.requires.1 a.q
-    (sym at-has-line.has-line.ensures ∙ at-if1.if1.true) _ at-line-length.line_length.ensures.1 at-known-line.known-line.ensures
+    line_taken a.s a.ns.now a.bs.now a.due a.out.now at-known-line.known_line-t.result _ _ _ entry.requires.0 entry.requires.1 a.q
+    (sym at-has-line.has_line.ensures ∙ at-if1.if-has_line.true) _ at-line-length.line_length-n.ensures.1 at-known-line.known_line-t.ensures
 
-returns_2 : tie.Need-returns-2
+returns_2 : tie.Need-returns
 returns_2 c =
     let at-has-line = c.before in
     let entry = at-has-line.before.before.before.before in
     let a = entry.args in
-    let none = sym at-has-line.has-line.ensures ∙ c.if1.false in
+    let none = sym at-has-line.has_line.ensures ∙ c.if-has_line.false in
     (took_none prints_on next prints (running a.s a.ns.now a.bs.now) a.due a.out.now a.q none, entry.requires.1)
 
-pub take-given-spec : {M : Type 1} → statement M
-take-given-spec =
+pub take_given_spec : {M : Type 1} → statement M
+take_given_spec =
     tie.close
     (tie.spec
     (λ c κs. search rules)

@@ -15,8 +15,8 @@ use Rattle.session_state.proofs.new_session.Tie as tie
 returns : tie.Need-returns
 unfolding new_session empty_header
 returns c =
-    ap (λ (g : Config). session (Due Tasks) (header g 0 0) c.zero-state.result) c.before.zero_config.ensures
-    ∙ ap (λ (m : State). session (Due Tasks) (header zero_config 0 0) m) c.zero-state.ensures
+    ap (λ (g : Config). session (Due Tasks) (header g 0 0) c.zero_state-z.result) c.zero_config-config.ensures
+    ∙ ap (λ (m : State). session (Due Tasks) (header zero_config 0 0) m) c.zero_state-z.ensures
 
-pub new-session-spec : {M : Type 1} → statement M
-new-session-spec = tie.close (tie.spec (λ c κs. search rules) (λ c κs. search rules) returns)
+pub new_session_spec : {M : Type 1} → statement M
+new_session_spec = tie.close (tie.spec (λ c κs. search rules) (λ c κs. search rules) returns)

@@ -4,17 +4,17 @@ use borrow.Author.Rules.{rules}
 use Rattle.session_state.proofs.reads_events.Statement.{statement}
 use Rattle.session_state.proofs.reads_events.Tie as tie
 
-returns : tie.Need-returns
+returns : tie.Need-returns-in-Due
 unfolding reads_events
-returns c = rw c.enum_told.given.1
+returns c = rw c.in-Due.is
 
-returns_2 : tie.Need-returns-2
+returns_2 : tie.Need-returns-in-Events
 unfolding reads_events
-returns_2 c = rw c.enum-told2.given.1
+returns_2 c = rw c.in-Events.is
 
-returns_3 : tie.Need-returns-3
+returns_3 : tie.Need-returns-in-Stopped
 unfolding reads_events
-returns_3 c = rw c.enum-told3.given.1
+returns_3 c = rw c.in-Stopped.is
 
-pub reads-events-spec : {M : Type 1} → statement M
-reads-events-spec = tie.close (tie.spec (λ c. search rules) (λ c. search rules) (λ c. search rules) returns returns_2 returns_3)
+pub reads_events_spec : {M : Type 1} → statement M
+reads_events_spec = tie.close (tie.spec (λ c. search rules) (λ c. search rules) (λ c. search rules) returns returns_2 returns_3)

@@ -10,7 +10,7 @@ returns : tie.Need-returns
 unfolding stopped
 returns c =
     let at-refusal = c.before.before.before.before.before in
-    session_as _ _ _ _ _ c.after_line.ensures (record { next = refl; wrote = at-refusal.refusal.ensures })
+    session_as _ _ _ _ _ c.after_line.ensures (record { next = refl; wrote = at-refusal.refusal-c.ensures })
 
-pub stop-spec : {M : Type 1} → statement M
-stop-spec = tie.close (tie.spec (λ c κs. search rules) (λ c κs. search rules) (λ c. search rules) returns)
+pub stop_spec : {M : Type 1} → statement M
+stop_spec = tie.close (tie.spec (λ c κs. search rules) (λ c κs. search rules) (λ c. search rules) returns)

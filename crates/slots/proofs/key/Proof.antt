@@ -4,13 +4,13 @@ use Rattle.spec.specs.Listed.{key}
 use Rattle.slots.proofs.key.Statement.{statement}
 use Rattle.slots.proofs.key.Tie as tie
 
-returns : tie.Need-returns
+returns : tie.Need-returns-then-g-eq2
 unfolding key
-returns c = rw (eq-eqb c.before.before.args.g.version 2 c.if1.true)
+returns c = rw (eq-eqb c.args.g.version 2 c.if-g-eq2.true)
 
-returns_2 : tie.Need-returns-2
+returns_2 : tie.Need-returns-else-g-eq2
 unfolding key
-returns_2 c = rw (ne_eqb c.before.before.args.g.version 2 c.if1.false)
+returns_2 c = rw (ne_eqb c.args.g.version 2 c.if-g-eq2.false)
 
 pub key_spec : {M : Type 1} → statement M
 key_spec = tie.close (tie.spec returns returns_2)

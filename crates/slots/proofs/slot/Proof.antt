@@ -9,8 +9,8 @@ use Rattle.slots.proofs.slot.Tie as tie
 returns : tie.Need-returns
 unfolding slot
 returns c =
-    let a = c.before.before.args in
-    c.remainder.ensures ∙ ap (λ (k : ℕ). k % a.size) c.before.key.ensures
+    let a = c.args in
+    c.remainder.ensures ∙ ap (λ (k : ℕ). k % a.size) c.key-k.ensures
 
-pub slot-spec : {M : Type 1} → statement M
-slot-spec = tie.close (tie.spec (λ c κs. search rules) (λ c κs. search rules) returns)
+pub slot_spec : {M : Type 1} → statement M
+slot_spec = tie.close (tie.spec (λ c κs. search rules) (λ c κs. search rules) returns)

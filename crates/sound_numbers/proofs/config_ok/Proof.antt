@@ -13,7 +13,7 @@ returns c =
     let version-tested = c.before.before in
     let tasks-tested = version-tested.before in
     c.all_true.ensures
-    ∙ ap all_true (same_list (tasks-tested.within.ensures also version-tested.within2.ensures also no_more))
+    ∙ ap all_true (same_list (tasks-tested.within.ensures also version-tested.within-2.ensures also no_more))
 
-pub config-ok-spec : {M : Type 1} → statement M
-config-ok-spec = tie.close (tie.spec (λ c κs. search rules) (λ c κs. search rules) (λ c. search rules) (λ c κs. search rules) returns)
+pub config_ok_spec : {M : Type 1} → statement M
+config_ok_spec = tie.close (tie.spec (λ c κs. search rules) (λ c κs. search rules) (λ c. search rules) (λ c κs. search rules) returns)

@@ -18,9 +18,9 @@ returns c =
     let at_H = at-B.before in
     let at-config = at_H.before in
     c.all_true.ensures
-    ∙ ap all_true (same_list (at-config.config-ok.ensures
+    ∙ ap all_true (same_list (at-config.config_ok.ensures
     also at_H.within.ensures
-    also at-B.within2.ensures
+    also at-B.within-2.ensures
     also refl
     also refl
     also refl
@@ -30,8 +30,8 @@ returns c =
     also refl
     also no_more))
 
-pub numbers-ok-spec : {M : Type 1} → statement M
-numbers-ok-spec =
+pub numbers_ok_spec : {M : Type 1} → statement M
+numbers_ok_spec =
     tie.close
     (tie.spec
     (λ c. search rules)

@@ -7,7 +7,7 @@ use Rattle.sound_numbers.proofs.unused_ok.Statement.{statement}
 use Rattle.sound_numbers.proofs.unused_ok.Tie as tie
 
 returns : tie.Need-returns
-returns c = λ y k h. rw c.idle-ok.ensures (sym (from_T y k c.before.args.c h))
+returns c = λ y k h. rw c.idle_ok.ensures (sym (from_T y k c.args.c h))
 
-pub unused-ok-spec : {M : Type 1} → statement M
-unused-ok-spec = tie.close (tie.spec (λ c κs. search rules) returns)
+pub unused_ok_spec : {M : Type 1} → statement M
+unused_ok_spec = tie.close (tie.spec (λ c κs. search rules) returns)

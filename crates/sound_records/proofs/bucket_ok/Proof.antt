@@ -5,13 +5,13 @@ use borrow.Author.Rules.{rules}
 use Rattle.sound_records.proofs.bucket_ok.Statement.{statement}
 use Rattle.sound_records.proofs.bucket_ok.Tie as tie
 
-returns : tie.Need-returns
+returns : tie.Need-returns-then-f-gt1
 unfolding sound_bucket
-returns c = rw (lt-leb _ _ c.if1.true)
+returns c = rw (lt-leb _ _ c.if-f-gt1.true)
 
-returns_2 : tie.Need-returns-2
+returns_2 : tie.Need-returns
 unfolding sound_bucket
-returns_2 c = rw (le-leb _ _ c.before.if1.false) c.tags-ok.ensures
+returns_2 c = rw (le-leb _ _ c.if-f-gt1.false) c.tags_ok.ensures
 
-pub bucket-ok-spec : {M : Type 1} → statement M
-bucket-ok-spec = tie.close (tie.spec (λ c. search rules) returns (λ c κs. search rules) returns_2)
+pub bucket_ok_spec : {M : Type 1} → statement M
+bucket_ok_spec = tie.close (tie.spec (λ c. search rules) returns (λ c κs. search rules) returns_2)

@@ -13,45 +13,45 @@ use borrow.Author.Rules.{rules}
 use Rattle.sound_records.proofs.buckets_ok.Statement.{statement}
 use Rattle.sound_records.proofs.buckets_ok.Tie as tie
 
-abbrev invariant-loop : tie.invariant-loop
+abbrev invariant-loop : tie.invariant-loop-k
 invariant-loop bs n k₀ k = (k ≤ n) × (sound_buckets n bs ≡ sound_buckets (n - k) (drop (66 * k) bs))
 
-abbrev decreases-loop : tie.decreases-loop
+abbrev decreases-loop : tie.decreases-loop-k
 decreases-loop bs n k₀ k = n - k
 
-loop_holds : tie.Need-loop-init invariant-loop decreases-loop
+loop_holds : tie.Need-loop-k-init invariant-loop decreases-loop
 loop_holds c = (omega arith, rw sub-zero)
 
-bucket-ok-requires : tie.Need-bucket-ok-requires invariant-loop decreases-loop
+bucket-ok-requires : tie.Need-bucket_ok-requires invariant-loop decreases-loop
 bucket-ok-requires c κs =
-    let w = c.before.before.before.before.args.bs.now in
-    let at = 66 * c.before.before.loop.k in
+    let w = c.args.bs.now in
+    let at = 66 * c.loop-k.k in
     rw (rest w at, length-drop at w) (omega arith)
 
-returns : tie.Need-returns invariant-loop decreases-loop
+returns : tie.Need-returns-then-not-bucket_ok invariant-loop decreases-loop
 returns c =
-    let loop = c.before.before.before.before.loop in
-    let a = c.before.before.before.before.before.before.args in
+    let loop = c.loop-k in
+    let a = c.args in
     let w = a.bs.now in
-    let fails = ap sound_bucket (sym (rest w (66 * loop.k))) ∙ sym c.before.bucket-ok.ensures ∙ not-true _ c.if1.true in
-    sym (loop.invariant.1 ∙ buckets_no w a.n loop.k c.before.before.before.loop-test.true fails)
+    let fails = ap sound_bucket (sym (rest w (66 * loop.k))) ∙ sym c.bucket_ok.ensures ∙ not-true _ c.if-not-bucket_ok.true-raw in
+    sym (loop.invariant.1 ∙ buckets_no w a.n loop.k c.loop-k-test.true fails)
 
-loop_again : tie.Need-loop-preserved invariant-loop decreases-loop
+loop_again : tie.Need-loop-k-preserved invariant-loop decreases-loop
 loop_again c =
-    let loop = c.before.before.before.before.loop in
-    let a = c.before.before.before.before.before.before.args in
+    let loop = c.loop-k in
+    let a = c.args in
     let w = a.bs.now in
-    let holds = ap sound_bucket (sym (rest w (66 * loop.k))) ∙ sym c.before.bucket-ok.ensures ∙ not-false _ c.if1.false in
-    (omega arith, loop.invariant.1 ∙ buckets_on w a.n loop.k c.before.before.before.loop-test.true holds)
+    let holds = ap sound_bucket (sym (rest w (66 * loop.k))) ∙ sym c.bucket_ok.ensures ∙ not-false _ c.if-not-bucket_ok.false-raw in
+    (omega arith, loop.invariant.1 ∙ buckets_on w a.n loop.k c.loop-k-test.true holds)
 
-returns_2 : tie.Need-returns-2 invariant-loop decreases-loop
+returns_2 : tie.Need-returns invariant-loop decreases-loop
 returns_2 c =
-    let loop = c.before.loop in
-    let a = c.before.before.before.args in
-    sym (loop.invariant.1 ∙ buckets_end (drop (66 * loop.k) a.bs.now) a.n loop.k c.loop-test.false)
+    let loop = c.loop-k in
+    let a = c.args in
+    sym (loop.invariant.1 ∙ buckets_end (drop (66 * loop.k) a.bs.now) a.n loop.k c.loop-k-test.false)
 
-pub buckets-ok-spec : {M : Type 1} → statement M
-buckets-ok-spec =
+pub buckets_ok_spec : {M : Type 1} → statement M
+buckets_ok_spec =
     tie.close
     (tie.spec
     invariant-loop

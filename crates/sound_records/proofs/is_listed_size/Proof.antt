@@ -8,5 +8,5 @@ returns : tie.Need-returns
 unfolding listed_size
 returns c = c.among.ensures
 
-pub is-listed-size-spec : {M : Type 1} → statement M
-is-listed-size-spec = tie.close (tie.spec (λ c. search rules) (λ c κs. search rules) returns)
+pub is_listed_size_spec : {M : Type 1} → statement M
+is_listed_size_spec = tie.close (tie.spec (λ c. search rules) (λ c κs. search rules) returns)

@@ -8,20 +8,20 @@ use borrow.Author.Rules.{rules}
 use Rattle.sound_records.proofs.node_ok.Statement.{statement}
 use Rattle.sound_records.proofs.node_ok.Tie as tie
 
-returns : tie.Need-returns
+returns : tie.Need-returns-then-not-link_ok
 unfolding sound_node
 returns c =
-    let w = c.before.before.before.before.before.args.w.now in
-    λ y e h d. rw (sym (c.before.link-ok.ensures y e h) ∙ not-true _ c.if1.true, and-false (size_known w))
+    let w = c.args.w.now in
+    λ y e h d. rw (sym (c.link_ok.ensures y e h) ∙ not-true _ c.if-not-link_ok.true-raw, and-false (size_known w))
 
-returns_2 : tie.Need-returns-2
+returns_2 : tie.Need-returns
 unfolding sound_node bucket_link
 returns_2 c =
     let at-link = c.before in
-    let w = at-link.before.before.before.before.before.args.w.now in
+    let w = at-link.args.w.now in
     λ y e h d.
-    let link = sym (at-link.before.link-ok.ensures y e h) ∙ not-false _ at-link.if1.false in
-    rw (link, and_true (size_known w), d, and_assoc (size_known w) _ (none_past_size w)) c.sized-ok.ensures
+    let link = sym (at-link.link_ok.ensures y e h) ∙ not-false _ at-link.if-not-link_ok.false-raw in
+    rw (link, and_true (size_known w), d, and_assoc (size_known w) _ (none_past_size w)) c.sized_ok.ensures
 
-pub node-ok-spec : {M : Type 1} → statement M
-node-ok-spec = tie.close (tie.spec (λ c. search rules) (λ c κs. search rules) returns (λ c κs. search rules) returns_2)
+pub node_ok_spec : {M : Type 1} → statement M
+node_ok_spec = tie.close (tie.spec (λ c. search rules) (λ c κs. search rules) returns (λ c κs. search rules) returns_2)

@@ -14,50 +14,50 @@ use borrow.Author.Rules.{rules}
 use Rattle.sound_records.proofs.nodes_ok.Statement.{statement}
 use Rattle.sound_records.proofs.nodes_ok.Tie as tie
 
-abbrev invariant-loop : tie.invariant-loop
+abbrev invariant-loop : tie.invariant-loop-k
 invariant-loop ns h b n k₀ k =
     (k ≤ h) × ((y : Machine) → y.nodes ≡ ns → y.state.nodes ≡ h → y.state.buckets ≡ b → sound_nodes y h ns ≡ sound_nodes y (h - k) (drop (34 * k) ns))
 
-abbrev decreases-loop : tie.decreases-loop
+abbrev decreases-loop : tie.decreases-loop-k
 decreases-loop ns h b n k₀ k = h - k
 
-loop_holds : tie.Need-loop-init invariant-loop decreases-loop
+loop_holds : tie.Need-loop-k-init invariant-loop decreases-loop
 loop_holds c = (omega arith, λ y e h d. rw sub-zero)
 
-node-ok-requires : tie.Need-node-ok-requires invariant-loop decreases-loop
+node-ok-requires : tie.Need-node_ok-requires invariant-loop decreases-loop
 node-ok-requires c κs =
-    let w = c.before.before.before.before.args.ns.now in
-    let at = 34 * c.before.before.loop.k in
+    let w = c.args.ns.now in
+    let at = 34 * c.loop-k.k in
     rw (rest w at, length-drop at w) (omega arith)
 
-returns : tie.Need-returns invariant-loop decreases-loop
+returns : tie.Need-returns-then-not-node_ok invariant-loop decreases-loop
 returns c =
-    let loop = c.before.before.before.before.loop in
-    let a = c.before.before.before.before.before.before.args in
+    let loop = c.loop-k in
+    let a = c.args in
     let w = a.ns.now in
     λ y e h d.
-    let fails = ap (sound_node y) (sym (rest w (34 * loop.k))) ∙ sym (c.before.Node-Ok.ensures y e h d) ∙ not-true _ c.if1.true in
-    sym (loop.invariant.1 y e h d ∙ nodes_no w a.h loop.k c.before.before.before.loop-test.true y fails)
+    let fails = ap (sound_node y) (sym (rest w (34 * loop.k))) ∙ sym (c.before.node_ok.ensures y e h d) ∙ not-true _ c.if-not-node_ok.true-raw in
+    sym (loop.invariant.1 y e h d ∙ nodes_no w a.h loop.k c.loop-k-test.true y fails)
 
-loop_again : tie.Need-loop-preserved invariant-loop decreases-loop
+loop_again : tie.Need-loop-k-preserved invariant-loop decreases-loop
 loop_again c =
-    let loop = c.before.before.before.before.loop in
-    let a = c.before.before.before.before.before.before.args in
+    let loop = c.loop-k in
+    let a = c.args in
     let w = a.ns.now in (
       omega arith,
       λ y e h d.
-          let holds = ap (sound_node y) (sym (rest w (34 * loop.k))) ∙ sym (c.before.Node-Ok.ensures y e h d) ∙ not-false _ c.if1.false in
-          loop.invariant.1 y e h d ∙ nodes_on w a.h loop.k c.before.before.before.loop-test.true y holds,
+          let holds = ap (sound_node y) (sym (rest w (34 * loop.k))) ∙ sym (c.before.node_ok.ensures y e h d) ∙ not-false _ c.if-not-node_ok.false-raw in
+          loop.invariant.1 y e h d ∙ nodes_on w a.h loop.k c.loop-k-test.true y holds,
     )
 
-returns_2 : tie.Need-returns-2 invariant-loop decreases-loop
+returns_2 : tie.Need-returns invariant-loop decreases-loop
 returns_2 c =
-    let loop = c.before.loop in
-    let a = c.before.before.before.args in
-    λ y e h d. sym (loop.invariant.1 y e h d ∙ nodes_end (drop (34 * loop.k) a.ns.now) a.h loop.k c.loop-test.false y)
+    let loop = c.loop-k in
+    let a = c.args in
+    λ y e h d. sym (loop.invariant.1 y e h d ∙ nodes_end (drop (34 * loop.k) a.ns.now) a.h loop.k c.loop-k-test.false y)
 
-pub nodes-ok-spec : {M : Type 1} → statement M
-nodes-ok-spec =
+pub nodes_ok_spec : {M : Type 1} → statement M
+nodes_ok_spec =
     tie.close
     (tie.spec
     invariant-loop

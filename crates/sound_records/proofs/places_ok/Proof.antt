@@ -6,23 +6,23 @@ use borrow.Author.Rules.{rules}
 use Rattle.sound_records.proofs.places_ok.Statement.{statement}
 use Rattle.sound_records.proofs.places_ok.Tie as tie
 
-returns : tie.Need-returns
+returns : tie.Need-returns-then-not-all_within
 returns c =
     let start = c.before.before.before.before in
     let a = start.args in
-    let used = sym c.before.all-within.ensures ∙ not-true _ c.if1.true in
+    let used = sym c.all_within.ensures ∙ not-true _ c.if-not-all_within.true-raw in
     rw (node_places a.b a.n a.w.now start.requires.1, used)
 
-returns_2 : tie.Need-returns-2
+returns_2 : tie.Need-returns
 returns_2 c =
     let at-used = c.before in
     let start = at-used.before.before.before.before in
     let a = start.args in
-    let used = sym at-used.before.all-within.ensures ∙ not-false _ at-used.if1.false in
+    let used = sym at-used.all_within.ensures ∙ not-false _ at-used.if-not-all_within.false-raw in
     rw (node_places a.b a.n a.w.now start.requires.1, used) c.zero_words.ensures
 
-pub places-ok-spec : {M : Type 1} → statement M
-places-ok-spec =
+pub places_ok_spec : {M : Type 1} → statement M
+places_ok_spec =
     tie.close
     (tie.spec
     (λ c. search rules)

@@ -19,39 +19,39 @@ of_size : (w : List ℕ) (b n : ℕ) (r : Bool) → get_or w 0 0 ≡ n → (eqb 
     → r ≡ (size_known w && (every (λ l. leb l b) (take 32 (drop 2 w)) && none_past_size w))
 of_size w b n r e known places = rw (e, known) places
 
-returns : tie.Need-returns
+returns : tie.Need-returns-in-0
 unfolding listed_size member
-returns c = of_size c.before.before.before.before.args.w.now _ 0 _ c.before.match.keys1 refl c.places-ok.ensures
+returns c = of_size c.args.w.now _ 0 _ c.in-0.is refl c.places_ok.ensures
 
-returns_2 : tie.Need-returns-2
+returns_2 : tie.Need-returns-in-1
 unfolding listed_size member
-returns_2 c = of_size c.before.before.before.before.args.w.now _ 1 _ c.before.match.keys2 refl c.places-ok2.ensures
+returns_2 c = of_size c.args.w.now _ 1 _ c.in-1.is refl c.places_ok-in-1.ensures
 
-returns_3 : tie.Need-returns-3
+returns_3 : tie.Need-returns-in-2
 unfolding listed_size member
-returns_3 c = of_size c.before.before.before.before.args.w.now _ 2 _ c.before.match.keys3 refl c.places-ok3.ensures
+returns_3 c = of_size c.args.w.now _ 2 _ c.in-2.is refl c.places_ok-in-2.ensures
 
-returns_4 : tie.Need-returns-4
+returns_4 : tie.Need-returns-in-4
 unfolding listed_size member
-returns_4 c = of_size c.before.before.before.before.args.w.now _ 4 _ c.before.match.keys4 refl c.places-ok4.ensures
+returns_4 c = of_size c.args.w.now _ 4 _ c.in-4.is refl c.places_ok-in-4.ensures
 
-returns-5 : tie.Need-returns-5
+returns-5 : tie.Need-returns-in-8
 unfolding listed_size member
-returns-5 c = of_size c.before.before.before.before.args.w.now _ 8 _ c.before.match.keys5 refl c.places-ok5.ensures
+returns-5 c = of_size c.args.w.now _ 8 _ c.in-8.is refl c.places_ok-in-8.ensures
 
-returns-6 : tie.Need-returns-6
+returns-6 : tie.Need-returns-in-16
 unfolding listed_size member
-returns-6 c = of_size c.before.before.before.before.args.w.now _ 16 _ c.before.match.keys6 refl c.places-ok6.ensures
+returns-6 c = of_size c.args.w.now _ 16 _ c.in-16.is refl c.places_ok-in-16.ensures
 
-returns-7 : tie.Need-returns-7
+returns-7 : tie.Need-returns-in-32
 unfolding listed_size member
-returns-7 c = of_size c.before.before.before.before.args.w.now _ 32 _ c.before.match.keys7 refl c.places-ok7.ensures
+returns-7 c = of_size c.args.w.now _ 32 _ c.in-32.is refl c.places_ok-in-32.ensures
 
-returns-8 : tie.Need-returns-8
+returns-8 : tie.Need-returns-in_default
 unfolding listed_size member
 returns-8 c =
-    let z = get_or c.before.before.before.args.w.now 0 0 in
-    let others = c.match.rest in
+    let z = get_or c.args.w.now 0 0 in
+    let others = c.in_default.in_default-own.rest in
     let first = others.0.0.0 in
     rw (
       ne_eqb z 0 first.0.0.0.1,
@@ -63,8 +63,8 @@ returns-8 c =
       ne_eqb z 32 others.1,
     )
 
-pub sized-ok-spec : {M : Type 1} → statement M
-sized-ok-spec =
+pub sized_ok_spec : {M : Type 1} → statement M
+sized_ok_spec =
     tie.close
     (tie.spec
     (λ c. search rules)

@@ -12,38 +12,38 @@ use Rattle.sound_records.proofs.tags_ok.Statement.{statement}
 use Rattle.sound_records.proofs.tags_ok.Tie as tie
 
 -- no tags
-returns : tie.Need-returns
+returns : tie.Need-returns-then-c-eq0
 unfolding ascending
 returns c =
-    let w = c.before.before.before.before.args.w.now in
-    let k : get_or w 1 0 ≡ 0 = omega (arith, c.before.if1.true) in
+    let w = c.args.w.now in
+    let k : get_or w 1 0 ≡ 0 = omega (arith, c.if-c-eq0.true) in
     rw k c.zero_words.ensures
 
-returns_2 : tie.Need-returns-2
-returns_2 c = rw (lt-leb _ _ c.if2.true)
+returns_2 : tie.Need-returns-then-c-gt-MOST_COUNT
+returns_2 c = rw (lt-leb _ _ c.if-c-gt-MOST_COUNT.true)
 
-returns_3 : tie.Need-returns-3
+returns_3 : tie.Need-returns-then-not-is_ascending
 returns_3 c =
     let d = c.before.before.before in
-    let w = d.before.before.before.before.args.w.now in
+    let w = d.args.w.now in
     let k = get_or w 1 0 in
     let e : 2 + k - 2 ≡ k = omega arith in
-    let f = sym c.before.is-ascending.ensures ∙ not-true _ c.if3.true in
+    let f = sym c.is_ascending.ensures ∙ not-true _ c.if-not-is_ascending.true-raw in
     let q : ascending (take k (drop 2 w)) ≡ false = ap (λ (m : ℕ). ascending (take m (drop 2 w))) (sym e) ∙ f in
-    rw (le-leb _ _ d.if2.false, q)
+    rw (le-leb _ _ d.if-c-gt-MOST_COUNT.false, q)
 
-returns_4 : tie.Need-returns-4
+returns_4 : tie.Need-returns
 returns_4 c =
     let d = c.before.before.before.before in
-    let w = d.before.before.before.before.args.w.now in
+    let w = d.args.w.now in
     let k = get_or w 1 0 in
     let e : 2 + k - 2 ≡ k = omega arith in
-    let f = sym c.before.before.is-ascending.ensures ∙ not-false _ c.before.if3.false in
+    let f = sym c.is_ascending.ensures ∙ not-false _ c.if-not-is_ascending.false-raw in
     let q : ascending (take k (drop 2 w)) ≡ true = ap (λ (m : ℕ). ascending (take m (drop 2 w))) (sym e) ∙ f in
-    rw (le-leb _ _ d.if2.false, q) c.zero-words2.ensures
+    rw (le-leb _ _ d.if-c-gt-MOST_COUNT.false, q) c.zero_words-2.ensures
 
-pub tags-ok-spec : {M : Type 1} → statement M
-tags-ok-spec =
+pub tags_ok_spec : {M : Type 1} → statement M
+tags_ok_spec =
     tie.close
     (tie.spec
     (λ c. search rules)

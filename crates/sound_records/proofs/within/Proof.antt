@@ -3,11 +3,11 @@ use borrow.Author.Tests.{le-leb, lt-leb}
 use Rattle.sound_records.proofs.within.Statement.{statement}
 use Rattle.sound_records.proofs.within.Tie as tie
 
-returns : tie.Need-returns
-returns c = rw (lt-leb _ _ c.if1.true)
+returns : tie.Need-returns-then-n-lo
+returns c = rw (lt-leb _ _ c.if-n-lo.true)
 
-returns_2 : tie.Need-returns-2
-returns_2 c = rw (le-leb _ _ c.if1.false)
+returns_2 : tie.Need-returns
+returns_2 c = rw (le-leb _ _ c.if-n-lo.false)
 
-pub within-spec : {M : Type 1} → statement M
-within-spec = tie.close (tie.spec returns returns_2)
+pub within_spec : {M : Type 1} → statement M
+within_spec = tie.close (tie.spec returns returns_2)

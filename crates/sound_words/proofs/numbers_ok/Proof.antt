@@ -16,11 +16,11 @@ returns c =
     let at_H = at-B.before in
     let at-config = at_H.before in
     c.all_true.ensures
-    ∙ rw (at-config.config-ok.ensures, at_H.within.ensures, at-B.within2.ensures)
+    ∙ rw (at-config.config_ok.ensures, at_H.within.ensures, at-B.within-2.ensures)
     (rw (at-node-words.nodes_fit.ensures, at-bucket-words.buckets_fit.ensures, at_head.size_at.ensures) refl)
 
-pub numbers-ok-spec : {M : Type 1} → statement M
-numbers-ok-spec =
+pub numbers_ok_spec : {M : Type 1} → statement M
+numbers_ok_spec =
     tie.close
     (tie.spec
     (λ c. search rules)

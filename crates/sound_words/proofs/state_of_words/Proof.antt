@@ -6,7 +6,7 @@ use borrow.Author.Rules.{rules}
 use Rattle.sound_words.proofs.state_of_words.Statement.{statement}
 use Rattle.sound_words.proofs.state_of_words.Tie as tie
 
-used-tasks-requires : tie.Need-used-tasks-requires
+used-tasks-requires : tie.Need-used_tasks-ts-requires
 used-tasks-requires c κs =
     let start = c.before.before.before.before.before in
     let w = start.args.w.now in
@@ -15,10 +15,10 @@ used-tasks-requires c κs =
 
 returns : tie.Need-returns
 unfolding state_of_words
-returns c = let at_tasks = c.before.before.before.before.before.before in rw at_tasks.used-tasks.ensures refl
+returns c = let at_tasks = c.before.before.before.before.before.before in rw at_tasks.used_tasks-ts.ensures refl
 
-pub state-of-words-spec : {M : Type 1} → statement M
-state-of-words-spec =
+pub state_of_words_spec : {M : Type 1} → statement M
+state_of_words_spec =
     tie.close
     (tie.spec
     (λ c. search rules)

@@ -10,5 +10,5 @@ returns c =
     let start = c.before.before in
     λ y k h. c.zero_words.ensures ∙ unused_zeros start.args.w.now start.args.at start.requires.1 y k h
 
-pub unused-ok-spec : {M : Type 1} → statement M
-unused-ok-spec = tie.close (tie.spec (λ c κs. search rules) returns)
+pub unused_ok_spec : {M : Type 1} → statement M
+unused_ok_spec = tie.close (tie.spec (λ c κs. search rules) returns)

@@ -21,12 +21,12 @@ returns c =
     let p0 = p1.before in
     let start = p0.before.before in
     let is = used start.args.w.now start.args.n start.requires.2 in
-    rw (p0.task_at.ensures, p1.used-task.ensures ∙ is 1 (omega arith), p2.used-task2.ensures ∙ is 2 (omega arith))
-    (rw (p3.used-task3.ensures ∙ is 3 (omega arith), p4.used-task4.ensures ∙ is 4 (omega arith), p5.used-task5.ensures ∙ is 5 (omega arith))
-    (rw (p6.used-task6.ensures ∙ is 6 (omega arith), p7.used-task7.ensures ∙ is 7 (omega arith)) refl))
+    rw (p0.task_at.ensures, p1.used_task.ensures ∙ is 1 (omega arith), p2.used_task-2.ensures ∙ is 2 (omega arith))
+    (rw (p3.used_task-3.ensures ∙ is 3 (omega arith), p4.used_task-4.ensures ∙ is 4 (omega arith), p5.used_task-5.ensures ∙ is 5 (omega arith))
+    (rw (p6.used_task-6.ensures ∙ is 6 (omega arith), p7.used_task-7.ensures ∙ is 7 (omega arith)) refl))
 
-pub used-tasks-spec : {M : Type 1} → statement M
-used-tasks-spec =
+pub used_tasks_spec : {M : Type 1} → statement M
+used_tasks_spec =
     tie.close
     (tie.spec
     (λ c κs. search rules)

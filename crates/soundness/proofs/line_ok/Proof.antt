@@ -7,28 +7,28 @@ use borrow.Author.Rules.{rules}
 use Rattle.soundness.proofs.line_ok.Statement.{statement}
 use Rattle.soundness.proofs.line_ok.Tie as tie
 
-returns : tie.Need-returns
+returns : tie.Need-returns-then-call-lt1
 unfolding member
-returns c = rw (lines_none c.before.args.call (omega arith))
+returns c = rw (lines_none c.args.call (omega arith))
 
-returns_2 : tie.Need-returns-2
+returns_2 : tie.Need-returns-then-call-lt3
 returns_2 c =
-    rw (lines_change c.before.before.before.before.args.call (omega arith) (omega arith)) c.among.ensures
+    rw (lines_change c.args.call (omega arith) (omega arith)) c.among.ensures
 
-returns_3 : tie.Need-returns-3
+returns_3 : tie.Need-returns-then-call-lt4
 returns_3 c =
-    rw (lines_look c.before.before.before.before.before.args.call (omega arith) (omega arith)) c.among2.ensures
+    rw (lines_look c.args.call (omega arith) (omega arith)) c.among-then-call-lt4.ensures
 
-returns_4 : tie.Need-returns-4
+returns_4 : tie.Need-returns-then-call-lt6
 returns_4 c =
-    rw (lines_resize c.before.before.before.before.before.before.args.call (omega arith) (omega arith)) c.among3.ensures
+    rw (lines_resize c.args.call (omega arith) (omega arith)) c.among-then-call-lt6.ensures
 
-returns-5 : tie.Need-returns-5
+returns-5 : tie.Need-returns
 unfolding member
-returns-5 c = rw (lines_past c.before.before.before.before.args.call (omega arith))
+returns-5 c = rw (lines_past c.args.call (omega arith))
 
-pub line-ok-spec : {M : Type 1} → statement M
-line-ok-spec =
+pub line_ok_spec : {M : Type 1} → statement M
+line_ok_spec =
     tie.close
     (tie.spec
     returns

@@ -9,43 +9,43 @@ use borrow.Author.Rules.{rules}
 use Rattle.soundness.proofs.running_ok.Statement.{statement}
 use Rattle.soundness.proofs.running_ok.Tie as tie
 
-returns : tie.Need-returns
+returns : tie.Need-returns-then-t-k
 unfolding sound_running bucket_link
 returns c =
     λ y e t h b.
-    let past-T : y.state.config.tasks ≤ c.before.before.args.k = rw t c.if1.true in
+    let past-T : y.state.config.tasks ≤ c.args.k = rw t c.if-t-k.true in
     rw (le-ltb _ _ past-T)
 
-returns_2 : tie.Need-returns-2
+returns_2 : tie.Need-returns-then-not-line_ok
 unfolding sound_running bucket_link
 returns_2 c =
     let at-T = c.before.before in
     λ y e t h b.
-    let below_T : at-T.before.before.args.k < y.state.config.tasks = rw t at-T.if1.false in
-    rw (lt-ltb _ _ below_T, sym c.before.line_ok.ensures ∙ not-true _ c.if2.true)
+    let below_T : at-T.args.k < y.state.config.tasks = rw t at-T.if-t-k.false in
+    rw (lt-ltb _ _ below_T, sym c.line_ok.ensures ∙ not-true _ c.if-not-line_ok.true-raw)
 
-returns_3 : tie.Need-returns-3
+returns_3 : tie.Need-returns-then-c-gt-PLACES
 unfolding sound_running bucket_link
 returns_3 c =
     let at_line = c.before.before in
     let at-T = at_line.before.before in
     λ y e t h b.
-    let below_T : at-T.before.before.args.k < y.state.config.tasks = rw t at-T.if1.false in
-    let line = sym at_line.before.line_ok.ensures ∙ not-false _ at_line.if2.false in
-    rw (lt-ltb _ _ below_T, line, lt-leb _ _ c.if3.true)
+    let below_T : at-T.args.k < y.state.config.tasks = rw t at-T.if-t-k.false in
+    let line = sym at_line.line_ok.ensures ∙ not-false _ at_line.if-not-line_ok.false-raw in
+    rw (lt-ltb _ _ below_T, line, lt-leb _ _ c.if-c-gt-PLACES.true)
 
-returns_4 : tie.Need-returns-4
+returns_4 : tie.Need-returns-then-not-tag_ok
 unfolding sound_running bucket_link
 returns_4 c =
     let at_i = c.before.before in
     let at_line = at_i.before.before in
     let at-T = at_line.before.before in
     λ y e t h b.
-    let below_T : at-T.before.before.args.k < y.state.config.tasks = rw t at-T.if1.false in
-    let line = sym at_line.before.line_ok.ensures ∙ not-false _ at_line.if2.false in
-    rw (lt-ltb _ _ below_T, line, le-leb _ _ at_i.if3.false, sym c.before.tag-ok.ensures ∙ not-true _ c.if4.true)
+    let below_T : at-T.args.k < y.state.config.tasks = rw t at-T.if-t-k.false in
+    let line = sym at_line.line_ok.ensures ∙ not-false _ at_line.if-not-line_ok.false-raw in
+    rw (lt-ltb _ _ below_T, line, le-leb _ _ at_i.if-c-gt-PLACES.false, sym c.tag_ok.ensures ∙ not-true _ c.if-not-tag_ok.true-raw)
 
-returns-5 : tie.Need-returns-5
+returns-5 : tie.Need-returns-then-not-links_ok
 unfolding sound_running bucket_link
 returns-5 c =
     let at_tag = c.before.before in
@@ -53,12 +53,12 @@ returns-5 c =
     let at_line = at_i.before.before in
     let at-T = at_line.before.before in
     λ y e t h b.
-    let below_T : at-T.before.before.args.k < y.state.config.tasks = rw t at-T.if1.false in
-    let line = sym at_line.before.line_ok.ensures ∙ not-false _ at_line.if2.false in
-    let tag = sym at_tag.before.tag-ok.ensures ∙ not-false _ at_tag.if4.false in
-    rw (lt-ltb _ _ below_T, line, le-leb _ _ at_i.if3.false, tag, sym (c.before.links-ok.ensures y e h) ∙ not-true _ c.if5.true)
+    let below_T : at-T.args.k < y.state.config.tasks = rw t at-T.if-t-k.false in
+    let line = sym at_line.line_ok.ensures ∙ not-false _ at_line.if-not-line_ok.false-raw in
+    let tag = sym at_tag.tag_ok.ensures ∙ not-false _ at_tag.if-not-tag_ok.false-raw in
+    rw (lt-ltb _ _ below_T, line, le-leb _ _ at_i.if-c-gt-PLACES.false, tag, sym (c.links_ok.ensures y e h) ∙ not-true _ c.if-not-links_ok.true-raw)
 
-returns-6 : tie.Need-returns-6
+returns-6 : tie.Need-returns
 unfolding sound_running bucket_link
 returns-6 c =
     let at-links = c.before.before in
@@ -67,14 +67,14 @@ returns-6 c =
     let at_line = at_i.before.before in
     let at-T = at_line.before.before in
     λ y e t h b.
-    let below_T : at-T.before.before.args.k < y.state.config.tasks = rw t at-T.if1.false in
-    let line = sym at_line.before.line_ok.ensures ∙ not-false _ at_line.if2.false in
-    let tag = sym at_tag.before.tag-ok.ensures ∙ not-false _ at_tag.if4.false in
-    let links = sym (at-links.before.links-ok.ensures y e h) ∙ not-false _ at-links.if5.false in
-    rw (lt-ltb _ _ below_T, line, le-leb _ _ at_i.if3.false, tag, links, b) c.all-within.ensures
+    let below_T : at-T.args.k < y.state.config.tasks = rw t at-T.if-t-k.false in
+    let line = sym at_line.line_ok.ensures ∙ not-false _ at_line.if-not-line_ok.false-raw in
+    let tag = sym at_tag.tag_ok.ensures ∙ not-false _ at_tag.if-not-tag_ok.false-raw in
+    let links = sym (at-links.links_ok.ensures y e h) ∙ not-false _ at-links.if-not-links_ok.false-raw in
+    rw (lt-ltb _ _ below_T, line, le-leb _ _ at_i.if-c-gt-PLACES.false, tag, links, b) c.all_within.ensures
 
-pub running-ok-spec : {M : Type 1} → statement M
-running-ok-spec =
+pub running_ok_spec : {M : Type 1} → statement M
+running_ok_spec =
     tie.close
     (tie.spec
     returns

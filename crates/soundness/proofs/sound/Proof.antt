@@ -8,7 +8,7 @@ use Rattle.soundness.proofs.sound.Tie as tie
 
 returns : tie.Need-returns
 unfolding told
-returns c = ap (λ (d : Checked). d.sound) c.check.ensures
+returns c = ap (λ (d : Checked). d.sound) c.check-d.ensures
 
-pub sound-spec : {M : Type 1} → statement M
-sound-spec = tie.close (tie.spec (λ c κs. search rules) returns)
+pub sound_spec : {M : Type 1} → statement M
+sound_spec = tie.close (tie.spec (λ c κs. search rules) returns)

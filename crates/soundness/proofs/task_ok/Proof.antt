@@ -5,15 +5,15 @@ use borrow.Author.Rules.{rules}
 use Rattle.soundness.proofs.task_ok.Statement.{statement}
 use Rattle.soundness.proofs.task_ok.Tie as tie
 
-returns : tie.Need-returns
+returns : tie.Need-returns-then-running
 returns c =
-    let a = c.before.before.before.args in
-    λ y e t h b. c.running-ok.ensures y e t h b ∙ sym (task_runs y a.k a.c c.before.if1.true)
+    let a = c.args in
+    λ y e t h b. c.running_ok.ensures y e t h b ∙ sym (task_runs y a.k a.c c.if-running.true)
 
-returns_2 : tie.Need-returns-2
+returns_2 : tie.Need-returns
 returns_2 c =
-    let a = c.before.before.before.args in
-    λ y e t h b. c.idle-ok.ensures ∙ sym (task_idle y a.k a.c c.before.if1.false)
+    let a = c.args in
+    λ y e t h b. c.idle_ok.ensures ∙ sym (task_idle y a.k a.c c.if-running.false)
 
-pub task-ok-spec : {M : Type 1} → statement M
-task-ok-spec = tie.close (tie.spec (λ c κs. search rules) returns (λ c κs. search rules) returns_2)
+pub task_ok_spec : {M : Type 1} → statement M
+task_ok_spec = tie.close (tie.spec (λ c κs. search rules) returns (λ c κs. search rules) returns_2)

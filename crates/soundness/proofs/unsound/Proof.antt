@@ -6,7 +6,7 @@ use Rattle.soundness.proofs.unsound.Tie as tie
 
 returns : tie.Need-returns
 unfolding told
-returns c = λ x. rw c.idle.ensures
+returns c = λ x. rw c.idle-c.ensures
 
-pub unsound-spec : {M : Type 1} → statement M
-unsound-spec = tie.close (tie.spec (λ c κs. search rules) returns)
+pub unsound_spec : {M : Type 1} → statement M
+unsound_spec = tie.close (tie.spec (λ c κs. search rules) returns)

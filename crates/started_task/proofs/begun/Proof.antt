@@ -4,28 +4,28 @@ use borrow.Author.Rules.{rules}
 use Rattle.started_task.proofs.begun.Statement.{statement}
 use Rattle.started_task.proofs.begun.Tie as tie
 
-returns : tie.Need-returns
+returns : tie.Need-returns-in-Insert
 unfolding started
-returns c = rw c.before.enum_told.given.1 c.fresh_task.ensures
+returns c = rw c.in-Insert.is c.fresh_task.ensures
 
-returns_2 : tie.Need-returns-2
+returns_2 : tie.Need-returns-in-Remove
 unfolding started
-returns_2 c = rw c.before.enum-told2.given.1 c.fresh-task2.ensures
+returns_2 c = rw c.in-Remove.is c.fresh_task-in-Remove.ensures
 
-returns_3 : tie.Need-returns-3
+returns_3 : tie.Need-returns-in-Contains
 unfolding started
-returns_3 c = rw c.before.enum-told3.given.1 c.fresh-task3.ensures
+returns_3 c = rw c.in-Contains.is c.fresh_task-in-Contains.ensures
 
-returns_4 : tie.Need-returns-4
+returns_4 : tie.Need-returns-in-Grow
 unfolding started
-returns_4 c = rw c.before.enum-told4.given.1 c.fresh-task4.ensures
+returns_4 c = rw c.in-Grow.is c.fresh_task-in-Grow.ensures
 
-returns-5 : tie.Need-returns-5
+returns-5 : tie.Need-returns-in-Shrink
 unfolding started
-returns-5 c = rw c.before.enum-told5.given.1 c.fresh-task5.ensures
+returns-5 c = rw c.in-Shrink.is c.fresh_task-in-Shrink.ensures
 
-pub begun-spec : {M : Type 1} → statement M
-begun-spec =
+pub begun_spec : {M : Type 1} → statement M
+begun_spec =
     tie.close
     (tie.spec
     (λ c. search rules)

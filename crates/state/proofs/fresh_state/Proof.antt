@@ -6,7 +6,7 @@ use Rattle.state.proofs.fresh_state.Tie as tie
 
 returns : tie.Need-returns
 unfolding state_of
-returns c = rw (c.before.idle.ensures, c.last_task.ensures)
+returns c = rw (c.idle-c.ensures, c.last_task-chosen.ensures)
 
-pub fresh-state-spec : {M : Type 1} → statement M
-fresh-state-spec = tie.close (tie.spec (λ c κs. search rules) (λ c κs. search rules) returns)
+pub fresh_state_spec : {M : Type 1} → statement M
+fresh_state_spec = tie.close (tie.spec (λ c κs. search rules) (λ c κs. search rules) returns)

@@ -7,7 +7,7 @@ use Rattle.state.proofs.zero_state.Statement.{statement}
 use Rattle.state.proofs.zero_state.Tie as tie
 
 returns : tie.Need-returns
-returns c = c.fresh-state.ensures ∙ ap (λ (g : Config). state_of g 0 0) c.before.zero_config.ensures
+returns c = c.fresh_state.ensures ∙ ap (λ (g : Config). state_of g 0 0) c.zero_config-g.ensures
 
-pub zero-state-spec : {M : Type 1} → statement M
-zero-state-spec = tie.close (tie.spec (λ c κs. search rules) (λ c κs. search rules) returns)
+pub zero_state_spec : {M : Type 1} → statement M
+zero_state_spec = tie.close (tie.spec (λ c κs. search rules) (λ c κs. search rules) returns)

@@ -5,19 +5,19 @@ use borrow.Author.Rules.{rules}
 use Rattle.timeline.proofs.finish.Statement.{statement}
 use Rattle.timeline.proofs.finish.Tie as tie
 
-returns : tie.Need-returns
+returns : tie.Need-returns-then-closed
 returns c =
     let at-end-input = c.before.before.before.before.before.before in
     let at-if1 = at-end-input.before.before.before.before in
     let entry = at-if1.before.before.before.before.before in
-    ends_closed entry.args.t _ _ _ at-end-input.end-input.result _ _ _ _ at-if1.if1.true at-end-input.end-input.ensures
+    ends_closed entry.args.t _ _ _ at-end-input.end_input-d.result _ _ _ _ at-if1.if-closed.true at-end-input.end_input-d.ensures
 
-returns_2 : tie.Need-returns-2
+returns_2 : tie.Need-returns
 returns_2 c =
     let at-handle-line = c.before.before.before.before.before.before in
     let at-if1 = at-handle-line.before.before.before.before.before in
     let entry = at-if1.before.before.before.before.before in
-    ends_open entry.args.t _ _ _ at-handle-line.handle-line.result _ _ _ _ _ at-if1.if1.false (omega arith) at-handle-line.handle-line.ensures
+    ends_open entry.args.t _ _ _ at-handle-line.handle_line-d.result _ _ _ _ _ at-if1.if-closed.false (omega arith) at-handle-line.handle_line-d.ensures
 
 pub finish_spec : {M : Type 1} → statement M
 finish_spec =

@@ -8,7 +8,7 @@ use Rattle.timeline.proofs.new_timeline.Tie as tie
 
 returns : tie.Need-returns
 unfolding new_timeline
-returns c = ap (λ (s : Session). timeline s 0) c.new_session.ensures
+returns c = ap (λ (s : Session). timeline s 0) c.new_session-session.ensures
 
-pub new-timeline-spec : {M : Type 1} → statement M
-new-timeline-spec = tie.close (tie.spec (λ c κs. search rules) returns)
+pub new_timeline_spec : {M : Type 1} → statement M
+new_timeline_spec = tie.close (tie.spec (λ c κs. search rules) returns)

@@ -8,28 +8,28 @@ use borrow.Author.Rules.{rules}
 use Rattle.timeline.proofs.take_line.Statement.{statement}
 use Rattle.timeline.proofs.take_line.Tie as tie
 
-array-share-prefix-printed : tie.Need-array-share-prefix-printed
+array-share-prefix-printed : tie.Need-slice_bounds-printed-end
 array-share-prefix-printed c =
     let at-handle-line = c.before.before.before.before.before.before.before.before.before.before.before.before in
     let at_room = at-handle-line.before.before.before.before.before in
     let entry = at_room.before.before.before.before.before in
-    let h = at-handle-line.handle-line in
-    omega (arith, printed_within entry.args.t _ _ _ h.result _ _ _ _ h.ensures (sym at_room.room.ensures))
+    let h = at-handle-line.handle_line-d in
+    omega (arith, printed_within entry.args.t _ _ _ h.result _ _ _ _ h.ensures (sym at_room.room-printed.ensures))
 
-slice-aggregate-all-bytes : tie.Need-slice-aggregate-all-bytes
+slice-aggregate-all-bytes : tie.Need-slice_bounds-all_bytes-end
 slice-aggregate-all-bytes c =
     let at-handle-line = c.before.before.before.before.before.before.before.before.before.before.before.before.before in
     let at_room = at-handle-line.before.before.before.before.before in
     let entry = at_room.before.before.before.before.before in
-    let h = at-handle-line.handle-line in
-    let within = printed_within entry.args.t _ _ _ h.result _ _ _ _ h.ensures (sym at_room.room.ensures) in
-    sym (length-take-le h.result.printed _ (omega (arith, within, h.auto.1.1.1.1.0, at_room.room.ensures)))
+    let h = at-handle-line.handle_line-d in
+    let within = printed_within entry.args.t _ _ _ h.result _ _ _ _ h.ensures (sym at_room.room-printed.ensures) in
+    sym (length-take-le h.result.printed _ (omega (arith, within, h.auto.out, at_room.room-printed.ensures)))
 
-same_length : tie.Need-same-length
+same_length : tie.Need-shape_of-ns
 same_length c =
     let at_front = c.before.before.before.before.before.before.before.before.before in
     let at-handle-line = at_front.before.before.before.before.before.before.before.before.before in
-    at-handle-line.handle-line.auto.1.0
+    at-handle-line.handle_line-d.auto.ns
 
 returns : tie.Need-returns
 returns c =
@@ -40,14 +40,14 @@ returns c =
     let at-handle-line = at-event-line.before.before.before.before.before.before.before in
     let at_room = at-handle-line.before.before.before.before.before in
     let entry = at_room.before.before.before.before.before in
-    let h = at-handle-line.handle-line in
+    let h = at-handle-line.handle_line-d in
     let line = closed_line entry.args.line.now in
-    takes entry.args.t _ _ line h.result _ _ _ _ h.ensures (sym at_room.room.ensures) _ _ _ _ _ _ _ c.taken.result
-    at-event-line.event-line.ensures at_front.front.ensures at-all-bytes.all-bytes.ensures
-    at-count-after.count_after.ensures c.taken.ensures
+    takes entry.args.t _ _ line h.result _ _ _ _ h.ensures (sym at_room.room-printed.ensures) _ _ _ _ _ _ _ c.taken.result
+    at-event-line.event_line-asked.ensures at_front.front-f.ensures at-all-bytes.all_bytes-e.ensures
+    at-count-after.count_after-events.ensures c.taken.ensures
 
-pub take-line-spec : {M : Type 1} → statement M
-take-line-spec =
+pub take_line_spec : {M : Type 1} → statement M
+take_line_spec =
     tie.close
     (tie.spec
     (λ c κs. search rules)

@@ -13,13 +13,13 @@ use Rattle.timeline_program.proofs.finish.Tie as tie
 len : (c : tie.Start) → length c.args.p.line.bytes ≡ 41
 len c = search rules
 
-add-result : tie.Need-overflow-add-result
+add-result : tie.Need-overflow_add-result
 add-result c =
     let at-finish = c.before.before.before.before.before.before in
     let at-slice-known3 = at-finish.before.before.before.before.before in
     let entry = at-slice-known3.before.before.before in
     let a = entry.args in
-    omega (arith, append_within _ _ _ _ at-finish.finish.ensures.wrote, rest_length a.out.now a.due, at-slice-known3, entry.requires)
+    omega (arith, append_within _ _ _ _ at-finish.finish-n.ensures.wrote, rest_length a.out.now a.due, at-slice-known3, entry.requires)
 
 returns : tie.Need-returns
 returns c =
@@ -28,8 +28,8 @@ returns c =
     let entry = at-cut-off.before.before.before.before in
     let a = entry.args in
     let done =
-    ends a.t a.ns.now a.bs.now a.due a.out.now entry.requires a.p _ (ap not at-cut-off.cut_off.ensures) at-finish.finish.result
-    _ _ _ at-finish.finish.ensures in
+    ends a.t a.ns.now a.bs.now a.due a.out.now entry.requires a.p _ (ap not at-cut-off.cut_off-cut.ensures) at-finish.finish-n.result
+    _ _ _ at-finish.finish-n.ensures in
     (done.0, (done.1, len entry))
 
 pub finish_spec : {M : Type 1} → statement M

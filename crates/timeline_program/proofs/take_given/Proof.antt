@@ -15,29 +15,29 @@ use Rattle.timeline_program.proofs.take_given.Tie as tie
 len : (c : tie.Start) → length c.args.q.line.bytes ≡ 41
 len c = search rules
 
-array-share-prefix-b : tie.Need-array-share-prefix-b
+array-share-prefix-b : tie.Need-slice_bounds-b-end
 array-share-prefix-b c =
     let at-line-length = c.before.before.before in
     let entry = at-line-length.before.before.before.before.before.before.before in
     let l : length entry.args.q.line.bytes ≡ 41 = len entry in
-    omega (arith, at-line-length.line_length.ensures.0)
+    omega (arith, at-line-length.line_length-n.ensures.0)
 
-slice-aggregate-take-line : tie.Need-slice-aggregate-take-line
+slice-aggregate-take-line : tie.Need-slice_bounds-take_line-end
 slice-aggregate-take-line c =
     let at-line-length = c.before.before.before.before in
     let entry = at-line-length.before.before.before.before.before.before.before in
     let l : length entry.args.q.line.bytes ≡ 41 = len entry in
-    sym (length-take-le at-line-length.line_length.result entry.args.q.line.bytes (omega (arith, at-line-length.line_length.ensures.0)))
+    sym (length-take-le at-line-length.line_length-n.result entry.args.q.line.bytes (omega (arith, at-line-length.line_length-n.ensures.0)))
 
-add-t21 : tie.Need-overflow-add-t21
+add-t21 : tie.Need-overflow_add-result
 add-t21 c =
     let at-take-line = c.before.before.before.before.before.before.before in
     let at-slice-known3 = at-take-line.before.before.before.before.before.before.before.before.before.before in
     let entry = at-slice-known3.before.before.before in
     let a = entry.args in
-    omega (arith, append_within _ _ _ _ at-take-line.take_line.ensures.wrote, rest_length a.out.now a.due, at-slice-known3, entry.requires)
+    omega (arith, append_within _ _ _ _ at-take-line.take_line-d.ensures.wrote, rest_length a.out.now a.due, at-slice-known3, entry.requires)
 
-returns : tie.Need-returns
+returns : tie.Need-returns-then-has_line
 returns c =
     let at-take-line = c.before.before.before.before.before.before.before in
     let at-line-length = at-take-line.before.before.before.before.before.before in
@@ -45,19 +45,19 @@ returns c =
     let at-has-line = at-if1.before in
     let entry = at-has-line.before.before.before.before in
     let a = entry.args in
-    line_taken a.t a.ns.now a.bs.now a.due a.out.now entry.requires a.q (sym at-has-line.has-line.ensures ∙ at-if1.if1.true) _
-    at-line-length.line_length.ensures.1 at-take-line.take_line.result _ _ _ at-take-line.take_line.ensures
+    line_taken a.t a.ns.now a.bs.now a.due a.out.now entry.requires a.q (sym at-has-line.has_line.ensures ∙ at-if1.if-has_line.true) _
+    at-line-length.line_length-n.ensures.1 at-take-line.take_line-d.result _ _ _ at-take-line.take_line-d.ensures
 
-returns_2 : tie.Need-returns-2
+returns_2 : tie.Need-returns
 returns_2 c =
     let at-has-line = c.before in
     let entry = at-has-line.before.before.before.before in
     let a = entry.args in
     took_none timeline_output next prints (running a.t a.ns.now a.bs.now) a.due a.out.now a.q
-    (sym at-has-line.has-line.ensures ∙ c.if1.false)
+    (sym at-has-line.has_line.ensures ∙ c.if-has_line.false)
 
-pub take-given-spec : {M : Type 1} → statement M
-take-given-spec =
+pub take_given_spec : {M : Type 1} → statement M
+take_given_spec =
     tie.close
     (tie.spec
     (λ c κs. search rules)

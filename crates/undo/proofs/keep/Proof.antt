@@ -10,10 +10,10 @@ returns c =
     let at-written-bucket = c.before in
     let at-node-words = at-written-bucket.before in
     let at-written-node = at-node-words.before in
-    let a = at-written-node.before.before.before.args in
+    let a = at-written-node.args in
     let bs = a.bs.now in
-    kept_is (machine_of a.s a.ns.now bs) a.c (at-written-node.written_node.ensures bs) at-node-words.node_words.ensures
-    (at-written-bucket.written_bucket.ensures bs) c.load.ensures
+    kept_is (machine_of a.s a.ns.now bs) a.c (at-written-node.written_node-node.ensures bs) at-node-words.node_words-words.ensures
+    (at-written-bucket.written_bucket-bucket.ensures bs) c.load-contents.ensures
 
 pub keep_spec : {M : Type 1} → statement M
 keep_spec =

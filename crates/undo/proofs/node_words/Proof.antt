@@ -10,21 +10,21 @@ use Rattle.undo.specs.Undo.{node_words}
 use Rattle.undo.proofs.node_words.Statement.{statement}
 use Rattle.undo.proofs.node_words.Tie as tie
 
-returns : tie.Need-returns
+returns : tie.Need-returns-then-ns-k
 unfolding node_words
-returns c = rw (le-ltb _ _ c.if1.true)
+returns c = rw (le-ltb _ _ c.if-ns-k.true)
 
-returns_2 : tie.Need-returns-2
+returns_2 : tie.Need-returns
 unfolding node_words
 returns_2 c =
     let at-if1 = c.before.before in
-    let a = at-if1.before.before.args in
+    let a = at-if1.args in
     let p = a.ns.now in
-    let here : a.k < length p / 34 = at-if1.if1.false in
+    let here : a.k < length p / 34 = at-if1.if-ns-k.false in
     c.first_words.ensures ∙ ap (λ (w : List ℕ). take 34 w) (rest p (34 * a.k)) ∙ rw (lt-ltb _ _ here)
 
-pub node-words-spec : {M : Type 1} → statement M
-node-words-spec =
+pub node_words_spec : {M : Type 1} → statement M
+node_words_spec =
     tie.close
     (tie.spec
     returns

@@ -8,8 +8,8 @@ returns : tie.Need-returns
 unfolding nodes_back buckets_back
 returns c = search rules
 
-pub put-back-spec : {M : Type 1} → statement M
-put-back-spec =
+pub put_back_spec : {M : Type 1} → statement M
+put_back_spec =
     tie.close
     (tie.spec
     (λ c. search rules)

@@ -19,13 +19,13 @@ returns c =
     let a = entry.args in
     let out = a.out.now in
     let v = output_words a.o in
-    let e = at-write.write-output.ensures ∙ ap (λ (u : List ℕ). overwrite u 0 v) (rest out (5 * a.i + 1)) in
+    let e = at-write.write_output.ensures ∙ ap (λ (u : List ℕ). overwrite u 0 v) (rest out (5 * a.i + 1)) in
     let at = 5 * a.i in
     let n : at + 1 ≡ suc at = omega arith in
-    ap (λ (u : List ℕ). set u at a.k) (back out (at + 1) v at-write.write-output.new.0 e) ∙ rw n (over_next out at a.k v (omega arith))
+    ap (λ (u : List ℕ). set u at a.k) (back out (at + 1) v at-write.write_output.new.outs e) ∙ rw n (over_next out at a.k v (omega arith))
 
-pub put-named-spec : {M : Type 1} → statement M
-put-named-spec =
+pub put_named_spec : {M : Type 1} → statement M
+put_named_spec =
     tie.close
     (tie.spec
     (λ c. search rules)

@@ -9,53 +9,41 @@ use borrow.Author.Rules.{rules}
 use Rattle.yard_c.proofs.yard_open.Statement.{statement}
 use Rattle.yard_c.proofs.yard_open.Tie as tie
 
-returns : tie.Need-returns
+returns : tie.Need-returns-then-w-ne-STATE_WORDS
 returns c =
-    let entry = c.before.before.before.before in
-    not_opened _ entry.args.w.now entry.args.ns.now entry.args.bs.now c.if1.true
+    not_opened _ c.args.w.now c.args.ns.now c.args.bs.now c.if-w-ne-STATE_WORDS.true
 
-open-number-requires : tie.Need-open-number-requires
+open-number-requires : tie.Need-open_number-requires
 open-number-requires c κs =
-    let at_open = c.before.before.before.before.before.before.before.before.before in
-    let at-config = at_open.before.before.before in
-    let entry = at-config.before.before.before.before.before in
-    let small = refusal_small at-config.config.result entry.args.ns.now entry.args.bs.now in
-    let why = at_open.«open».ensures.0 in
+    let small = refusal_small c.config-g.result c.args.ns.now c.args.bs.now in
+    let why = c.open-o.ensures.0 in
     omega arith
 
-same_length : tie.Need-same-length
+same_length : tie.Need-shape_of-w
 same_length c =
-    let at-put = c.before.before.before in
-    at-put.put-state.auto.0
+    c.put_state.auto.w
 
-same_length_2 : tie.Need-same-length-2
+same_length_2 : tie.Need-shape_of-ns
 same_length_2 c =
-    let at_open = c.before.before.before.before.before.before.before.before.before.before in
-    at_open.«open».auto.1.0
+    c.open-o.auto.ns
 
-same_length_3 : tie.Need-same-length-3
+same_length_3 : tie.Need-shape_of-bs
 same_length_3 c =
-    let at_open = c.before.before.before.before.before.before.before.before.before.before in
-    at_open.«open».auto.1.1.0
+    c.open-o.auto.bs
 
-returns_2 : tie.Need-returns-2
+returns_2 : tie.Need-returns
 returns_2 c =
-    let at-put = c.before.before.before in
-    let at_open = at-put.before.before.before.before.before.before.before in
-    let at-config = at_open.before.before.before in
-    let at-if = at-config.before in
-    let entry = at-if.before.before.before.before in
-    let a = entry.args in
+    let a = c.args in
     let w = a.w.now in
     let ns = a.ns.now in
     let bs = a.bs.now in
-    let g = at-config.config in
-    let o = at_open.«open» in
-    opened g.result w ns bs at-if.if1.false _ _ _ _ o.ensures.0 o.ensures.1 _ at-put.put-state.ensures _ c.open_number.ensures
+    let g = c.config-g in
+    let o = c.open-o in
+    opened g.result w ns bs c.if-w-ne-STATE_WORDS.false _ _ _ _ o.ensures.0 o.ensures.1 _ c.put_state.ensures _ c.open_number.ensures
     ∙ ap (λ (x : Config). c_open x w ns bs) g.ensures
 
-pub yard-open-spec : {M : Type 1} → statement M
-yard-open-spec =
+pub yard_open_spec : {M : Type 1} → statement M
+yard_open_spec =
     tie.close
     (tie.spec
     returns

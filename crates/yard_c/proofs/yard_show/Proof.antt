@@ -15,7 +15,7 @@ use borrow.Author.Rules.{rules}
 use Rattle.yard_c.proofs.yard_show.Statement.{statement}
 use Rattle.yard_c.proofs.yard_show.Tie as tie
 
-returns : tie.Need-returns
+returns : tie.Need-returns-then-not-ok
 returns c =
     let at-fits = c.before in
     let entry = at-fits.before.before.before.before.before in
@@ -24,19 +24,19 @@ returns c =
     let out = a.out.now in
     let ns = a.ns.now in
     let bs = a.bs.now in
-    show_spoilt w out ns bs a.k (tested state_fits w out 1 _ at-fits.state_fits.ensures (not-true _ c.if1.true))
+    show_spoilt w out ns bs a.k (tested state_fits w out 1 _ at-fits.state_fits.ensures (not-true _ c.if-not-ok.true-raw))
 
-state-of-words-requires : tie.Need-state-of-words-requires
+state-of-words-requires : tie.Need-state_of_words-s-requires
 state-of-words-requires c κs =
     let at-if = c in
     let at-fits = at-if.before in
     let entry = at-fits.before.before.before.before.before in
     let w = entry.args.w.now in
     let out = entry.args.out.now in
-    let ready-now = ready state_fits w out 1 _ at-fits.state_fits.ensures (not-false _ at-if.if1.false) in
+    let ready-now = ready state_fits w out 1 _ at-fits.state_fits.ensures (not-false _ at-if.if-not-ok.false-raw) in
     fits_long w ready-now.is_state
 
-returns_2 : tie.Need-returns-2
+returns_2 : tie.Need-returns-then-n-eq0
 returns_2 c =
     let at-show = c.before in
     let at-state = at-show.before in
@@ -48,11 +48,11 @@ returns_2 c =
     let out = a.out.now in
     let ns = a.ns.now in
     let bs = a.bs.now in
-    let shown = ap length at-show.show.ensures ∙ ap (λ (z : State). length (show (machine_of z ns bs) a.k)) at-state.state_of_words.ensures in
-    let ready-now = ready state_fits w out 1 _ at-fits.state_fits.ensures (not-false _ at-if.if1.false) in
-    show_none w out ns bs a.k ready-now (sym shown ∙ c.if2.true)
+    let shown = ap length at-show.show-part.ensures ∙ ap (λ (z : State). length (show (machine_of z ns bs) a.k)) at-state.state_of_words-s.ensures in
+    let ready-now = ready state_fits w out 1 _ at-fits.state_fits.ensures (not-false _ at-if.if-not-ok.false-raw) in
+    show_none w out ns bs a.k ready-now (sym shown ∙ c.if-n-eq0.true)
 
-mul-out : tie.Need-overflow-mul-out
+mul-out : tie.Need-overflow_mul-out
 mul-out c =
     let at-show = c.before in
     let at-state = at-show.before in
@@ -61,12 +61,12 @@ mul-out c =
     let w = a.w.now in
     let ns = a.ns.now in
     let bs = a.bs.now in
-    let shown = ap length at-show.show.ensures ∙ ap (λ (z : State). length (show (machine_of z ns bs) a.k)) at-state.state_of_words.ensures in
-    let few = shown_few (machine_in w ns bs) a.k (λ e. c.if2.false (shown ∙ e)) in
+    let shown = ap length at-show.show-part.ensures ∙ ap (λ (z : State). length (show (machine_of z ns bs) a.k)) at-state.state_of_words-s.ensures in
+    let few = shown_few (machine_in w ns bs) a.k (λ e. c.if-n-eq0.false (shown ∙ e)) in
     let below = few.0 in
     search (rules, below)
 
-add-out : tie.Need-overflow-add-out
+add-out : tie.Need-overflow_add-out
 add-out c =
     let at-show = c.before in
     let at-state = at-show.before in
@@ -75,23 +75,23 @@ add-out c =
     let w = a.w.now in
     let ns = a.ns.now in
     let bs = a.bs.now in
-    let shown = ap length at-show.show.ensures ∙ ap (λ (z : State). length (show (machine_of z ns bs) a.k)) at-state.state_of_words.ensures in
-    let few = shown_few (machine_in w ns bs) a.k (λ e. c.if2.false (shown ∙ e)) in
+    let shown = ap length at-show.show-part.ensures ∙ ap (λ (z : State). length (show (machine_of z ns bs) a.k)) at-state.state_of_words-s.ensures in
+    let few = shown_few (machine_in w ns bs) a.k (λ e. c.if-n-eq0.false (shown ∙ e)) in
     let below = few.0 in
     search (rules, below)
 
-slice-write-out : tie.Need-slice-write-out
+slice-write-out : tie.Need-bounds-out-0
 slice-write-out c =
     let at-if = c.before.before.before in
     let at-fits = at-if.before in
     let entry = at-fits.before.before.before.before.before in
     let w = entry.args.w.now in
     let out = entry.args.out.now in
-    let ready-now = ready state_fits w out 1 _ at-fits.state_fits.ensures (not-false _ at-if.if1.false) in
+    let ready-now = ready state_fits w out 1 _ at-fits.state_fits.ensures (not-false _ at-if.if-not-ok.false-raw) in
     let room = ready-now.room in
     search (rules, room)
 
-cast-result : tie.Need-overflow-cast-result
+cast-result : tie.Need-overflow_cast-result
 cast-result c =
     let at-show = c.before in
     let at-state = at-show.before in
@@ -100,12 +100,12 @@ cast-result c =
     let w = a.w.now in
     let ns = a.ns.now in
     let bs = a.bs.now in
-    let shown = ap length at-show.show.ensures ∙ ap (λ (z : State). length (show (machine_of z ns bs) a.k)) at-state.state_of_words.ensures in
-    let few = shown_few (machine_in w ns bs) a.k (λ e. c.if2.false (shown ∙ e)) in
+    let shown = ap length at-show.show-part.ensures ∙ ap (λ (z : State). length (show (machine_of z ns bs) a.k)) at-state.state_of_words-s.ensures in
+    let few = shown_few (machine_in w ns bs) a.k (λ e. c.if-n-eq0.false (shown ∙ e)) in
     let most = few.1 in
     search (rules, shown, most)
 
-returns_3 : tie.Need-returns-3
+returns_3 : tie.Need-returns
 returns_3 c =
     let at-show = c.before in
     let at-state = at-show.before in
@@ -117,13 +117,13 @@ returns_3 c =
     let out = a.out.now in
     let ns = a.ns.now in
     let bs = a.bs.now in
-    let shown = ap length at-show.show.ensures ∙ ap (λ (z : State). length (show (machine_of z ns bs) a.k)) at-state.state_of_words.ensures in
-    let ready-now = ready state_fits w out 1 _ at-fits.state_fits.ensures (not-false _ at-if.if1.false) in
-    let some = show_some w out ns bs a.k ready-now (λ e. c.if2.false (shown ∙ e)) in
+    let shown = ap length at-show.show-part.ensures ∙ ap (λ (z : State). length (show (machine_of z ns bs) a.k)) at-state.state_of_words-s.ensures in
+    let ready-now = ready state_fits w out 1 _ at-fits.state_fits.ensures (not-false _ at-if.if-not-ok.false-raw) in
+    let some = show_some w out ns bs a.k ready-now (λ e. c.if-n-eq0.false (shown ∙ e)) in
     ap (λ (n : ℕ). called n w ns bs (set out 0 (66 * a.k + 2))) shown ∙ some
 
-pub yard-show-spec : {M : Type 1} → statement M
-yard-show-spec =
+pub yard_show_spec : {M : Type 1} → statement M
+yard_show_spec =
     tie.close
     (tie.spec
     (λ c κs. search rules)

@@ -2,6 +2,7 @@
 use Prim.Native.Nat.{ℕ, ◌-◌}
 use mathlib.Core.Path.{◌≡◌, refl, sym, ap, ◌∙◌}
 use mathlib.Core.Bool.{Bool, true}
+use mathlib.Core.List.{List}
 use native.Mathlib.Omega.{arith}
 use borrow.Author.Tests.{not-true, not-false}
 use Rattle.spec.specs.declared.State.{State}
@@ -11,165 +12,131 @@ use Rattle.spec.specs.Words.{link}
 use Rattle.turns.specs.declared.Turn.TheVariants.{Of}
 use Rattle.turns.specs.Turn.{gives}
 use Rattle.soundness.specs.declared.Checked.{Checked}
-use Rattle.soundness.specs.Told.{told}
+use Rattle.soundness.specs.Told.{told, checked_of}
 use Rattle.state_words.specs.RoundTrip.{fits_long}
 use Rattle.dispatch.specs.Turned.{next_to_step}
 use Rattle.dispatch.proofs.TurnLaws.{spoilt, nothing_runs, used, unused, unused_kept}
 use Rattle.state_words.specs.StateWords.{state_of_words, state_fits}
-use Rattle.yard_answers.specs.CallLaws.{Ready, ready, tested}
+use Rattle.yard_answers.specs.CallLaws.{ready, tested}
 use Rattle.yard_c.proofs.Laws.{turn_spoilt, turn_idle, turn_eight, turn_used, turn_unused}
 use borrow.Author.Rules.{rules}
 use Rattle.yard_c.proofs.yard_turn.Statement.{statement}
 use Rattle.yard_c.proofs.yard_turn.Tie as tie
 
--- ---- what is known at a place
+-- what a check told of memory, and what is said of the task that is next
+checked : (y : Machine) (k : ℕ) (d : Checked) → d ≡ checked_of y k → {b : Bool} → d.sound ≡ b → sound y ≡ b
+unfolding told
+checked y k d is e = sym (ap (λ (x : Checked). x.sound) is) ∙ e
 
--- past the first test: the words are such that a call may go by
-module _ (p : tie.Else1) where
-  abbrev start : tie.Start
-  start = p.before.before.before.before.before.before.before
+same_sound : (ns bs : List ℕ) (s t : State) → s ≡ t → sound (machine_of t ns bs) ≡ true → sound (machine_of s ns bs) ≡ true
+same_sound ns bs s t e h = ap (λ (z : State). sound (machine_of z ns bs)) e ∙ h
 
-  ready-now : Ready state_fits start.args.w.now start.args.out.now 5
-  ready-now = ready state_fits start.args.w.now start.args.out.now 5 _ p.before.state_fits.ensures (not-false _ p.if1.left)
-
--- the machine that the words are, and the test of it
-module _ (p : tie.After-check) where
-  abbrev past_fits : tie.Else1
-  past_fits = p.before.before.before.before
-
-  abbrev begun : tie.Start
-  begun = start past_fits
-
-  abbrev machine-in-words : Machine
-  machine-in-words = machine_of (state_of_words begun.args.w.now) begun.args.ns.now begun.args.bs.now
-
-  checked : {b : Bool} → p.check.result.sound ≡ b → sound machine-in-words ≡ b
-  unfolding told
-  checked e = sym (ap (λ (d : Checked). d.sound) p.check.ensures) ∙ e
-
--- the machine of the state made of them, and the task that is next
-module _ (p : tie.After-next-task) where
-  abbrev at-check : tie.After-check
-  at-check = p.before.before.before.before.before
-
-  abbrev machine : Machine
-  machine = let a = (begun at-check).args in machine_of p.before.state_of_words.result a.ns.now a.bs.now
-
-  words-sound : sound (machine-in-words at-check) ≡ true
-  words-sound = checked at-check (not-false _ p.before.before.before.if2.left)
-
-  is_sound : sound machine ≡ true
-  is_sound =
-      let a = (begun at-check).args in
-      ap (λ (z : State). sound (machine_of z a.ns.now a.bs.now)) p.before.state_of_words.ensures ∙ words-sound
-
--- a task is next: its step
-module _ (p : tie.After-step) where
-  abbrev at_next : tie.After-next-task
-  at_next = p.before.before.before.before.before.before
-
-  abbrev task : ℕ
-  task = at_next.next_task.result - 1
-
-  is_next : next_to_step (machine at_next) ≡ link task
-  is_next =
-      let some : at_next.next_task.result ≡ link task = omega (arith, p.before.before.before.before.before.if3.left) in
-      sym (at_next.next_task.ensures _ _) ∙ some
-
-  abbrev ready-there : Ready state_fits (begun (at-check at_next)).args.w.now (begun (at-check at_next)).args.out.now 5
-  ready-there = ready-now (past_fits (at-check at_next))
+goes_next : (y : Machine) (l : ℕ) → l ≡ next_to_step y → ¬ (l ≡ 0) → next_to_step y ≡ link (l - 1)
+goes_next y l e n =
+    let some : l ≡ link (l - 1) = omega (arith, n) in
+    sym e ∙ some
 
 -- ---- the needs
 
-returns : tie.Need-returns
+returns : tie.Need-returns-then-not-ok
 returns c =
-    let at-fits = c.before in
-    let a = at-fits.before.before.before.before.before.before.args in
+    let a = c.args in
     let w = a.w.now in
     let out = a.out.now in
-    turn_spoilt w out a.ns.now a.bs.now (tested state_fits w out 5 _ at-fits.state_fits.ensures (not-true _ c.if1.true))
+    turn_spoilt w out a.ns.now a.bs.now (tested state_fits w out 5 _ c.state_fits.ensures (not-true _ c.if-not-ok.true-raw))
 
-check-requires : tie.Need-check-requires
-check-requires c κs = (ready-now c.before.before.before).is_state
+check-requires : tie.Need-check-e-requires
+check-requires c κs =
+    let g = ready state_fits c.args.w.now c.args.out.now 5 _ c.state_fits.ensures (not-false _ c.if-not-ok.false-raw) in
+    g.is_state
 
-returns_2 : tie.Need-returns-2
+returns_2 : tie.Need-returns-then-not-e
 returns_2 c =
-    let p = c.before.before in
-    let a = (begun p).args in
-    let no = checked p (not-true _ c.if2.true) in
-    turn_eight a.w.now a.out.now a.ns.now a.bs.now (ready-now (past_fits p)) _ refl _ _ (spoilt (machine-in-words p) no)
+    let a = c.args in
+    let g = ready state_fits c.args.w.now c.args.out.now 5 _ c.state_fits.ensures (not-false _ c.if-not-ok.false-raw) in
+    let y = machine_of (state_of_words a.w.now) a.ns.now a.bs.now in
+    let no = checked y 0 c.check-e.result c.check-e.ensures (not-true _ c.if-not-e.true) in
+    turn_eight a.w.now a.out.now a.ns.now a.bs.now g _ refl _ _ (spoilt y no)
 
-state-of-words-requires : tie.Need-state-of-words-requires
+state-of-words-requires : tie.Need-state_of_words-s-requires
 state-of-words-requires c κs =
-    let p = c.before.before.before in
-    let a = (begun p).args in
-    (fits_long a.w.now (ready-now (past_fits p)).is_state, (a.ns.now, a.bs.now, checked p (not-false _ c.before.if2.false)))
+    let a = c.args in
+    let g = ready state_fits c.args.w.now c.args.out.now 5 _ c.state_fits.ensures (not-false _ c.if-not-ok.false-raw) in
+    let y = machine_of (state_of_words a.w.now) a.ns.now a.bs.now in
+    (fits_long a.w.now g.is_state, (a.ns.now, a.bs.now, checked y 0 c.check-e.result c.check-e.ensures (not-false _ c.if-not-e.false)))
 
-returns_3 : tie.Need-returns-3
+returns_3 : tie.Need-returns-then-l-eq0
 returns_3 c =
-    let p = c.before in
-    let a = (begun (at-check p)).args in
-    let none = sym (p.next_task.ensures _ _) ∙ c.if3.true in
-    turn_idle a.w.now a.out.now a.ns.now a.bs.now (ready-now (past_fits (at-check p))) _ p.before.state_of_words.ensures
-    (nothing_runs (machine p) (is_sound p) none)
+    let a = c.args in
+    let g = ready state_fits c.args.w.now c.args.out.now 5 _ c.state_fits.ensures (not-false _ c.if-not-ok.false-raw) in
+    let z = machine_of c.state_of_words-s.result a.ns.now a.bs.now in
+    let words_sound = checked (machine_of (state_of_words a.w.now) a.ns.now a.bs.now) 0 c.check-e.result c.check-e.ensures (not-false _ c.if-not-e.false) in
+    let is_sound = same_sound a.ns.now a.bs.now _ _ c.state_of_words-s.ensures words_sound in
+    let none = sym (c.next_task-l.ensures _ _) ∙ c.if-l-eq0.true in
+    turn_idle a.w.now a.out.now a.ns.now a.bs.now g _ c.state_of_words-s.ensures (nothing_runs z is_sound none)
 
-known-requires : tie.Need-known-requires
-known-requires c κs = let p = at-check c.before.before in fits_long (begun p).args.w.now (ready-now (past_fits p)).is_state
+known-requires : tie.Need-known-d-requires
+known-requires c κs =
+    let g = ready state_fits c.args.w.now c.args.out.now 5 _ c.state_fits.ensures (not-false _ c.if-not-ok.false-raw) in
+    fits_long c.args.w.now g.is_state
 
-step-requires : tie.Need-step-requires
+step-requires : tie.Need-step-m-requires
 step-requires c κs =
-    let at-known = c.before.before in
-    let p = at-known.before.before.before in
-    let a = (begun (at-check p)).args in
-    rw p.before.state_of_words.ensures (at-known.known.ensures a.ns.now a.bs.now (words-sound p))
+    let a = c.args in
+    let y = machine_of (state_of_words a.w.now) a.ns.now a.bs.now in
+    let words_sound = checked y 0 c.check-e.result c.check-e.ensures (not-false _ c.if-not-e.false) in
+    rw c.state_of_words-s.ensures (c.known-d.ensures a.ns.now a.bs.now words_sound)
 
-put-turned-requires : tie.Need-put-turned-requires
-put-turned-requires c κs = (ready-there c.before.before.before.before.before.before.before).is_state
+put-turned-requires : tie.Need-put_turned-requires
+put-turned-requires c κs =
+    let g = ready state_fits c.args.w.now c.args.out.now 5 _ c.state_fits.ensures (not-false _ c.if-not-ok.false-raw) in
+    g.is_state
 
-put-named-requires : tie.Need-put-named-requires
+put-named-requires : tie.Need-put_named-requires
 put-named-requires c κs =
-    let room = (ready-there c.before.before.before.before.before.before.before.before.before.before.before).room in
+    let g = ready state_fits c.args.w.now c.args.out.now 5 _ c.state_fits.ensures (not-false _ c.if-not-ok.false-raw) in
+    let room = g.room in
     omega (arith, room)
 
-returns_4 : tie.Need-returns-4
+returns_4 : tie.Need-returns-then-uses_turn
 unfolding with_chosen with_state
 returns_4 c =
-    let at-put = c.before.before in
-    let at-turned = at-put.before.before.before.before in
-    let at-uses = at-turned.before.before.before in
-    let at-step = at-uses.before.before.before.before.before in
-    let p = at_next at-step in
-    let a = (begun (at-check p)).args in
-    let m = at-step.step in
-    let gave = used (machine p) (task at-step) (is_next at-step) m.result.out _ m.ensures.reply
-    (sym at-uses.uses_turn.ensures ∙ at-turned.before.before.if4.true) in
-    turn_used a.w.now a.out.now a.ns.now a.bs.now (ready-there at-step) _ p.before.state_of_words.ensures
-    _ _ _ m.result gave _ at-turned.put-turned.ensures _ at-put.put-named.ensures
+    let a = c.args in
+    let g = ready state_fits c.args.w.now c.args.out.now 5 _ c.state_fits.ensures (not-false _ c.if-not-ok.false-raw) in
+    let m = c.step-m in
+    let l = c.next_task-l.result in
+    let z = machine_of c.state_of_words-s.result a.ns.now a.bs.now in
+    let is_next = goes_next z l (c.next_task-l.ensures _ _) c.if-l-eq0.false in
+    let gave = used z (l - 1) is_next m.result.out _ m.ensures.reply (sym c.uses_turn.ensures ∙ c.if-uses_turn.true) in
+    turn_used a.w.now a.out.now a.ns.now a.bs.now g _ c.state_of_words-s.ensures
+    _ _ _ m.result gave _ c.put_turned.ensures _ c.put_named.ensures
 
-put-named-requires-2 : tie.Need-put-named-requires-2
+put-named-requires-2 : tie.Need-put_named-requires-2
 put-named-requires-2 c κs =
-    let room = (ready-there c.before.before.before.before.before.before.before).room in
+    let g = ready state_fits c.args.w.now c.args.out.now 5 _ c.state_fits.ensures (not-false _ c.if-not-ok.false-raw) in
+    let room = g.room in
     omega (arith, room)
 
-returns-5 : tie.Need-returns-5
+returns-5 : tie.Need-returns
 returns-5 c =
-    let at-put = c.before.before in
-    let at-else = at-put.before.before in
-    let at-uses = at-else.before in
-    let at-step = at-uses.before.before.before.before.before in
-    let p = at_next at-step in
-    let a = (begun (at-check p)).args in
-    let m = at-step.step in
-    let s = p.before.state_of_words.result in
-    let no_turn = sym at-uses.uses_turn.ensures ∙ at-else.if4.false in
-    let kept = unused_kept (machine p) (task at-step) (is_next at-step) m.result.out _ m.ensures.reply no_turn in
+    let a = c.args in
+    let g = ready state_fits c.args.w.now c.args.out.now 5 _ c.state_fits.ensures (not-false _ c.if-not-ok.false-raw) in
+    let m = c.step-m in
+    let l = c.next_task-l.result in
+    let s = c.state_of_words-s.result in
+    let z = machine_of c.state_of_words-s.result a.ns.now a.bs.now in
+    let words_sound = checked (machine_of (state_of_words a.w.now) a.ns.now a.bs.now) 0 c.check-e.result c.check-e.ensures (not-false _ c.if-not-e.false) in
+    let is_sound = same_sound a.ns.now a.bs.now _ _ c.state_of_words-s.ensures words_sound in
+    let is_next = goes_next z l (c.next_task-l.ensures _ _) c.if-l-eq0.false in
+    let no_turn = sym c.uses_turn.ensures ∙ c.if-uses_turn.false in
+    let kept = unused_kept z (l - 1) is_next m.result.out _ m.ensures.reply no_turn in
     let same = ap (λ (u : Machine). machine_of s u.nodes u.buckets) kept in
-    let gave = unused (machine p) (task at-step) (is_next at-step) m.result.out _ m.ensures.reply no_turn (is_sound p) in
-    turn_unused a.w.now a.out.now a.ns.now a.bs.now (ready-there at-step) _ p.before.state_of_words.ensures
-    _ _ _ m.result.out (ap (gives (Of (task at-step) m.result.out)) same ∙ gave) _ at-put.put-named2.ensures
+    let gave = unused z (l - 1) is_next m.result.out _ m.ensures.reply no_turn is_sound in
+    turn_unused a.w.now a.out.now a.ns.now a.bs.now g _ c.state_of_words-s.ensures
+    _ _ _ m.result.out (ap (gives (Of (l - 1) m.result.out)) same ∙ gave) _ c.put_named-2.ensures
 
-pub yard-turn-spec : {M : Type 1} → statement M
-yard-turn-spec =
+pub yard_turn_spec : {M : Type 1} → statement M
+yard_turn_spec =
     tie.close
     (tie.spec
     (λ c κs. search rules)

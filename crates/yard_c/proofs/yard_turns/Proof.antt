@@ -1,13 +1,11 @@
 -- `yard_turns` meets its contract: the turns of the machine that the words are. Assumes nothing.
 use mathlib.Core.Path.{◌≡◌, sym, ap, ◌∙◌}
-use mathlib.Core.Bool.{true}
 use native.Mathlib.Omega.{arith}
 use lib.ListN.{length}
 use borrow.Author.Tests.{not-true, not-false}
 use Rattle.spec.specs.declared.State.{State}
-use Rattle.spec.specs.Machine.{Machine, machine_of}
+use Rattle.spec.specs.Machine.{machine_of}
 use Rattle.spec.specs.Sound.{sound}
-use Rattle.state_words.specs.StateWords.{state_fits}
 use Rattle.state_words.specs.RoundTrip.{fits_long}
 use Rattle.turns.specs.Turns.{Written, turns_of, turns_written, turns_most}
 use Rattle.yard_c.proofs.Laws.{turns_spoilt, turns_unsound, turns_called}
@@ -15,87 +13,50 @@ use borrow.Author.Rules.{rules}
 use Rattle.yard_c.proofs.yard_turns.Statement.{statement}
 use Rattle.yard_c.proofs.yard_turns.Tie as tie
 
--- ---- what is known at a place
-
--- the words are such that a state has, once past the first test
-module _ (p : tie.Else1) where
-  abbrev start : tie.Start
-  start = p.before.before.before.before.before.before.before
-
-  fits : state_fits start.args.w.now ≡ true
-  fits = sym p.before.state_fits.ensures ∙ not-false _ p.if1.left
-
--- and memory is sound, once past the second
-abbrev past_fits : tie.After-sound → tie.Else1
-past_fits p = p.before.before.before.before.before
-
-abbrev machine : tie.After-sound → State → Machine
-machine p z = let a = (start (past_fits p)).args in machine_of z a.ns.now a.bs.now
-
--- ---- the needs
-
-returns : tie.Need-returns
+returns : tie.Need-returns-then-not-state_fits
 returns c =
-    let at-fits = c.before in
-    let a = at-fits.before.before.before.before.before.before.args in
-    turns_spoilt a.w.now a.outs.now a.ns.now a.bs.now (sym at-fits.state_fits.ensures ∙ not-true _ c.if1.true)
+    let a = c.args in
+    turns_spoilt a.w.now a.outs.now a.ns.now a.bs.now (sym c.state_fits.ensures ∙ not-true _ c.if-not-state_fits.true-raw)
 
-state-of-words-requires : tie.Need-state-of-words-requires
-state-of-words-requires c κs = fits_long _ (fits c.before)
+state-of-words-requires : tie.Need-state_of_words-s-requires
+state-of-words-requires c κs = fits_long _ (sym c.state_fits.ensures ∙ not-false _ c.if-not-state_fits.false-raw)
 
-returns_2 : tie.Need-returns-2
+returns_2 : tie.Need-returns-then-not-sound
 returns_2 c =
-    let at-sound = c.before in
-    let at-state = at-sound.before.before.before in
-    let a = (start (past_fits at-sound)).args in
-    let is = ap (λ (z : State). sound (machine at-sound z)) at-state.state_of_words.ensures in
-    turns_unsound a.w.now a.outs.now a.ns.now a.bs.now (fits (past_fits at-sound))
-    (sym is ∙ (sym at-sound.sound.ensures ∙ not-true _ c.if2.true))
+    let a = c.args in
+    let is = ap (λ (z : State). sound (machine_of z c.args.ns.now c.args.bs.now)) c.state_of_words-s.ensures in
+    turns_unsound a.w.now a.outs.now a.ns.now a.bs.now (sym c.state_fits.ensures ∙ not-false _ c.if-not-state_fits.false-raw)
+    (sym is ∙ (sym c.sound.ensures ∙ not-true _ c.if-not-sound.true-raw))
 
-run-turns-requires : tie.Need-run-turns-requires
+run-turns-requires : tie.Need-run_turns-r-requires
 run-turns-requires c κs =
-    let at_room = c.before.before.before in
-    let at-if = at_room.before in
-    let at-sound = at-if.before in
-    (omega arith, sym at-sound.sound.ensures ∙ not-false _ at-if.if2.false)
+    (omega arith, sym c.sound.ensures ∙ not-false _ c.if-not-sound.false-raw)
 
-put-state-requires : tie.Need-put-state-requires
+put-state-requires : tie.Need-put_state-requires
 put-state-requires c κs =
-    let at-turns = c.before.before.before.before.before.before.before.before in
-    let at-sound = at-turns.before.before.before.before.before.before in
-    fits_long _ (fits (past_fits at-sound))
+    fits_long _ (sym c.state_fits.ensures ∙ not-false _ c.if-not-state_fits.false-raw)
 
-cast-result : tie.Need-overflow-cast-result
+cast-result : tie.Need-overflow_cast-result
 unfolding turns_written
 cast-result c =
-    let at-turns = c.before.before.before.before.before.before.before.before.before.before.before in
-    let at_room = at-turns.before.before.before.before in
-    let at-sound = at_room.before.before in
-    let at-state = at-sound.before.before.before in
-    let n = at_room.turns-room.result in
-    let most = turns_most n (machine at-sound at-state.state_of_words.result) in
-    let same : at-turns.run-turns.result.turns ≡ length (turns_of n (machine at-sound at-state.state_of_words.result)).says =
-    ap (λ (x : Written). x.number) at-turns.run-turns.ensures in
-    omega (arith, same, most, at_room.turns-room.ensures)
+    let n = c.turns_room-n.result in
+    let most = turns_most n (machine_of c.state_of_words-s.result c.args.ns.now c.args.bs.now) in
+    let same : c.run_turns-r.result.turns ≡ length (turns_of n (machine_of c.state_of_words-s.result c.args.ns.now c.args.bs.now)).says =
+    ap (λ (x : Written). x.number) c.run_turns-r.ensures in
+    omega (arith, same, most, c.turns_room-n.ensures)
 
-returns_3 : tie.Need-returns-3
+returns_3 : tie.Need-returns
 returns_3 c =
-    let at-put = c.before.before in
-    let at-turns = at-put.before.before.before.before.before.before.before.before.before in
-    let at_room = at-turns.before.before.before.before in
-    let at-if2 = at_room.before in
-    let at-sound = at-if2.before in
-    let at-state = at-sound.before.before.before in
-    let a = (start (past_fits at-sound)).args in
-    let s = at-state.state_of_words.ensures in
-    let n = at_room.turns-room.result in
-    let ok = sym (ap (λ (z : State). sound (machine at-sound z)) s) ∙ (sym at-sound.sound.ensures ∙ not-false _ at-if2.if2.false) in
-    let gave = at-turns.run-turns.ensures ∙ ap (λ (z : State). turns_written n (machine at-sound z) a.outs.now) s in
-    turns_called a.w.now a.outs.now a.ns.now a.bs.now (fits (past_fits at-sound)) ok n at_room.turns-room.ensures _ _ _ _ _ gave
-    _ at-put.put-state.ensures
+    let a = c.args in
+    let s = c.state_of_words-s.ensures in
+    let n = c.turns_room-n.result in
+    let ok = sym (ap (λ (z : State). sound (machine_of z c.args.ns.now c.args.bs.now)) s) ∙ (sym c.sound.ensures ∙ not-false _ c.if-not-sound.false-raw) in
+    let gave = c.run_turns-r.ensures ∙ ap (λ (z : State). turns_written n (machine_of z c.args.ns.now c.args.bs.now) a.outs.now) s in
+    let fits = sym c.state_fits.ensures ∙ not-false _ c.if-not-state_fits.false-raw in
+    turns_called a.w.now a.outs.now a.ns.now a.bs.now fits ok n c.turns_room-n.ensures _ _ _ _ _ gave _ c.put_state.ensures
 
-pub yard-turns-spec : {M : Type 1} → statement M
-yard-turns-spec =
+pub yard_turns_spec : {M : Type 1} → statement M
+yard_turns_spec =
     tie.close
     (tie.spec
     (λ c κs. search rules)

@@ -19,10 +19,10 @@ returns c =
     let w = entry.args.w.now in
     let v = first_words entry.args.s in
     let fits : write_front w v ≡ overwrite w 0 v = rw (le-leb 9 (length w) (omega (arith, entry.requires))) in
-    let e : at-write.write-over.new.0 ≡ write_front w v = rw at-bit.bit.ensures at at-write.write-over.ensures in
+    let e : at-write.write_over.new.part ≡ write_front w v = rw at-bit.bit.ensures at at-write.write_over.ensures in
     e ∙ fits
 
-pub put-first-spec : {M : Type 1} → statement M
-put-first-spec =
+pub put_first_spec : {M : Type 1} → statement M
+put_first_spec =
     tie.close
     (tie.spec (λ c κs. search rules) (λ c. search rules) (λ c κs. search rules) (λ c. search rules) returns)

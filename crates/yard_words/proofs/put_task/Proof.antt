@@ -24,11 +24,11 @@ returns c =
     let v = task_words a.c in
     let l : 13 ≤ length (drop i p) = rw (length-drop i p) (omega (arith, entry.requires)) in
     let fits : write_front (drop i p) v ≡ overwrite (drop i p) 0 v = rw (le-leb 13 (length (drop i p)) l) in
-    let e : at-write.write-over.new.0 ≡ write_front (drop i p) v = rw (at-bit.bit.ensures, rest p i) at at-write.write-over.ensures in
-    back p i v at-write.write-over.new.0 (e ∙ fits)
+    let e : at-write.write_over.new.part ≡ write_front (drop i p) v = rw (at-bit.bit.ensures, rest p i) at at-write.write_over.ensures in
+    back p i v at-write.write_over.new.part (e ∙ fits)
 
-pub put-task-spec : {M : Type 1} → statement M
-put-task-spec =
+pub put_task_spec : {M : Type 1} → statement M
+put_task_spec =
     tie.close
     (tie.spec
     (λ c κs. search rules)

@@ -12,11 +12,11 @@ and_true : (b : Bool) → (b && true) ≡ b
 and_true true = refl
 and_true false = refl
 
-returns : tie.Need-returns
+returns : tie.Need-returns-then-w-ne-STATE_WORDS
 unfolding state_fits
-returns c = rw (ne_eqb _ _ c.if1.true)
+returns c = rw (ne_eqb _ _ c.if-w-ne-STATE_WORDS.true)
 
-returns_2 : tie.Need-returns-2
+returns_2 : tie.Need-returns
 unfolding state_fits bit_fits every range
 returns_2 c =
     let p8 = c.before in
@@ -27,12 +27,12 @@ returns_2 c =
     let p3 = p4.before in
     let p2 = p3.before in
     let p1 = p2.before in
-    let long = eq-eqb _ 113 p1.before.if1.false in
-    rw (p1.task_fits.ensures, p2.task-fits2.ensures, p3.task-fits3.ensures, p4.task-fits4.ensures)
-    (rw (p5.task-fits5.ensures, p6.task-fits6.ensures, p7.task-fits7.ensures, p8.task-fits8.ensures, long, and_true (task_fits _ 100)) refl)
+    let long = eq-eqb _ 113 p1.if-w-ne-STATE_WORDS.false in
+    rw (p1.task_fits-h.ensures, p2.task_fits.ensures, p3.task_fits-2.ensures, p4.task_fits-3.ensures)
+    (rw (p5.task_fits-4.ensures, p6.task_fits-5.ensures, p7.task_fits-6.ensures, p8.task_fits-7.ensures, long, and_true (task_fits _ 100)) refl)
 
-pub state-fits-spec : {M : Type 1} → statement M
-state-fits-spec =
+pub state_fits_spec : {M : Type 1} → statement M
+state_fits_spec =
     tie.close
     (tie.spec
     returns

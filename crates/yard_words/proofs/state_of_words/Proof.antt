@@ -7,10 +7,10 @@ use Rattle.yard_words.proofs.state_of_words.Tie as tie
 
 returns : tie.Need-returns
 unfolding state_of_words
-returns c = let at_tasks = c.before.before.before.before.before.before in rw at_tasks.tasks_of_words.ensures refl
+returns c = let at_tasks = c.before.before.before.before.before.before in rw at_tasks.tasks_of_words-ts.ensures refl
 
-pub state-of-words-spec : {M : Type 1} → statement M
-state-of-words-spec =
+pub state_of_words_spec : {M : Type 1} → statement M
+state_of_words_spec =
     tie.close
     (tie.spec
     (λ c. search rules)

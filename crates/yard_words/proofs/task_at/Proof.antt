@@ -9,8 +9,8 @@ returns : tie.Need-returns
 unfolding task_at
 returns c = refl
 
-pub task-at-spec : {M : Type 1} → statement M
-task-at-spec =
+pub task_at_spec : {M : Type 1} → statement M
+task_at_spec =
     tie.close
     (tie.spec
     (λ c. search rules)

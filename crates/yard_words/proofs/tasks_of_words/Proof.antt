@@ -17,11 +17,11 @@ returns c =
     let p3 = p4.before in
     let p2 = p3.before in
     let p1 = p2.before in
-    rw (p1.task_at.ensures, p2.task-at2.ensures, p3.task-at3.ensures, p4.task-at4.ensures)
-    (rw (p5.task-at5.ensures, p6.task-at6.ensures, p7.task-at7.ensures, p8.task-at8.ensures) refl)
+    rw (p1.task_at.ensures, p2.task_at-2.ensures, p3.task_at-3.ensures, p4.task_at-4.ensures)
+    (rw (p5.task_at-5.ensures, p6.task_at-6.ensures, p7.task_at-7.ensures, p8.task_at-8.ensures) refl)
 
-pub tasks-of-words-spec : {M : Type 1} → statement M
-tasks-of-words-spec =
+pub tasks_of_words_spec : {M : Type 1} → statement M
+tasks_of_words_spec =
     tie.close
     (tie.spec
     (λ c κs. search rules)

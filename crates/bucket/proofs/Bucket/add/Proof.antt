@@ -17,54 +17,54 @@ use Rattle.bucket.proofs.Bucket.add.Tie as tie
 abbrev yes : List ℕ → Changed
 yes w = changed w Yes
 
-abbrev tag_of : tie.After-stands-at → ℕ
-tag_of c = c.before.before.before.before.args.tag
+abbrev tag_of : tie.After-stands_at → ℕ
+tag_of c = c.args.tag
 
-abbrev tagsOf : tie.After-stands-at → List ℕ
-tagsOf c = tags_in c.before.before.before.before.args.t1.words
+abbrev tagsOf : tie.After-stands_at → List ℕ
+tagsOf c = tags_in c.args.self.words
 
-len : (c : tie.Start) → length c.args.t1.words ≡ 66
+len : (c : tie.Start) → length c.args.self.words ≡ 66
 len c = search rules
 
 -- the tag stands where the search ended if and only if the bucket has it
-has : (c : tie.After-stands-at) → found (tag_of c) (tagsOf c) ≡ c.stands_at.result
-has c = found_at _ _ _ _ c.before.position.ensures.0 c.stands_at.ensures
+has : (c : tie.After-stands_at) → found (tag_of c) (tagsOf c) ≡ c.stands_at.result
+has c = found_at _ _ _ _ c.position-p.ensures.0 c.stands_at.ensures
 
-absent : (c : tie.Else2) → found (tag_of c.before) (tagsOf c.before) ≡ false
-absent c = has c.before ∙ c.if2.false
+absent : (c : tie.Else-stands_at) → found (tag_of c.before) (tagsOf c.before) ≡ false
+absent c = has c.before ∙ c.if-stands_at.false
 
-returns : tie.Need-returns
+returns : tie.Need-returns-then-flag-eq0
 unfolding added
-returns c = rw (eq-eqb _ _ c.before.if1.true) c.answered.ensures
+returns c = rw (eq-eqb _ _ c.if-flag-eq0.true) c.answered.ensures
 
-returns_2 : tie.Need-returns-2
+returns_2 : tie.Need-returns-then-stands_at
 unfolding added
 returns_2 c =
     let found? = c.before.before in
-    let changeable = found?.before.before.if1.false in
-    rw (ne_eqb _ _ changeable, has found? ∙ c.before.if2.true) c.answered2.ensures
+    let changeable = found?.if-flag-eq0.false in
+    rw (ne_eqb _ _ changeable, has found? ∙ c.if-stands_at.true) c.answered-then-stands_at.ensures
 
-returns_3 : tie.Need-returns-3
+returns_3 : tie.Need-returns-then-n-ge-MOST_TAGS
 unfolding added
 returns_3 c =
     let counted = c.before.before in
-    let changeable = counted.before.before.before.before.if1.false in
-    rw (ne_eqb _ _ changeable, absent counted.before, le-leb 64 _ (rw counted.count.ensures.0 at c.before.if3.true)) c.answered3.ensures
+    let changeable = counted.if-flag-eq0.false in
+    rw (ne_eqb _ _ changeable, absent counted.before, le-leb 64 _ (rw counted.count-n.ensures.0 at c.if-n-ge-MOST_TAGS.true)) c.answered-then-n-ge-MOST_TAGS.ensures
 
 put-requires : tie.Need-put-requires
 put-requires c κs =
-    let missed = c.before.before.before.before in
+    let missed = c.before.before.before in
     let met = missed.before in
     let r = rank_le (tag_of met) (tagsOf met) in
-    (len met.before.before.before.before, omega arith, omega arith, omega arith, met.before.position.ensures.0, absent missed)
+    (len met.before.before.before.before, omega arith, omega arith, omega arith, met.position-p.ensures.0, absent missed)
 
-returns_4 : tie.Need-returns-4
+returns_4 : tie.Need-returns
 unfolding added
 returns_4 c =
-    let counted = c.before.before.before.before.before in
-    let changeable = counted.before.before.before.before.if1.false in
-    rw (ne_eqb _ _ changeable, absent counted.before, lt-leb 64 _ (rw counted.count.ensures.0 at c.before.before.before.before.if3.false))
-    (c.answered4.ensures ∙ ap yes c.before.put.ensures)
+    let counted = c.before.before.before.before in
+    let changeable = counted.if-flag-eq0.false in
+    rw (ne_eqb _ _ changeable, absent counted.before, lt-leb 64 _ (rw counted.count-n.ensures.0 at c.if-n-ge-MOST_TAGS.false))
+    (c.answered-2.ensures ∙ ap yes c.put.ensures)
 
 pub add_spec : {M : Type 1} → statement M
 add_spec =

@@ -6,7 +6,7 @@ use Rattle.bucket.proofs.Bucket.has.Statement.{statement}
 use Rattle.bucket.proofs.Bucket.has.Tie as tie
 
 returns : tie.Need-returns
-returns c = sym (found_at _ _ _ _ c.before.position.ensures.0 c.stands_at.ensures)
+returns c = sym (found_at _ _ _ _ c.position-p.ensures.0 c.stands_at.ensures)
 
-pub has-spec : {M : Type 1} → statement M
-has-spec = tie.close (tie.spec (λ c κs. search rules) (λ c κs. search rules) returns)
+pub has_spec : {M : Type 1} → statement M
+has_spec = tie.close (tie.spec (λ c κs. search rules) (λ c κs. search rules) returns)

@@ -17,49 +17,49 @@ use Rattle.bucket.proofs.Bucket.remove.Tie as tie
 abbrev yes : List ℕ → Changed
 yes w = changed w Yes
 
-abbrev tag_of : tie.After-stands-at → ℕ
-tag_of c = c.before.before.before.before.args.tag
+abbrev tag_of : tie.After-stands_at → ℕ
+tag_of c = c.args.tag
 
-abbrev tagsOf : tie.After-stands-at → List ℕ
-tagsOf c = tags_in c.before.before.before.before.args.t1.words
+abbrev tagsOf : tie.After-stands_at → List ℕ
+tagsOf c = tags_in c.args.self.words
 
-len : (c : tie.Start) → length c.args.t1.words ≡ 66
+len : (c : tie.Start) → length c.args.self.words ≡ 66
 len c = search rules
 
 -- the tag stands where the search ended if and only if the bucket has it
-has : (c : tie.After-stands-at) → found (tag_of c) (tagsOf c) ≡ c.stands_at.result
-has c = found_at _ _ _ _ c.before.position.ensures.0 c.stands_at.ensures
+has : (c : tie.After-stands_at) → found (tag_of c) (tagsOf c) ≡ c.stands_at.result
+has c = found_at _ _ _ _ c.position-p.ensures.0 c.stands_at.ensures
 
-present : (c : tie.Then2) → found (tag_of c.before) (tagsOf c.before) ≡ true
-present c = has c.before ∙ c.if2.true
+present : (c : tie.Then-stands_at) → found (tag_of c.before) (tagsOf c.before) ≡ true
+present c = has c.before ∙ c.if-stands_at.true
 
-returns : tie.Need-returns
+returns : tie.Need-returns-then-flag-eq0
 unfolding removed
-returns c = rw (eq-eqb _ _ c.before.if1.true) c.answered.ensures
+returns c = rw (eq-eqb _ _ c.if-flag-eq0.true) c.answered.ensures
 
 cut-requires : tie.Need-cut-requires
 cut-requires c κs =
-    let there = c.before.before.before in
+    let there = c.before.before in
     let met = there.before in
     let r = rank_below (tag_of met) (tagsOf met) (present there) in
-    (len met.before.before.before.before, omega arith, omega arith, omega arith, met.before.position.ensures.0, present there)
+    (len met.before.before.before.before, omega arith, omega arith, omega arith, met.position-p.ensures.0, present there)
 
-returns_2 : tie.Need-returns-2
+returns_2 : tie.Need-returns-then-stands_at
 unfolding removed
 returns_2 c =
-    let there = c.before.before.before.before.before in
-    let changeable = there.before.before.before.if1.false in
-    rw (ne_eqb _ _ changeable, present there) (c.answered2.ensures ∙ ap yes c.before.cut.ensures)
+    let there = c.before.before.before.before in
+    let changeable = there.if-flag-eq0.false in
+    rw (ne_eqb _ _ changeable, present there) (c.answered-then-stands_at.ensures ∙ ap yes c.cut.ensures)
 
-returns_3 : tie.Need-returns-3
+returns_3 : tie.Need-returns
 unfolding removed
 returns_3 c =
     let found? = c.before.before in
-    let changeable = found?.before.before.if1.false in
-    rw (ne_eqb _ _ changeable, has found? ∙ c.before.if2.false) c.answered3.ensures
+    let changeable = found?.if-flag-eq0.false in
+    rw (ne_eqb _ _ changeable, has found? ∙ c.if-stands_at.false) c.answered-2.ensures
 
-pub remove-spec : {M : Type 1} → statement M
-remove-spec =
+pub remove_spec : {M : Type 1} → statement M
+remove_spec =
     tie.close
     (tie.spec
     (λ c. search rules)

@@ -5,10 +5,10 @@ use Rattle.compare.proofs.both.alike.Tie as tie
 use borrow.Author.Rules.{rules}
 use lib.ListN.{length}
 
-abbrev invariant-loop : tie.invariant-loop
+abbrev invariant-loop : tie.invariant-loop-i
 invariant-loop s m from a i₀ i = (i ≤ length s)
 
-abbrev decreases-loop : tie.decreases-loop
+abbrev decreases-loop : tie.decreases-loop-i
 decreases-loop s m from a i₀ i = length s - i
 
 pub alike_spec : {M : Type 1} → statement M

@@ -4,14 +4,14 @@ use Rattle.compare.proofs.flat.are_tasks.Statement.{statement}
 use Rattle.compare.proofs.flat.are_tasks.Tie as tie
 use borrow.Author.Rules.{rules}
 
-abbrev invariant-loop : tie.invariant-loop
+abbrev invariant-loop : tie.invariant-loop-k
 invariant-loop m ts k₀ k = (k ≤ 8)
 
-abbrev decreases-loop : tie.decreases-loop
+abbrev decreases-loop : tie.decreases-loop-k
 decreases-loop m ts k₀ k = 8 - k
 
-pub are-tasks-spec : {M : Type 1} → statement M
-are-tasks-spec =
+pub are_tasks_spec : {M : Type 1} → statement M
+are_tasks_spec =
     tie.close
     (tie.spec
     invariant-loop

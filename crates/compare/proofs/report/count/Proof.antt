@@ -4,10 +4,10 @@ use Rattle.compare.proofs.report.count.Statement.{statement}
 use Rattle.compare.proofs.report.count.Tie as tie
 use borrow.Author.Rules.{rules}
 
-abbrev invariant-loop : tie.invariant-loop
+abbrev invariant-loop : tie.invariant-loop-j
 invariant-loop m₀ same v j₀ m j = (j ≤ 5)
 
-abbrev decreases-loop : tie.decreases-loop
+abbrev decreases-loop : tie.decreases-loop-j
 decreases-loop m₀ same v j₀ m j = 5 - j
 
 pub count_spec : {M : Type 1} → statement M

@@ -13,7 +13,7 @@ use borrow.Author.Rules.{rules}
 use Rattle.coop_calls.proofs.has_member.line113.Statement.{statement}
 use Rattle.coop_calls.proofs.has_member.line113.Tie as tie
 
-returns : tie.Need-returns
+returns : tie.Need-returns-then-c-eq0
 unfolding member find_line all_lines line_113 tags_of
 returns c =
     let at-if1 = c.before in
@@ -22,9 +22,9 @@ returns c =
     let vs = a.vs.now in
     let y = machine_of a.s vs in
     let at = through y a.k a.c 113 start.requires.0 refl refl in
-    rw (at, empty_o y a.k a.c _ at-if1.if1.true) (c.refused.ensures vs)
+    rw (at, empty_o y a.k a.c _ at-if1.if-c-eq0.true) (c.refused.ensures vs)
 
-returns_2 : tie.Need-returns-2
+returns_2 : tie.Need-returns-then-there-same
 unfolding member find_line all_lines line_113 tags_of
 returns_2 c =
     let at-yes-no = c.before in
@@ -37,20 +37,20 @@ returns_2 c =
     let a = start.args in
     let vs = a.vs.now in
     let y = machine_of a.s vs in
-    let r = ap (λ (x : Answer). accept y a.k a.c.own (answers x)) at-yes-no.yes_no.ensures in
+    let r = ap (λ (x : Answer). accept y a.k a.c.own (answers x)) at-yes-no.yes_no-a.ensures in
     let at = through y a.k a.c 113 start.requires.0 refl refl in
-    rw (at, filled_o y a.k a.c _ at-if1.if1.false)
+    rw (at, filled_o y a.k a.c _ at-if1.if-c-eq0.false)
     (c.end.ensures vs ∙ r
-    ∙ rw (← at-op-word.op_word.ensures a.s, ← at-op-number.op_number.ensures, ← at-operation.operation.ensures vs, at-if2.if2.true))
+    ∙ rw (← at-op-word.op_word-m.ensures a.s, ← at-op-number.op_number-n.ensures, ← at-operation.operation-op.ensures vs, at-if2.if-there-same.true))
 
-has-requires : tie.Need-has-requires
+has-requires : tie.Need-has-h-requires
 has-requires c κs =
     let at-if1 = c.before.before.before.before.before.before.before in
     let start = at-if1.before.before.before in
-    let o = at-if1.if1.false in
+    let o = at-if1.if-c-eq0.false in
     start.requires.1.o_tagged (omega arith)
 
-returns_3 : tie.Need-returns-3
+returns_3 : tie.Need-returns
 unfolding member find_line all_lines line_113 tags_of
 returns_3 c =
     let at-yes-no = c.before in
@@ -64,15 +64,15 @@ returns_3 c =
     let a = start.args in
     let vs = a.vs.now in
     let y = machine_of a.s vs in
-    let h = at-yes-no.yes-no2.ensures ∙ ap (λ (b : Bool). yes_no b) at_has.has.ensures in
+    let h = at-yes-no.yes_no-a-2.ensures ∙ ap (λ (b : Bool). yes_no b) at_has.has-h.ensures in
     let r = ap (λ (x : Answer). accept y a.k a.c.own (answers x)) h in
     let at = through y a.k a.c 113 start.requires.0 refl refl in
-    rw (at, filled_o y a.k a.c _ at-if1.if1.false)
-    (c.end2.ensures vs ∙ r
-    ∙ rw (← at-op-word.op_word.ensures a.s, ← at-op-number.op_number.ensures, ← at-operation.operation.ensures vs, at-if2.if2.false))
+    rw (at, filled_o y a.k a.c _ at-if1.if-c-eq0.false)
+    (c.end-2.ensures vs ∙ r
+    ∙ rw (← at-op-word.op_word-m.ensures a.s, ← at-op-number.op_number-n.ensures, ← at-operation.operation-op.ensures vs, at-if2.if-there-same.false))
 
-pub line113-spec : {M : Type 1} → statement M
-line113-spec =
+pub line113_spec : {M : Type 1} → statement M
+line113_spec =
     tie.close
     (tie.spec
     (λ c κs. search rules)

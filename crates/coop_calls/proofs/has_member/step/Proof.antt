@@ -5,18 +5,18 @@ use borrow.Author.Rules.{rules}
 use Rattle.coop_calls.proofs.has_member.step.Statement.{statement}
 use Rattle.coop_calls.proofs.has_member.step.Tie as tie
 
-returns : tie.Need-returns
-returns c = c.line112.ensures c.before.before.before.before.args.vs.now
+returns : tie.Need-returns-then-c-eq112
+returns c = c.line112.ensures c.args.vs.now
 
 line113-requires : tie.Need-line113-requires
 unfolding member_lines
 line113-requires c κs =
     let start = c.before.before.before in
     let line = start.args.c.line in
-    let not-112 = not_first line 112 _ start.requires.1 c.if1.false in
+    let not-112 = not_first line 112 _ start.requires.1 c.if-c-eq112.false in
     (last_line line 113 not-112, start.requires.0)
 
-returns_2 : tie.Need-returns-2
+returns_2 : tie.Need-returns
 returns_2 c = c.line113.ensures
 
 pub step_spec : {M : Type 1} → statement M

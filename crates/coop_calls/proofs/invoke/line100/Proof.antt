@@ -14,7 +14,7 @@ returns c =
     let start = c.before.before in
     let a = start.args in
     let vs = a.vs.now in
-    c.test-op.ensures ∙ sym (through (machine_of a.s vs) a.k a.c 100 start.requires refl refl)
+    c.test_op.ensures ∙ sym (through (machine_of a.s vs) a.k a.c 100 start.requires refl refl)
 
-pub line100-spec : {M : Type 1} → statement M
-line100-spec = tie.close (tie.spec (λ c κs. search rules) returns)
+pub line100_spec : {M : Type 1} → statement M
+line100_spec = tie.close (tie.spec (λ c κs. search rules) returns)

@@ -13,7 +13,7 @@ use borrow.Author.Rules.{rules}
 use Rattle.coop_calls.proofs.invoke.line107.Statement.{statement}
 use Rattle.coop_calls.proofs.invoke.line107.Tie as tie
 
-returns : tie.Need-returns
+returns : tie.Need-returns-then-own_done
 unfolding member find_line all_lines line_107
 returns c =
     let at-if1 = c.before in
@@ -22,11 +22,11 @@ returns c =
     let a = start.args in
     λ vs.
     let y = machine_of a.s vs in
-    let d = sym (at-own-done.own_done.ensures vs) ∙ at-if1.if1.true in
+    let d = sym (at-own-done.own_done.ensures vs) ∙ at-if1.if-own_done.true in
     let e = ap (accept y a.k a.c.own) (if_true (own_done y a.c) (returns_true a.c []) (answers No) d) in
-    c.end-true.ensures vs ∙ sym (plain y a.k a.c 107 start.requires refl ∙ e)
+    c.end_true.ensures vs ∙ sym (plain y a.k a.c 107 start.requires refl ∙ e)
 
-returns_2 : tie.Need-returns-2
+returns_2 : tie.Need-returns
 unfolding member find_line all_lines line_107
 returns_2 c =
     let at-if1 = c.before in
@@ -35,10 +35,10 @@ returns_2 c =
     let a = start.args in
     λ vs.
     let y = machine_of a.s vs in
-    let d = sym (at-own-done.own_done.ensures vs) ∙ at-if1.if1.false in
+    let d = sym (at-own-done.own_done.ensures vs) ∙ at-if1.if-own_done.false in
     let e = ap (accept y a.k a.c.own) (if_false (own_done y a.c) (returns_true a.c []) (answers No) d) in
     c.end.ensures vs ∙ sym (plain y a.k a.c 107 start.requires refl ∙ e)
 
-pub line107-spec : {M : Type 1} → statement M
-line107-spec =
+pub line107_spec : {M : Type 1} → statement M
+line107_spec =
     tie.close (tie.spec (λ c κs. search rules) (λ c κs. search rules) returns (λ c κs. search rules) returns_2)

@@ -17,7 +17,7 @@ returns c =
     let a = start.args in
     let vs = a.vs.now in
     c.choose.ensures vs
-    ∙ rw (at-frozen.frozen.ensures, at-own-done.own_done.ensures vs) (sym (plain (machine_of a.s vs) a.k a.c 95 start.requires refl))
+    ∙ rw (at-frozen.frozen-f.ensures, at-own-done.own_done-d.ensures vs) (sym (plain (machine_of a.s vs) a.k a.c 95 start.requires refl))
 
-pub line95-spec : {M : Type 1} → statement M
-line95-spec = tie.close (tie.spec (λ c κs. search rules) (λ c κs. search rules) (λ c κs. search rules) returns)
+pub line95_spec : {M : Type 1} → statement M
+line95_spec = tie.close (tie.spec (λ c κs. search rules) (λ c κs. search rules) (λ c κs. search rules) returns)

@@ -15,5 +15,5 @@ returns c =
     let a = start.args in
     λ vs. c.choose.ensures vs ∙ sym (plain (machine_of a.s vs) a.k a.c 96 start.requires refl)
 
-pub line96-spec : {M : Type 1} → statement M
-line96-spec = tie.close (tie.spec (λ c κs. search rules) returns)
+pub line96_spec : {M : Type 1} → statement M
+line96_spec = tie.close (tie.spec (λ c κs. search rules) returns)

@@ -5,25 +5,25 @@ use borrow.Author.Rules.{rules}
 use Rattle.coop_calls.proofs.invoke.step.Statement.{statement}
 use Rattle.coop_calls.proofs.invoke.step.Tie as tie
 
-returns : tie.Need-returns
+returns : tie.Need-returns-then-line-eq95
 returns c = c.line95.ensures
 
-returns_2 : tie.Need-returns-2
-returns_2 c = c.line96.ensures c.before.before.before.before.args.vs.now
+returns_2 : tie.Need-returns-then-line-eq96
+returns_2 c = c.line96.ensures c.args.vs.now
 
-returns_3 : tie.Need-returns-3
-returns_3 c = c.line99.ensures c.before.before.before.before.before.args.vs.now
+returns_3 : tie.Need-returns-then-line-eq99
+returns_3 c = c.line99.ensures c.args.vs.now
 
-returns_4 : tie.Need-returns-4
+returns_4 : tie.Need-returns-then-line-eq100
 returns_4 c = c.line100.ensures
 
-returns-5 : tie.Need-returns-5
+returns-5 : tie.Need-returns-then-line-eq101
 returns-5 c =
     let at-if1 = c.before.before.before.before.before in
-    c.line101.ensures at-if1.before.before.args.vs.now
+    c.line101.ensures at-if1.args.vs.now
 
-returns-6 : tie.Need-returns-6
-returns-6 c = c.before.before.line102.ensures
+returns-6 : tie.Need-returns-then-line-eq102
+returns-6 c = c.line102.ensures
 
 line107-requires : tie.Need-line107-requires
 unfolding invoke_lines
@@ -35,18 +35,18 @@ line107-requires c κs =
     let at-if1 = at-if2.before in
     let start = at-if1.before.before in
     let line = start.args.c.line in
-    let not-95 = not_first line 95 _ start.requires.1 at-if1.if1.false in
-    let not-96 = not_first line 96 _ not-95 at-if2.if2.false in
-    let not-99 = not_first line 99 _ not-96 at-if3.if3.false in
-    let not-100 = not_first line 100 _ not-99 at-if4.if4.false in
-    let not-101 = not_first line 101 _ not-100 at-if5.if5.false in
-    let not-102 = not_first line 102 _ not-101 c.if6.false in
+    let not-95 = not_first line 95 _ start.requires.1 at-if1.if-line-eq95.false in
+    let not-96 = not_first line 96 _ not-95 at-if2.if-line-eq96.false in
+    let not-99 = not_first line 99 _ not-96 at-if3.if-line-eq99.false in
+    let not-100 = not_first line 100 _ not-99 at-if4.if-line-eq100.false in
+    let not-101 = not_first line 101 _ not-100 at-if5.if-line-eq101.false in
+    let not-102 = not_first line 102 _ not-101 c.if-line-eq102.false in
     last_line line 107 not-102
 
-returns-7 : tie.Need-returns-7
+returns-7 : tie.Need-returns
 returns-7 c =
     let at-if1 = c.before.before.before.before.before.before in
-    c.line107.ensures at-if1.before.before.args.vs.now
+    c.line107.ensures at-if1.args.vs.now
 
 pub step_spec : {M : Type 1} → statement M
 step_spec =

@@ -4,14 +4,14 @@ use Rattle.coop_compare.proofs.both.versions_are.Statement.{statement}
 use Rattle.coop_compare.proofs.both.versions_are.Tie as tie
 use borrow.Author.Rules.{rules}
 
-abbrev invariant-loop : tie.invariant-loop
+abbrev invariant-loop : tie.invariant-loop-i
 invariant-loop m n i₀ i = (i ≤ n)
 
-abbrev decreases-loop : tie.decreases-loop
+abbrev decreases-loop : tie.decreases-loop-i
 decreases-loop m n i₀ i = n - i
 
-pub versions-are-spec : {M : Type 1} → statement M
-versions-are-spec =
+pub versions_are_spec : {M : Type 1} → statement M
+versions_are_spec =
     tie.close
     (tie.spec
     invariant-loop

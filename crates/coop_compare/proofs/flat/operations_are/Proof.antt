@@ -4,14 +4,14 @@ use Rattle.coop_compare.proofs.flat.operations_are.Statement.{statement}
 use Rattle.coop_compare.proofs.flat.operations_are.Tie as tie
 use borrow.Author.Rules.{rules}
 
-abbrev invariant-loop : tie.invariant-loop
+abbrev invariant-loop : tie.invariant-loop-n
 invariant-loop m a n₀ n = (n ≤ 64)
 
-abbrev decreases-loop : tie.decreases-loop
+abbrev decreases-loop : tie.decreases-loop-n
 decreases-loop m a n₀ n = 64 - n
 
-pub operations-are-spec : {M : Type 1} → statement M
-operations-are-spec =
+pub operations_are_spec : {M : Type 1} → statement M
+operations_are_spec =
     tie.close
     (tie.spec
     invariant-loop

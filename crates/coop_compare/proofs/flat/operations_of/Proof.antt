@@ -6,14 +6,14 @@ use borrow.Author.Rules.{rules}
 use lib.ListN.{length}
 use mathlib.Core.Path.{◌≡◌}
 
-abbrev invariant-loop : tie.invariant-loop
+abbrev invariant-loop : tie.invariant-loop-n
 invariant-loop m a₀ n₀ a n = (n ≤ 64) × (64 ≡ length a)
 
-abbrev decreases-loop : tie.decreases-loop
+abbrev decreases-loop : tie.decreases-loop-n
 decreases-loop m a₀ n₀ a n = 64 - n
 
-pub operations-of-spec : {M : Type 1} → statement M
-operations-of-spec =
+pub operations_of_spec : {M : Type 1} → statement M
+operations_of_spec =
     tie.close
     (tie.spec
     invariant-loop

@@ -4,14 +4,14 @@ use Rattle.coop_compare.proofs.flat.tasks_are.Statement.{statement}
 use Rattle.coop_compare.proofs.flat.tasks_are.Tie as tie
 use borrow.Author.Rules.{rules}
 
-abbrev invariant-loop : tie.invariant-loop
+abbrev invariant-loop : tie.invariant-loop-k
 invariant-loop m a k₀ k = (k ≤ 8)
 
-abbrev decreases-loop : tie.decreases-loop
+abbrev decreases-loop : tie.decreases-loop-k
 decreases-loop m a k₀ k = 8 - k
 
-pub tasks-are-spec : {M : Type 1} → statement M
-tasks-are-spec =
+pub tasks_are_spec : {M : Type 1} → statement M
+tasks_are_spec =
     tie.close
     (tie.spec
     invariant-loop

@@ -6,14 +6,14 @@ use borrow.Author.Rules.{rules}
 use lib.ListN.{length}
 use mathlib.Core.Path.{◌≡◌}
 
-abbrev invariant-loop : tie.invariant-loop
+abbrev invariant-loop : tie.invariant-loop-k
 invariant-loop m a₀ k₀ a k = (k ≤ 8) × (8 ≡ length a)
 
-abbrev decreases-loop : tie.decreases-loop
+abbrev decreases-loop : tie.decreases-loop-k
 decreases-loop m a₀ k₀ a k = 8 - k
 
-pub tasks-of-spec : {M : Type 1} → statement M
-tasks-of-spec =
+pub tasks_of_spec : {M : Type 1} → statement M
+tasks_of_spec =
     tie.close
     (tie.spec
     invariant-loop

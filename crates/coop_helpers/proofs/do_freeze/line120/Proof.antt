@@ -15,7 +15,7 @@ returns c =
     let start = at-frozen.before.before in
     let a = start.args in
     let vs = a.vs.now in
-    c.choose.ensures vs ∙ rw at-frozen.frozen.ensures (sym (plain (machine_of a.s vs) a.k a.c 120 start.requires refl))
+    c.choose.ensures vs ∙ rw at-frozen.frozen-f.ensures (sym (plain (machine_of a.s vs) a.k a.c 120 start.requires refl))
 
-pub line120-spec : {M : Type 1} → statement M
-line120-spec = tie.close (tie.spec (λ c κs. search rules) (λ c κs. search rules) returns)
+pub line120_spec : {M : Type 1} → statement M
+line120_spec = tie.close (tie.spec (λ c κs. search rules) (λ c κs. search rules) returns)

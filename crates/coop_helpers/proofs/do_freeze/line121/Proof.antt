@@ -13,7 +13,7 @@ unfolding member find_line all_lines line_121
 returns c =
     let start = c.before in
     let a = start.args in
-    λ vs. c.read-node.ensures vs ∙ sym (plain (machine_of a.s vs) a.k a.c 121 start.requires.0 refl)
+    λ vs. c.read_node.ensures vs ∙ sym (plain (machine_of a.s vs) a.k a.c 121 start.requires.0 refl)
 
-pub line121-spec : {M : Type 1} → statement M
-line121-spec = tie.close (tie.spec (λ c κs. search rules) returns)
+pub line121_spec : {M : Type 1} → statement M
+line121_spec = tie.close (tie.spec (λ c κs. search rules) returns)

@@ -8,7 +8,7 @@ use borrow.Author.Rules.{rules}
 use Rattle.coop_helpers.proofs.do_freeze.line127.Statement.{statement}
 use Rattle.coop_helpers.proofs.do_freeze.line127.Tie as tie
 
-returns : tie.Need-returns
+returns : tie.Need-returns-then-is_invoke
 unfolding member find_line all_lines line_127
 returns c =
     let at-if1 = c.before in
@@ -16,9 +16,9 @@ returns c =
     let a = start.args in
     λ vs.
     let at = plain (machine_of a.s vs) a.k a.c 127 start.requires refl in
-    rw (at, sym at-if1.before.is-invoke.ensures ∙ at-if1.if1.true) (c.go-line.ensures vs)
+    rw (at, sym at-if1.is_invoke.ensures ∙ at-if1.if-is_invoke.true) (c.go_line.ensures vs)
 
-returns_2 : tie.Need-returns-2
+returns_2 : tie.Need-returns
 unfolding member find_line all_lines line_127
 returns_2 c =
     let at-if1 = c.before in
@@ -26,7 +26,7 @@ returns_2 c =
     let a = start.args in
     λ vs.
     let at = plain (machine_of a.s vs) a.k a.c 127 start.requires refl in
-    rw (at, sym at-if1.before.is-invoke.ensures ∙ at-if1.if1.false) (c.end.ensures vs)
+    rw (at, sym at-if1.is_invoke.ensures ∙ at-if1.if-is_invoke.false) (c.end.ensures vs)
 
-pub line127-spec : {M : Type 1} → statement M
-line127-spec = tie.close (tie.spec (λ c κs. search rules) (λ c κs. search rules) returns (λ c κs. search rules) returns_2)
+pub line127_spec : {M : Type 1} → statement M
+line127_spec = tie.close (tie.spec (λ c κs. search rules) (λ c κs. search rules) returns (λ c κs. search rules) returns_2)

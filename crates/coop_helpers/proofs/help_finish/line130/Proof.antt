@@ -9,7 +9,7 @@ use borrow.Author.Rules.{rules}
 use Rattle.coop_helpers.proofs.help_finish.line130.Statement.{statement}
 use Rattle.coop_helpers.proofs.help_finish.line130.Tie as tie
 
-returns : tie.Need-returns
+returns : tie.Need-returns-then-c-eq0
 unfolding member find_line all_lines line_130
 returns c =
     let at-if1 = c.before in
@@ -18,9 +18,9 @@ returns c =
     let vs = a.vs.now in
     let y = machine_of a.s vs in
     let at = through y a.k a.c 130 start.requires refl refl in
-    rw (at, empty_o y a.k a.c _ at-if1.if1.true) (c.refused.ensures vs)
+    rw (at, empty_o y a.k a.c _ at-if1.if-c-eq0.true) (c.refused.ensures vs)
 
-returns_2 : tie.Need-returns-2
+returns_2 : tie.Need-returns-then-m-ge2
 unfolding member find_line all_lines line_130 to_finish
 returns_2 c =
     let at-op-word = c.before.before in
@@ -30,9 +30,9 @@ returns_2 c =
     let vs = a.vs.now in
     let y = machine_of a.s vs in
     let at = through y a.k a.c 130 start.requires refl refl in
-    rw (at, filled_o y a.k a.c _ at-if1.if1.false, ← at-op-word.op_word.ensures a.s, le-leb _ _ c.before.if2.true) (c.go.ensures vs)
+    rw (at, filled_o y a.k a.c _ at-if1.if-c-eq0.false, ← at-op-word.op_word-m.ensures a.s, le-leb _ _ c.if-m-ge2.true) (c.go.ensures vs)
 
-returns_3 : tie.Need-returns-3
+returns_3 : tie.Need-returns
 unfolding member find_line all_lines line_130
 returns_3 c =
     let at-op-word = c.before.before in
@@ -42,10 +42,10 @@ returns_3 c =
     let vs = a.vs.now in
     let y = machine_of a.s vs in
     let at = through y a.k a.c 130 start.requires refl refl in
-    rw (at, filled_o y a.k a.c _ at-if1.if1.false, ← at-op-word.op_word.ensures a.s, lt-leb _ _ c.before.if2.false) (c.return-to.ensures vs)
+    rw (at, filled_o y a.k a.c _ at-if1.if-c-eq0.false, ← at-op-word.op_word-m.ensures a.s, lt-leb _ _ c.if-m-ge2.false) (c.return_to.ensures vs)
 
-pub line130-spec : {M : Type 1} → statement M
-line130-spec =
+pub line130_spec : {M : Type 1} → statement M
+line130_spec =
     tie.close
     (tie.spec
     (λ c κs. search rules)

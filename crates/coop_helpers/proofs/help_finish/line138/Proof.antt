@@ -15,27 +15,27 @@ use borrow.Author.Rules.{rules}
 use Rattle.coop_helpers.proofs.help_finish.line138.Statement.{statement}
 use Rattle.coop_helpers.proofs.help_finish.line138.Tie as tie
 
-returns : tie.Need-returns
+returns : tie.Need-returns-then-not-both_filled
 unfolding member find_line all_lines line_138 tags_of
 returns c =
     let at-if1 = c.before in
     let start = at-if1.before.before.before in
     let a = start.args in
-    let missing = sym at-if1.before.both-filled.ensures ∙ not-true _ at-if1.if1.true in
+    let missing = sym at-if1.both_filled.ensures ∙ not-true _ at-if1.if-not-both_filled.true-raw in
     let vs = a.vs.now in
     let y = machine_of a.s vs in
     let at = helping y a.k a.c 138 start.requires.0 refl refl in
     rw (at, empty_both y a.k a.c _ missing) (c.refused.ensures vs)
 
-responds-requires : tie.Need-responds-requires
+responds-requires : tie.Need-responds-b-requires
 responds-requires c κs =
     let at-number-of = c.before.before in
     let at-if1 = at-number-of.before in
     let start = at-if1.before.before.before in
-    let both = sym at-if1.before.both-filled.ensures ∙ not-false _ at-if1.if1.false in
-    rw at-number-of.number_of.ensures (start.requires.1.o_tagged (above start.args.c.o _ both))
+    let both = sym at-if1.both_filled.ensures ∙ not-false _ at-if1.if-not-both_filled.false-raw in
+    rw at-number-of.number_of-j.ensures (start.requires.1.o_tagged (above start.args.c.o _ both))
 
-returns_2 : tie.Need-returns-2
+returns_2 : tie.Need-returns
 unfolding member find_line all_lines line_138 tags_of accept apply_all
 returns_2 c =
     let at-set-resp = c.before in
@@ -48,21 +48,21 @@ returns_2 c =
     let a = start.args in
     let vs = a.vs.now in
     let y = machine_of a.s vs in
-    let both = sym at-if1.before.both-filled.ensures ∙ not-false _ at-if1.if1.false in
+    let both = sym at-if1.both_filled.ensures ∙ not-false _ at-if1.if-not-both_filled.false-raw in
     let n = number a.c.helped in
     let ts = old_set y a.c in
-    let helped = at-operation.operation.ensures vs ∙ ap (operation_of y) at-helped.number-of2.ensures in
-    let of-o = at-responds.responds.ensures ∙ ap (λ (j : ℕ). response at-operation.operation.result (tags_of y j)) at-o.number_of.ensures in
+    let helped = at-operation.operation-op.ensures vs ∙ ap (operation_of y) at-helped.number_of-n.ensures in
+    let of-o = at-responds.responds-b.ensures ∙ ap (λ (j : ℕ). response at-operation.operation-op.result (tags_of y j)) at-o.number_of-j.ensures in
     let responds = of-o ∙ ap (λ (q : Operation). response q ts) helped in
-    let stored = at-set-resp.set_resp.ensures vs
-    ∙ ap (λ (i : ℕ). apply (set_resp i at-responds.responds.result) y) at-helped.number-of2.ensures
+    let stored = at-set-resp.set_resp-t.ensures vs
+    ∙ ap (λ (i : ℕ). apply (set_resp i at-responds.responds-b.result) y) at-helped.number_of-n.ensures
     ∙ ap (λ (b : Bool). apply (set_resp n b) y) responds in
     let at = helping y a.k a.c 138 start.requires.0 refl refl in
     rw (at, filled_both y a.k a.c _ both)
-    (c.go-with.ensures vs ∙ ap (λ (z : Machine). accept z a.k a.c.own (moves (to_line_with 139 a.c.o a.c))) stored)
+    (c.go_with.ensures vs ∙ ap (λ (z : Machine). accept z a.k a.c.own (moves (to_line_with 139 a.c.o a.c))) stored)
 
-pub line138-spec : {M : Type 1} → statement M
-line138-spec =
+pub line138_spec : {M : Type 1} → statement M
+line138_spec =
     tie.close
     (tie.spec
     (λ c κs. search rules)

@@ -11,16 +11,16 @@ use borrow.Author.Rules.{rules}
 use Rattle.coop_helpers.proofs.help_finish.line139.Statement.{statement}
 use Rattle.coop_helpers.proofs.help_finish.line139.Tie as tie
 
-returns : tie.Need-returns
+returns : tie.Need-returns-then-c-eq0
 unfolding member find_line all_lines line_139
 returns c =
     let at-if1 = c.before in
     let start = at-if1.before.before in
     let a = start.args in
     λ vs.
-    rw (empty_helped (machine_of a.s vs) a.k a.c 139 start.requires refl refl at-if1.if1.true) (c.refused.ensures vs)
+    rw (empty_helped (machine_of a.s vs) a.k a.c 139 start.requires refl refl at-if1.if-c-eq0.true) (c.refused.ensures vs)
 
-returns_2 : tie.Need-returns-2
+returns_2 : tie.Need-returns
 unfolding member find_line all_lines line_139 accept apply_all
 returns_2 c =
     let at-set-done = c.before in
@@ -30,12 +30,12 @@ returns_2 c =
     let a = start.args in
     λ vs.
     let y = machine_of a.s vs in
-    let stored = at-set-done.set_done.ensures vs ∙ ap (λ (n : ℕ). apply (set_done n) y) at-number-of.number_of.ensures in
-    rw (filled_helped y a.k a.c 139 start.requires refl refl at-if1.if1.false)
-    (c.go-with.ensures vs ∙ ap (λ (z : Machine). accept z a.k a.c.own (moves (to_line_with 140 a.c.o a.c))) stored)
+    let stored = at-set-done.set_done-t.ensures vs ∙ ap (λ (n : ℕ). apply (set_done n) y) at-number-of.number_of-n.ensures in
+    rw (filled_helped y a.k a.c 139 start.requires refl refl at-if1.if-c-eq0.false)
+    (c.go_with.ensures vs ∙ ap (λ (z : Machine). accept z a.k a.c.own (moves (to_line_with 140 a.c.o a.c))) stored)
 
-pub line139-spec : {M : Type 1} → statement M
-line139-spec =
+pub line139_spec : {M : Type 1} → statement M
+line139_spec =
     tie.close
     (tie.spec
     (λ c κs. search rules)

@@ -5,19 +5,19 @@ use borrow.Author.Rules.{rules}
 use Rattle.coop_helpers.proofs.help_finish.step.Statement.{statement}
 use Rattle.coop_helpers.proofs.help_finish.step.Tie as tie
 
-returns : tie.Need-returns
-returns c = c.line129.ensures c.before.before.before.args.vs.now
+returns : tie.Need-returns-then-line-eq129
+returns c = c.line129.ensures c.args.vs.now
 
-returns_2 : tie.Need-returns-2
+returns_2 : tie.Need-returns-then-line-eq130
 returns_2 c = c.line130.ensures
 
-returns_3 : tie.Need-returns-3
+returns_3 : tie.Need-returns-then-line-eq138
 returns_3 c = c.line138.ensures
 
-returns_4 : tie.Need-returns-4
+returns_4 : tie.Need-returns-then-line-eq139
 returns_4 c =
     let at-if1 = c.before.before.before.before in
-    c.line139.ensures at-if1.before.before.args.vs.now
+    c.line139.ensures at-if1.args.vs.now
 
 line140-requires : tie.Need-line140-requires
 unfolding help_lines
@@ -28,14 +28,14 @@ line140-requires c κs =
     let at-if1 = at-if2.before in
     let start = at-if1.before.before in
     let line = start.args.c.line in
-    let not-129 = not_first line 129 _ start.requires.1 at-if1.if1.false in
-    let not-130 = not_first line 130 _ not-129 at-if2.if2.false in
-    let not-138 = not_first line 138 _ not-130 at-if3.if3.false in
-    let not-139 = not_first line 139 _ not-138 at-if4.if4.false in
+    let not-129 = not_first line 129 _ start.requires.1 at-if1.if-line-eq129.false in
+    let not-130 = not_first line 130 _ not-129 at-if2.if-line-eq130.false in
+    let not-138 = not_first line 138 _ not-130 at-if3.if-line-eq138.false in
+    let not-139 = not_first line 139 _ not-138 at-if4.if-line-eq139.false in
     (last_line line 140 not-139, start.requires.0)
 
-returns-5 : tie.Need-returns-5
-returns-5 c = c.before.before.line140.ensures
+returns-5 : tie.Need-returns
+returns-5 c = c.line140.ensures
 
 pub step_spec : {M : Type 1} → statement M
 step_spec =

@@ -8,12 +8,12 @@ use borrow.Author.Rules.{rules}
 use Rattle.coop_pool.proofs.taking.free_version.Statement.{statement}
 use Rattle.coop_pool.proofs.taking.free_version.Tie as tie
 
-first-unmarked-requires : tie.Need-first-unmarked-requires
+first-unmarked-requires : tie.Need-first_unmarked-requires
 first-unmarked-requires c κs =
     let at-mark-tasks = c.before.before in
     let at_mark = at-mark-tasks.before.before.before in
     let l = at_mark.mark.ensures.long in
-    let k = at-mark-tasks.mark-tasks.ensures.long in
+    let k = at-mark-tasks.mark_tasks.ensures.long in
     omega arith
 
 returns : tie.Need-returns
@@ -21,10 +21,10 @@ unfolding free_version held_versions concat_map
 returns c =
     let at-mark-tasks = c.before.before.before in
     let at_mark = at-mark-tasks.before.before.before in
-    λ vs. c.first-unmarked.ensures _ (onto (onto (none 1024) at_mark.mark.ensures) at-mark-tasks.mark-tasks.ensures)
+    λ vs. c.first_unmarked.ensures _ (onto (onto (none 1024) at_mark.mark.ensures) at-mark-tasks.mark_tasks.ensures)
 
-pub free-version-spec : {M : Type 1} → statement M
-free-version-spec =
+pub free_version_spec : {M : Type 1} → statement M
+free_version_spec =
     tie.close
     (tie.spec
     (λ c. search rules)

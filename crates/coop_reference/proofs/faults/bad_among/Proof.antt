@@ -4,14 +4,14 @@ use Rattle.coop_reference.proofs.faults.bad_among.Statement.{statement}
 use Rattle.coop_reference.proofs.faults.bad_among.Tie as tie
 use borrow.Author.Rules.{rules}
 
-abbrev invariant-loop : tie.invariant-loop
+abbrev invariant-loop : tie.invariant-loop-at
 invariant-loop w from end at₀ at = (from ≤ at)
 
-abbrev decreases-loop : tie.decreases-loop
+abbrev decreases-loop : tie.decreases-loop-at
 decreases-loop w from end at₀ at = end - at
 
-pub bad-among-spec : {M : Type 1} → statement M
-bad-among-spec =
+pub bad_among_spec : {M : Type 1} → statement M
+bad_among_spec =
     tie.close
     (tie.spec
     invariant-loop

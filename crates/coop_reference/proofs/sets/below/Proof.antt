@@ -4,14 +4,14 @@ use Rattle.coop_reference.proofs.sets.below.Statement.{statement}
 use Rattle.coop_reference.proofs.sets.below.Tie as tie
 use borrow.Author.Rules.{rules}
 
-abbrev invariant-loop : tie.invariant-loop
+abbrev invariant-loop : tie.invariant-loop-j
 invariant-loop w x o count n₀ j₀ n j = (j ≤ count)
 
-abbrev decreases-loop : tie.decreases-loop
+abbrev decreases-loop : tie.decreases-loop-j
 decreases-loop w x o count n₀ j₀ n j = count - j
 
-pub below-spec : {M : Type 1} → statement M
-below-spec =
+pub below_spec : {M : Type 1} → statement M
+below_spec =
     tie.close
     (tie.spec
     invariant-loop

@@ -4,14 +4,14 @@ use Rattle.coop_reference.proofs.sets.is_held.Statement.{statement}
 use Rattle.coop_reference.proofs.sets.is_held.Tie as tie
 use borrow.Author.Rules.{rules}
 
-abbrev invariant-loop : tie.invariant-loop
+abbrev invariant-loop : tie.invariant-loop-at
 invariant-loop w place at₀ at = (at ≤ 406)
 
-abbrev decreases-loop : tie.decreases-loop
+abbrev decreases-loop : tie.decreases-loop-at
 decreases-loop w place at₀ at = 397 - at
 
-pub is-held-spec : {M : Type 1} → statement M
-is-held-spec =
+pub is_held_spec : {M : Type 1} → statement M
+is_held_spec =
     tie.close
     (tie.spec
     invariant-loop

@@ -6,14 +6,14 @@ use borrow.Author.Rules.{rules}
 use Rattle.dump_text.proofs.holders.by_nodes.Statement.{statement}
 use Rattle.dump_text.proofs.holders.by_nodes.Tie as tie
 
-abbrev invariant-loop : tie.invariant-loop
+abbrev invariant-loop : tie.invariant-loop-i
 invariant-loop out₀ at w ns kind l to₀ i₀ out to i = (to ≤ length out₀) × (length out ≡ length out₀)
 
-abbrev decreases-loop : tie.decreases-loop
+abbrev decreases-loop : tie.decreases-loop-i
 decreases-loop out₀ at w ns kind l to₀ i₀ out to i = 2176 - i
 
-pub by-nodes-spec : {M : Type 1} → statement M
-by-nodes-spec =
+pub by_nodes_spec : {M : Type 1} → statement M
+by_nodes_spec =
     tie.close
     (tie.spec
     invariant-loop

@@ -6,14 +6,14 @@ use borrow.Author.Rules.{rules}
 use Rattle.dump_text.proofs.holders.by_tasks.Statement.{statement}
 use Rattle.dump_text.proofs.holders.by_tasks.Tie as tie
 
-abbrev invariant-loop : tie.invariant-loop
+abbrev invariant-loop : tie.invariant-loop-i
 invariant-loop out₀ at w kind l to₀ i₀ out to i = (to ≤ length out₀) × (length out ≡ length out₀)
 
-abbrev decreases-loop : tie.decreases-loop
+abbrev decreases-loop : tie.decreases-loop-i
 decreases-loop out₀ at w kind l to₀ i₀ out to i = 104 - i
 
-pub by-tasks-spec : {M : Type 1} → statement M
-by-tasks-spec =
+pub by_tasks_spec : {M : Type 1} → statement M
+by_tasks_spec =
     tie.close
     (tie.spec
     invariant-loop

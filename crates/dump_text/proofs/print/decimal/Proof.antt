@@ -10,5 +10,5 @@ returns c =
     let entry = at_number.before.before.before in
     append_on_within _ _ _ _ _ entry.requires at_number.number.ensures
 
-pub decimal-spec : {M : Type 1} → statement M
-decimal-spec = tie.close (tie.spec (λ c κs. search rules) (λ c. search rules) returns)
+pub decimal_spec : {M : Type 1} → statement M
+decimal_spec = tie.close (tie.spec (λ c κs. search rules) (λ c. search rules) returns)

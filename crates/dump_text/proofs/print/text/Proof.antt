@@ -8,7 +8,7 @@ returns : tie.Need-returns
 returns c =
     let at-all-bytes = c.before.before in
     let entry = at-all-bytes.before.before.before.before in
-    append_on_within _ _ _ _ _ entry.requires at-all-bytes.all-bytes.ensures
+    append_on_within _ _ _ _ _ entry.requires at-all-bytes.all_bytes.ensures
 
-pub text-spec : {M : Type 1} → statement M
-text-spec = tie.close (tie.spec (λ c κs. search rules) (λ c. search rules) returns)
+pub text_spec : {M : Type 1} → statement M
+text_spec = tie.close (tie.spec (λ c κs. search rules) (λ c. search rules) returns)

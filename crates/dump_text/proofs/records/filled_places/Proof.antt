@@ -6,14 +6,14 @@ use borrow.Author.Rules.{rules}
 use Rattle.dump_text.proofs.records.filled_places.Statement.{statement}
 use Rattle.dump_text.proofs.records.filled_places.Tie as tie
 
-abbrev invariant-loop : tie.invariant-loop
+abbrev invariant-loop : tie.invariant-loop-i
 invariant-loop out₀ at ns k to₀ i₀ out to i = (to ≤ length out₀) × (length out ≡ length out₀)
 
-abbrev decreases-loop : tie.decreases-loop
+abbrev decreases-loop : tie.decreases-loop-i
 decreases-loop out₀ at ns k to₀ i₀ out to i = 32 - i
 
-pub filled-places-spec : {M : Type 1} → statement M
-filled-places-spec =
+pub filled_places_spec : {M : Type 1} → statement M
+filled_places_spec =
     tie.close
     (tie.spec
     invariant-loop

@@ -6,14 +6,14 @@ use borrow.Author.Rules.{rules}
 use Rattle.dump_text.proofs.records.free_numbers.Statement.{statement}
 use Rattle.dump_text.proofs.records.free_numbers.Tie as tie
 
-abbrev invariant-loop : tie.invariant-loop
+abbrev invariant-loop : tie.invariant-loop-k
 invariant-loop out₀ at w kind to₀ k₀ out to k = (to ≤ length out₀) × (length out ≡ length out₀)
 
-abbrev decreases-loop : tie.decreases-loop
+abbrev decreases-loop : tie.decreases-loop-k
 decreases-loop out₀ at w kind to₀ k₀ out to k = 1024 - k
 
-pub free-numbers-spec : {M : Type 1} → statement M
-free-numbers-spec =
+pub free_numbers_spec : {M : Type 1} → statement M
+free_numbers_spec =
     tie.close
     (tie.spec
     invariant-loop

@@ -6,14 +6,14 @@ use borrow.Author.Rules.{rules}
 use Rattle.dump_text.proofs.records.places.Statement.{statement}
 use Rattle.dump_text.proofs.records.places.Tie as tie
 
-abbrev invariant-loop : tie.invariant-loop
+abbrev invariant-loop : tie.invariant-loop-i
 invariant-loop out₀ at w ns bs k to₀ i₀ out to i = (to ≤ length out₀) × (length out ≡ length out₀)
 
-abbrev decreases-loop : tie.decreases-loop
+abbrev decreases-loop : tie.decreases-loop-i
 decreases-loop out₀ at w ns bs k to₀ i₀ out to i = 32 - i
 
-pub places-spec : {M : Type 1} → statement M
-places-spec =
+pub places_spec : {M : Type 1} → statement M
+places_spec =
     tie.close
     (tie.spec
     invariant-loop

@@ -4,13 +4,13 @@ use borrow.Author.Rules.{rules}
 use Rattle.dump_text.proofs.records.places_name.Statement.{statement}
 use Rattle.dump_text.proofs.records.places_name.Tie as tie
 
-abbrev invariant-loop : tie.invariant-loop
+abbrev invariant-loop : tie.invariant-loop-i
 invariant-loop ns k l found₀ i₀ found i = i ≤ 32
 
-abbrev decreases-loop : tie.decreases-loop
+abbrev decreases-loop : tie.decreases-loop-i
 decreases-loop ns k l found₀ i₀ found i = 32 - i
 
-pub places-name-spec : {M : Type 1} → statement M
-places-name-spec =
+pub places_name_spec : {M : Type 1} → statement M
+places_name_spec =
     tie.close
     (tie.spec invariant-loop decreases-loop (λ c. search rules) (λ c κs. search rules) (λ c. search rules) (λ c. search rules) (λ c. search rules) (λ c. search rules))

@@ -6,14 +6,14 @@ use borrow.Author.Rules.{rules}
 use Rattle.dump_text.proofs.records.tags.Statement.{statement}
 use Rattle.dump_text.proofs.records.tags.Tie as tie
 
-abbrev invariant-loop : tie.invariant-loop
+abbrev invariant-loop : tie.invariant-loop-i
 invariant-loop out₀ at c to₀ i₀ out to i = (to ≤ length out₀) × (length out ≡ length out₀)
 
-abbrev decreases-loop : tie.decreases-loop
+abbrev decreases-loop : tie.decreases-loop-i
 decreases-loop out₀ at c to₀ i₀ out to i = 64 - i
 
-pub tags-spec : {M : Type 1} → statement M
-tags-spec =
+pub tags_spec : {M : Type 1} → statement M
+tags_spec =
     tie.close
     (tie.spec
     invariant-loop

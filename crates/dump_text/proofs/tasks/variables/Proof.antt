@@ -6,14 +6,14 @@ use borrow.Author.Rules.{rules}
 use Rattle.dump_text.proofs.tasks.variables.Statement.{statement}
 use Rattle.dump_text.proofs.tasks.variables.Tie as tie
 
-abbrev invariant-loop : tie.invariant-loop
+abbrev invariant-loop : tie.invariant-loop-j
 invariant-loop out₀ at c set rest₀ to₀ j₀ out rest to j = (to ≤ length out₀) × (length out ≡ length out₀)
 
-abbrev decreases-loop : tie.decreases-loop
+abbrev decreases-loop : tie.decreases-loop-j
 decreases-loop out₀ at c set rest₀ to₀ j₀ out rest to j = 13 - j
 
-pub variables-spec : {M : Type 1} → statement M
-variables-spec =
+pub variables_spec : {M : Type 1} → statement M
+variables_spec =
     tie.close
     (tie.spec
     invariant-loop

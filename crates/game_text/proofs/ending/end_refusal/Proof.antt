@@ -7,72 +7,43 @@ use borrow.Author.Rules.{rules}
 use Rattle.game_text.proofs.ending.end_refusal.Statement.{statement}
 use Rattle.game_text.proofs.ending.end_refusal.Tie as tie
 
-returns : tie.Need-returns
-returns c =
-    let entry = c.before.before.before.before in
-    let a = entry.args in
-    refused_before a.t a.ns.now a.bs.now c.if1.true
+returns : tie.Need-returns-then-t-ne0
+returns c = refused_before c.args.t c.args.ns.now c.args.bs.now c.if-t-ne0.true
 
-returns_2 : tie.Need-returns-2
+returns_2 : tie.Need-returns-then-why-ne0
 unfolding phase_refusal
 returns_2 c =
-    let at-judge-opening = c.before in
-    let at-if2 = at-judge-opening.before.before in
-    let at-optional = at-if2.before in
-    let at_phase = at-optional.before.before in
-    let at-if1 = at_phase.before.before.before in
-    let entry = at-if1.before.before.before.before in
-    let a = entry.args in
-    let told = at_phase.phase.given in
-    let j = at-judge-opening.judge-opening in
-    refused_in a.t a.ns.now a.bs.now at-if1.if1.false (Due told.0.0) told.1 _
-    (rw (sym at-optional.optional.ensures ∙ at-if2.if2.true) (judged_refused j.result _ j.ensures c.if3.true))
+    let a = c.args in
+    let j = c.judge_opening-why in
+    refused_in a.t a.ns.now a.bs.now c.if-t-ne0.false (Due _) c.in-Due.is _
+    (rw (sym c.optional.ensures ∙ c.if-optional.true) (judged_refused j.result _ j.ensures c.if-why-ne0.true))
 
-returns_3 : tie.Need-returns-3
+returns_3 : tie.Need-returns-then-optional
 unfolding phase_refusal
 returns_3 c =
-    let at-judge-opening = c.before in
-    let at-if2 = at-judge-opening.before.before in
-    let at-optional = at-if2.before in
-    let at_phase = at-optional.before.before in
-    let at-if1 = at_phase.before.before.before in
-    let entry = at-if1.before.before.before.before in
-    let a = entry.args in
-    let told = at_phase.phase.given in
-    let j = at-judge-opening.judge-opening in
-    refused_in a.t a.ns.now a.bs.now at-if1.if1.false (Due told.0.0) told.1 _
-    (rw (sym at-optional.optional.ensures ∙ at-if2.if2.true) (judged_accepted j.result _ j.ensures c.if3.false))
+    let a = c.args in
+    let j = c.judge_opening-why in
+    refused_in a.t a.ns.now a.bs.now c.if-t-ne0.false (Due _) c.in-Due.is _
+    (rw (sym c.optional.ensures ∙ c.if-optional.true) (judged_accepted j.result _ j.ensures c.if-why-ne0.false))
 
-returns_4 : tie.Need-returns-4
+returns_4 : tie.Need-returns-else-optional
 unfolding phase_refusal
 returns_4 c =
-    let at-optional = c.before in
-    let at_phase = at-optional.before.before in
-    let at-if1 = at_phase.before.before.before in
-    let entry = at-if1.before.before.before.before in
-    let a = entry.args in
-    let told = at_phase.phase.given in
-    refused_in a.t a.ns.now a.bs.now at-if1.if1.false (Due told.0.0) told.1 _
-    (rw (sym at-optional.optional.ensures ∙ c.if2.false) refl)
+    let a = c.args in
+    refused_in a.t a.ns.now a.bs.now c.if-t-ne0.false (Due _) c.in-Due.is _ (rw (sym c.optional.ensures ∙ c.if-optional.false) refl)
 
-returns-5 : tie.Need-returns-5
+returns-5 : tie.Need-returns-in-Events
 unfolding phase_refusal
 returns-5 c =
-    let at-if1 = c.before.before.before in
-    let entry = at-if1.before.before.before.before in
-    let a = entry.args in
-    refused_in a.t a.ns.now a.bs.now at-if1.if1.false Events c.enum_told.given.1 _ refl
+    let a = c.args in refused_in a.t a.ns.now a.bs.now c.if-t-ne0.false Events c.in-Events.is _ refl
 
-returns-6 : tie.Need-returns-6
+returns-6 : tie.Need-returns-in-Stopped
 unfolding phase_refusal
 returns-6 c =
-    let at-if1 = c.before.before.before in
-    let entry = at-if1.before.before.before.before in
-    let a = entry.args in
-    refused_in a.t a.ns.now a.bs.now at-if1.if1.false Stopped c.enum-told2.given.1 _ refl
+    let a = c.args in refused_in a.t a.ns.now a.bs.now c.if-t-ne0.false Stopped c.in-Stopped.is _ refl
 
-pub end-refusal-spec : {M : Type 1} → statement M
-end-refusal-spec =
+pub end_refusal_spec : {M : Type 1} → statement M
+end_refusal_spec =
     tie.close
     (tie.spec
     returns

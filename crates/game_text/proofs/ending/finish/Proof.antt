@@ -5,26 +5,26 @@ use Rattle.game_text.proofs.Laws.{played_to, refused_to}
 use Rattle.game_text.proofs.ending.finish.Statement.{statement}
 use Rattle.game_text.proofs.ending.finish.Tie as tie
 
-returns : tie.Need-returns
+returns : tie.Need-returns-in-Turns
 returns c =
     let at-play = c.before.before.before.before.before.before in
-    let at_n = at-play.before.before.before.before.before.before in
-    let at-asked-at-end = at_n.before.before in
+    let at_n = at-play.before.before.before.before.before in
+    let at-asked-at-end = at_n.before in
     let entry = at-asked-at-end.before.before.before.before in
     let a = entry.args in
-    played_to _ a.t a.ns.now a.bs.now at_n.n.given.0.0 (sym at-asked-at-end.asked_at_end.ensures ∙ at_n.n.given.1) _ _ _ _ _
+    played_to _ a.t a.ns.now a.bs.now at_n.in-Turns.n (sym at-asked-at-end.asked_at_end.ensures ∙ at_n.in-Turns.is) _ _ _ _ _
     at-play.play.ensures
 
-returns_2 : tie.Need-returns-2
+returns_2 : tie.Need-returns-in-NotYet
 returns_2 c =
     let at-refusal = c.before.before in
     let at-end-refusal = at-refusal.before.before in
-    let at-enum-told = at-end-refusal.before.before.before in
-    let at-asked-at-end = at-enum-told.before.before in
+    let at-enum-told = at-end-refusal.before in
+    let at-asked-at-end = at-enum-told.before in
     let entry = at-asked-at-end.before.before.before.before in
     let a = entry.args in
-    refused_to _ a.t a.ns.now a.bs.now (sym at-asked-at-end.asked_at_end.ensures ∙ at-enum-told.enum_told.given.1)
-    at-end-refusal.end_refusal.result at-end-refusal.end_refusal.ensures _ _ _ at-refusal.refusal.ensures
+    refused_to _ a.t a.ns.now a.bs.now (sym at-asked-at-end.asked_at_end.ensures ∙ at-enum-told.in-NotYet.is)
+    at-end-refusal.end_refusal-why.result at-end-refusal.end_refusal-why.ensures _ _ _ at-refusal.refusal.ensures
 
 pub finish_spec : {M : Type 1} → statement M
 finish_spec =

@@ -6,17 +6,17 @@ use Rattle.game_text.proofs.Laws.{part_played}
 use Rattle.game_text.proofs.ending.play.Statement.{statement}
 use Rattle.game_text.proofs.ending.play.Tie as tie
 
-slice-aggregate-game : tie.Need-slice-aggregate-game
+slice-aggregate-game : tie.Need-slice_bounds-game-end-2
 slice-aggregate-game c =
     let at-node-extent = c.before.before.before in
     let entry = at-node-extent.before.before.before.before.before in
-    sym (length-take-le at-node-extent.node_extent.result entry.args.ns.now at-node-extent.node_extent.ensures.1)
+    sym (length-take-le at-node-extent.node_extent-a.result entry.args.ns.now at-node-extent.node_extent-a.ensures.1)
 
-slice-aggregate-game-2 : tie.Need-slice-aggregate-game-2
+slice-aggregate-game-2 : tie.Need-slice_bounds-game-end-4
 slice-aggregate-game-2 c =
     let at-bucket-extent = c.before.before.before in
     let entry = at-bucket-extent.before.before.before.before.before.before in
-    sym (length-take-le at-bucket-extent.bucket_extent.result entry.args.bs.now at-bucket-extent.bucket_extent.ensures.1)
+    sym (length-take-le at-bucket-extent.bucket_extent-b.result entry.args.bs.now at-bucket-extent.bucket_extent-b.ensures.1)
 
 returns : tie.Need-returns
 returns c =
@@ -26,14 +26,14 @@ returns c =
     let at-node-extent = at-bucket-extent.before in
     let entry = at-node-extent.before.before.before.before.before in
     let x = entry.args in
-    let a = at-node-extent.node_extent in
-    let b = at-bucket-extent.bucket_extent in
-    part_played x.s x.n x.ns.now x.bs.now a.result b.result a.ensures.0 b.ensures.0 at-game.game.result _ _
-    at-game.game.ensures
+    let a = at-node-extent.node_extent-a in
+    let b = at-bucket-extent.bucket_extent-b in
+    part_played x.s x.n x.ns.now x.bs.now a.result b.result a.ensures.0 b.ensures.0 at-game.game-v.result _ _
+    at-game.game-v.ensures
     _ _ _ at-print.print.ensures
 
-pub play-spec : {M : Type 1} → statement M
-play-spec =
+pub play_spec : {M : Type 1} → statement M
+play_spec =
     tie.close
     (tie.spec
     (λ c κs. search rules)

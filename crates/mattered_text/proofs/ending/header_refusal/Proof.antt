@@ -9,9 +9,13 @@ returns c =
     let at-bucket-extent = c.before in
     let at-node-extent = at-bucket-extent.before in
     let entry = at-node-extent.before.before in
-    let a = at-node-extent.node_extent in
-    let b = at-bucket-extent.bucket_extent in
+    let a = at-node-extent.node_extent-a in
+    let b = at-bucket-extent.bucket_extent-b in
     refused_at_opening entry.args.h a.result b.result a.ensures.0 b.ensures.0 _ c.refusal.ensures
 
-pub header-refusal-spec : {M : Type 1} → statement M
-header-refusal-spec = tie.close (tie.spec (λ c κs. search rules) (λ c κs. search rules) (λ c κs. search rules) returns)
+pub header_refusal_spec : {M : Type 1} → statement M
+header_refusal_spec = tie.close (tie.spec
+    (λ c κs. search rules)
+    (λ c κs. search rules)
+    (λ c κs. search rules)
+    returns)

@@ -7,35 +7,35 @@ use Rattle.mattered_text.proofs.Laws.{refused_with, refused_10, searched}
 use Rattle.mattered_text.proofs.ending.judge.Statement.{statement}
 use Rattle.mattered_text.proofs.ending.judge.Tie as tie
 
-returns : tie.Need-returns
+returns : tie.Need-returns-then-why-ne0
 returns c =
     let at-header-refusal = c.before in
     let at-if1 = at-header-refusal.before in
     let entry = at-if1.before.before.before.before in
-    let why = at-header-refusal.header-refusal in
-    refused_with (session_opening entry.args.h) entry.args.outside _ at-if1.if1.true why.result why.ensures c.if2.true
+    let why = at-header-refusal.header_refusal-why in
+    refused_with (session_opening entry.args.h) entry.args.outside _ at-if1.if-outside.true why.result why.ensures c.if-why-ne0.true
 
-returns_2 : tie.Need-returns-2
+returns_2 : tie.Need-returns-then-outside
 returns_2 c =
     let at-header-refusal = c.before in
     let at-if1 = at-header-refusal.before in
     let entry = at-if1.before.before.before.before in
-    let why = at-header-refusal.header-refusal in
-    refused_10 (session_opening entry.args.h) entry.args.outside _ at-if1.if1.true why.result why.ensures c.if2.false
+    let why = at-header-refusal.header_refusal-why in
+    refused_10 (session_opening entry.args.h) entry.args.outside _ at-if1.if-outside.true why.result why.ensures c.if-why-ne0.false
 
-slice-aggregate-earliest : tie.Need-slice-aggregate-earliest
+slice-aggregate-earliest : tie.Need-slice_bounds-earliest-end-2
 slice-aggregate-earliest c =
     let at-node-extent = c.before.before.before in
     let entry = at-node-extent.before.before.before.before.before in
-    sym (length-take-le at-node-extent.node_extent.result entry.args.ns.now at-node-extent.node_extent.ensures.1)
+    sym (length-take-le at-node-extent.node_extent-a.result entry.args.ns.now at-node-extent.node_extent-a.ensures.1)
 
-slice-aggregate-earliest-2 : tie.Need-slice-aggregate-earliest-2
+slice-aggregate-earliest-2 : tie.Need-slice_bounds-earliest-end-4
 slice-aggregate-earliest-2 c =
     let at-bucket-extent = c.before.before.before in
     let entry = at-bucket-extent.before.before.before.before.before.before in
-    sym (length-take-le at-bucket-extent.bucket_extent.result entry.args.bs.now at-bucket-extent.bucket_extent.ensures.1)
+    sym (length-take-le at-bucket-extent.bucket_extent-b.result entry.args.bs.now at-bucket-extent.bucket_extent-b.ensures.1)
 
-returns_3 : tie.Need-returns-3
+returns_3 : tie.Need-returns
 returns_3 c =
     let at-earliest = c.before.before.before.before in
     let at-bucket-extent = at-earliest.before.before.before.before in
@@ -43,13 +43,13 @@ returns_3 c =
     let at-if1 = at-node-extent.before in
     let entry = at-if1.before.before.before.before in
     let x = entry.args in
-    let a = at-node-extent.node_extent in
-    let b = at-bucket-extent.bucket_extent in
+    let a = at-node-extent.node_extent-a in
+    let b = at-bucket-extent.bucket_extent-b in
     searched x.h x.outside _ x.ns.now x.bs.now entry.requires.0 entry.requires.1 a.result b.result a.ensures.0 b.ensures.0
-    at-if1.if1.false at-earliest.earliest.result _ _ at-earliest.earliest.ensures
+    at-if1.if-outside.false at-earliest.earliest.result _ _ at-earliest.earliest.ensures
 
-pub judge-spec : {M : Type 1} → statement M
-judge-spec =
+pub judge_spec : {M : Type 1} → statement M
+judge_spec =
     tie.close
     (tie.spec
     (λ c κs. search rules)

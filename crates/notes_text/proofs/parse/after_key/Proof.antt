@@ -9,29 +9,29 @@ use borrow.Author.Rules.{rules}
 use Rattle.notes_text.proofs.parse.after_key.Statement.{statement}
 use Rattle.notes_text.proofs.parse.after_key.Tie as tie
 
-returns : tie.Need-returns
+returns : tie.Need-returns-then-s-p
 returns c =
     let at-comma-place = c.before in
-    let s = at-comma-place.before.before.args.s.now in
-    no_comma s at-comma-place.last_comma.result at-comma-place.last_comma.ensures.0 c.if1.true
+    let s = at-comma-place.args.s.now in
+    no_comma s at-comma-place.last_comma-p.result at-comma-place.last_comma-p.ensures.0 c.if-s-p.true
 
-slice-aggregate-start : tie.Need-slice-aggregate-start
+slice-aggregate-start : tie.Need-slice_bounds-start-end
 slice-aggregate-start c =
-    let at_place = c.before.before in
-    sym (length-take-le at_place.last_comma.result at_place.before.before.args.s.now at_place.last_comma.ensures.1)
+    let at_place = c.before in
+    sym (length-take-le at_place.last_comma-p.result at_place.args.s.now at_place.last_comma-p.ensures.1)
 
-returns_2 : tie.Need-returns-2
+returns_2 : tie.Need-returns
 returns_2 c =
     let at-answer = c.before in
     let at-start = at-answer.before.before in
-    let at_place = at-start.before.before.before in
-    let s = at_place.before.before.args.s.now in
-    let p = at_place.last_comma.result in
-    at_comma s p at_place.last_comma.ensures.0 _ _ _ at-start.start.ensures
-    (at-answer.answer.ensures ∙ ap parse_answer (rest s (p + 1))) c.noted.ensures
+    let at_place = at-start.before.before in
+    let s = at_place.args.s.now in
+    let p = at_place.last_comma-p.result in
+    at_comma s p at_place.last_comma-p.ensures.0 _ _ _ at-start.start-e.ensures
+    (at-answer.answer-w.ensures ∙ ap parse_answer (rest s (p + 1))) c.noted.ensures
 
-pub after-key-spec : {M : Type 1} → statement M
-after-key-spec =
+pub after_key_spec : {M : Type 1} → statement M
+after_key_spec =
     tie.close
     (tie.spec
     (λ c κs. search rules)

@@ -5,38 +5,38 @@ use borrow.Author.Rules.{rules}
 use Rattle.notes_text.proofs.parse.noted.Statement.{statement}
 use Rattle.notes_text.proofs.parse.noted.Tie as tie
 
-returns : tie.Need-returns
+returns : tie.Need-returns-then-k-eq1
 unfolding noted
 returns c =
-    let at-w = c.before.before in
-    rw (at-w.before.before.before.e.given.1, at-w.w.given.1, eq-eqb _ _ c.if1.true)
+    let at-w = c.before in
+    rw (at-w.in-Start.is, at-w.in-Word.is, eq-eqb _ _ c.if-k-eq1.true)
 
-returns_2 : tie.Need-returns-2
+returns_2 : tie.Need-returns-then-k-eq2
 unfolding noted
 returns_2 c =
-    let at-w = c.before.before.before in
-    rw (at-w.before.before.before.e.given.1, at-w.w.given.1, ne_eqb _ _ c.before.if1.false, eq-eqb _ _ c.if2.true)
+    let at-w = c.before.before in
+    rw (at-w.in-Start.is, at-w.in-Word.is, ne_eqb _ _ c.if-k-eq1.false, eq-eqb _ _ c.if-k-eq2.true)
 
-returns_3 : tie.Need-returns-3
+returns_3 : tie.Need-returns-else-k-eq2
 unfolding noted
 returns_3 c =
-    let at-w = c.before.before.before in
-    rw (at-w.before.before.before.e.given.1, at-w.w.given.1, ne_eqb _ _ c.before.if1.false, ne_eqb _ _ c.if2.false)
+    let at-w = c.before.before in
+    rw (at-w.in-Start.is, at-w.in-Word.is, ne_eqb _ _ c.if-k-eq1.false, ne_eqb _ _ c.if-k-eq2.false)
 
-returns_4 : tie.Need-returns-4
+returns_4 : tie.Need-returns-in-NoWord
 unfolding noted
-returns_4 c = rw (c.before.before.before.e.given.1, c.enum_told.given.1)
+returns_4 c = rw (c.in-Start.is, c.in-NoWord.is)
 
-returns-5 : tie.Need-returns-5
+returns-5 : tie.Need-returns-in-Step
 unfolding noted
-returns-5 c = rw c.enum-told2.given.1
+returns-5 c = rw c.in-Step.is
 
-returns-6 : tie.Need-returns-6
+returns-6 : tie.Need-returns-in-Outside
 unfolding noted
-returns-6 c = rw c.enum-told3.given.1
+returns-6 c = rw c.in-Outside.is
 
-pub noted-spec : {M : Type 1} → statement M
-noted-spec =
+pub noted_spec : {M : Type 1} → statement M
+noted_spec =
     tie.close
     (tie.spec
     (λ c. search rules)

@@ -4,53 +4,48 @@ use borrow.Author.Rules.{rules}
 use Rattle.notes_text.proofs.print.call_field.Statement.{statement}
 use Rattle.notes_text.proofs.print.call_field.Tie as tie
 
-returns : tie.Need-returns
+returns : tie.Need-returns-in-Insert
 unfolding call_field
 returns c =
     let at_call = c.before.before in
-    rw at_call.before.before.before.enum_told.given.1 at_call.keyed.ensures
+    rw at_call.in-Insert.is at_call.keyed.ensures
 
-returns_2 : tie.Need-returns-2
+returns_2 : tie.Need-returns-in-Remove
 unfolding call_field
 returns_2 c =
     let at_call = c.before.before in
-    rw at_call.before.before.before.enum-told2.given.1 at_call.keyed2.ensures
+    rw at_call.in-Remove.is at_call.keyed-in-Remove.ensures
 
-returns_3 : tie.Need-returns-3
+returns_3 : tie.Need-returns-in-Contains
 unfolding call_field
 returns_3 c =
     let at_call = c.before.before in
-    rw at_call.before.before.before.enum-told3.given.1 at_call.keyed3.ensures
+    rw at_call.in-Contains.is at_call.keyed-in-Contains.ensures
 
-returns_4 : tie.Need-returns-4
+returns_4 : tie.Need-returns-in-Grow
 unfolding call_field
 returns_4 c =
     let at_call = c.before.before in
-    rw at_call.before.before.before.enum-told4.given.1 at_call.all-bytes.ensures
+    rw at_call.in-Grow.is at_call.all_bytes.ensures
 
-returns-5 : tie.Need-returns-5
+returns-5 : tie.Need-returns-in-Shrink
 unfolding call_field
 returns-5 c =
     let at_call = c.before.before in
-    rw at_call.before.before.before.enum-told5.given.1 at_call.all-bytes2.ensures
+    rw at_call.in-Shrink.is at_call.all_bytes-in-Shrink.ensures
 
-pub call-field-spec : {M : Type 1} → statement M
-call-field-spec =
+pub call_field_spec : {M : Type 1} → statement M
+call_field_spec =
     tie.close
     (tie.spec
     (λ c. search rules)
+    (λ c κs. search rules)
     (λ c. search rules)
     (λ c κs. search rules)
     (λ c. search rules)
-    (λ c. search rules)
     (λ c κs. search rules)
     (λ c. search rules)
-    (λ c. search rules)
     (λ c κs. search rules)
-    (λ c. search rules)
-    (λ c. search rules)
-    (λ c κs. search rules)
-    (λ c. search rules)
     (λ c. search rules)
     (λ c κs. search rules)
     (λ c. search rules)

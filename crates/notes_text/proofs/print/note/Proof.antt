@@ -15,19 +15,18 @@ returns c =
     let at-answer = at_last.before.before.before.before in
     let at_field = at-answer.before.before.before.before in
     let at-keyed = at_field.before.before.before.before in
-    let a = at-keyed.before.before.before.before.args in
+    let a = at-keyed.args in
     let key = note_key ++ decimal a.lane ++ (44 ∷ []) in
     let field = call_field a.x.call a.x.tag in
     let word = answer_word a.x.answer in
     append_2 (key ++ field ++ word) (10 ∷ []) _ _ _
-    (append_3 key field word _ _ _ _ at-keyed.keyed.ensures at_field.call_field.ensures at-answer.answer.ensures)
+    (append_3 key field word _ _ _ _ at-keyed.keyed-a.ensures at_field.call_field-b.ensures at-answer.answer-c.ensures)
     at_last.one_byte.ensures
 
-pub note-spec : {M : Type 1} → statement M
-note-spec =
+pub note_spec : {M : Type 1} → statement M
+note_spec =
     tie.close
     (tie.spec
-    (λ c. search rules)
     (λ c κs. search rules)
     (λ c κs. search rules)
     (λ c κs. search rules)

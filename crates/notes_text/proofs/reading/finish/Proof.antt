@@ -9,26 +9,26 @@ use borrow.Author.Rules.{rules}
 use Rattle.notes_text.proofs.reading.finish.Statement.{statement}
 use Rattle.notes_text.proofs.reading.finish.Tie as tie
 
-returns : tie.Need-returns
+returns : tie.Need-returns-then-r
 returns c =
     let at-refusal = c.before.before in
     let at-if1 = at-refusal.before.before in
-    let a = at-if1.before.before.args in
-    rw (outside_refused a.r at-if1.if1.true (last_lines a.p)) at-refusal.refusal.ensures
+    let a = at-if1.args in
+    rw (outside_refused a.r at-if1.if-r.true (last_lines a.p)) at-refusal.refusal.ensures
 
-returns_2 : tie.Need-returns-2
+returns_2 : tie.Need-returns-then-cut_off
 unfolding answer last_lines add_line parse_note_line admissible
 returns_2 c =
     let at-refusal = c.before.before in
     let at-if2 = at-refusal.before.before in
-    rw (sym at-if2.before.cut_off.ensures ∙ at-if2.if2.true) at-refusal.refusal2.ensures
+    rw (sym at-if2.cut_off.ensures ∙ at-if2.if-cut_off.true) at-refusal.refusal-then-cut_off.ensures
 
-returns_3 : tie.Need-returns-3
+returns_3 : tie.Need-returns
 unfolding answer last_lines
 returns_3 c =
     let at-merged = c.before.before in
     let at-if2 = at-merged.before.before.before.before in
-    rw (sym at-if2.before.cut_off.ensures ∙ at-if2.if2.false, at-if2.before.before.if1.false) at-merged.merged.ensures
+    rw (sym at-if2.cut_off.ensures ∙ at-if2.if-cut_off.false, at-if2.if-r.false) at-merged.merged.ensures
 
 pub finish_spec : {M : Type 1} → statement M
 finish_spec =

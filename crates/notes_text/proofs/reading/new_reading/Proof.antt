@@ -8,5 +8,6 @@ returns : tie.Need-returns
 unfolding new_reading no_notes
 returns c = search rules
 
-pub new-reading-spec : {M : Type 1} → statement M
-new-reading-spec = tie.close (tie.spec returns)
+pub new_reading_spec : {M : Type 1} → statement M
+new_reading_spec = tie.close (tie.spec
+    returns)

@@ -5,38 +5,36 @@ use borrow.Author.Rules.{rules}
 use Rattle.plan_text.proofs.parse.line.Statement.{statement}
 use Rattle.plan_text.proofs.parse.line.Tie as tie
 
-returns : tie.Need-returns
+returns : tie.Need-returns-in-Tasks
 unfolding line_says
 returns c =
     let at_number = c.before in
-    rw at_number.before.before.enum_told.given.1 (c.tasks_said.ensures ∙ ap tasks_said at_number.header-number.ensures)
+    rw at_number.in-Tasks.is (c.tasks_said.ensures ∙ ap tasks_said at_number.header_number.ensures)
 
-returns_2 : tie.Need-returns-2
+returns_2 : tie.Need-returns-in-Version
 unfolding line_says
 returns_2 c =
     let at_number = c.before in
-    let at_call = at_number.before.before in
-    rw (at_call.before.enum-told2.given.1, ← at_number.header-number2.ensures, ← at_call.call_line.ensures) c.version_said.ensures
+    let at_call = at_number.before.before.before in
+    rw (at_call.in-Version.is, ← at_number.header_number-in-Version.ensures, ← at_call.call_line-call.ensures) c.version_said.ensures
 
-returns_3 : tie.Need-returns-3
+returns_3 : tie.Need-returns-in-Call
 unfolding line_says
-returns_3 c = rw c.before.enum-told3.given.1 c.call-line2.ensures
+returns_3 c = rw c.in-Call.is c.call_line.ensures
 
-returns_4 : tie.Need-returns-4
+returns_4 : tie.Need-returns-in-Nothing
 unfolding line_says
-returns_4 c = rw c.enum-told4.given.1
+returns_4 c = rw c.in-Nothing.is
 
-pub line-spec : {M : Type 1} → statement M
-line-spec =
+pub line_spec : {M : Type 1} → statement M
+line_spec =
     tie.close
     (tie.spec
     (λ c. search rules)
-    (λ c. search rules)
     (λ c κs. search rules)
     (λ c κs. search rules)
     (λ c. search rules)
     (λ c κs. search rules)
-    (λ c. search rules)
     (λ c κs. search rules)
     (λ c κs. search rules)
     (λ c. search rules)

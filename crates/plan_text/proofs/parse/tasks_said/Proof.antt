@@ -4,13 +4,13 @@ use borrow.Author.Rules.{rules}
 use Rattle.plan_text.proofs.parse.tasks_said.Statement.{statement}
 use Rattle.plan_text.proofs.parse.tasks_said.Tie as tie
 
-returns : tie.Need-returns
+returns : tie.Need-returns-in-Value
 unfolding tasks_said
-returns c = rw c.before.d.given.1
+returns c = rw c.in-Value.is
 
-returns_2 : tie.Need-returns-2
+returns_2 : tie.Need-returns-in-NotDecimal
 unfolding tasks_said
-returns_2 c = rw c.enum_told.given.1
+returns_2 c = rw c.in-NotDecimal.is
 
-pub tasks-said-spec : {M : Type 1} → statement M
-tasks-said-spec = tie.close (tie.spec (λ c. search rules) (λ c. search rules) returns returns_2)
+pub tasks_said_spec : {M : Type 1} → statement M
+tasks_said_spec = tie.close (tie.spec (λ c. search rules) (λ c. search rules) returns returns_2)

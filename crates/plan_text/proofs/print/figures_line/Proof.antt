@@ -11,27 +11,24 @@ returns : tie.Need-returns
 unfolding figures_line key_line
 returns c =
     let at_line = c.before.before in
-    let at-keyed = at_line.before.before.before.before.before.before in
-    let at-answer = at-keyed.before.before.before.before.before.before in
+    let at-keyed = at_line.before.before.before.before.before.before.before in
+    let at-answer = at-keyed.before.before.before.before.before.before.before in
     let at_key = at-answer.before.before.before.before in
-    let f = at_key.before.before.before.before.args.f in
+    let f = at_key.args.f in
     let word = answer_word f.answer in
     let own = (44 ∷ []) ++ decimal f.own ++ (44 ∷ []) in
     append_2 (plan_key ++ word ++ own) (decimal f.buckets ++ (10 ∷ [])) _ _ _
-    (append_3 plan_key word own _ _ _ _ at_key.all-bytes.ensures at-answer.answer.ensures at-keyed.keyed.ensures)
+    (append_3 plan_key word own _ _ _ _ at_key.all_bytes-a.ensures at-answer.answer-b.ensures at-keyed.keyed-c.ensures)
     at_line.key_line.ensures
 
-pub figures-line-spec : {M : Type 1} → statement M
-figures-line-spec =
+pub figures_line_spec : {M : Type 1} → statement M
+figures_line_spec =
     tie.close
     (tie.spec
-    (λ c. search rules)
     (λ c κs. search rules)
     (λ c κs. search rules)
     (λ c. search rules)
-    (λ c. search rules)
     (λ c κs. search rules)
-    (λ c. search rules)
     (λ c. search rules)
     (λ c κs. search rules)
     (λ c. search rules)

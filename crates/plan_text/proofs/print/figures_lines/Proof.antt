@@ -12,44 +12,44 @@ use borrow.Author.Rules.{rules}
 use Rattle.plan_text.proofs.print.figures_lines.Statement.{statement}
 use Rattle.plan_text.proofs.print.figures_lines.Tie as tie
 
-abbrev invariant-loop : tie.invariant-loop
+abbrev invariant-loop : tie.invariant-loop-i
 invariant-loop buf₀ at n figures to₀ i₀ buf to i =
     (append (figures_lines (drop i (take n figures))) (buffer buf to) ≡ append (figures_lines (take n figures)) (buffer buf₀ at))
     × (length buf ≡ length buf₀)
 
-abbrev decreases-loop : tie.decreases-loop
+abbrev decreases-loop : tie.decreases-loop-i
 decreases-loop buf₀ at n figures to₀ i₀ buf to i = n - i
 
-fits : (c : tie.Start invariant-loop decreases-loop) → c.args.n ≤ length c.args.t3
-fits c = let room : length c.args.t3 ≡ 64 = search (rules, length_mapped) in omega (arith, c.requires)
+fits : (c : tie.Start invariant-loop decreases-loop) → c.args.n ≤ length c.args.figures
+fits c = let room : length c.args.figures ≡ 64 = search (rules, length_mapped) in omega (arith, c.requires)
 
-loop_holds : tie.Need-loop-init invariant-loop decreases-loop
+loop_holds : tie.Need-loop-i-init invariant-loop decreases-loop
 loop_holds c = (refl, refl)
 
-loop_again : tie.Need-loop-preserved invariant-loop decreases-loop
+loop_again : tie.Need-loop-i-preserved invariant-loop decreases-loop
 loop_again c =
     let at_line = c.before.before in
     let in-loop = at_line.before.before.before in
     let at-loop = in-loop.before in
     let entry = at-loop.before.before in
     let a = entry.args in
-    let l = at-loop.loop in
-    let next = figures_on a.t3 a.n (fits entry) l.i (buffer _ l.to) _ in-loop.loop-test.true in
-    (ap (append _) at_line.figures_line.ensures ∙ sym next ∙ l.invariant.0, at_line.figures_line.auto.0 ∙ l.invariant.1)
+    let l = at-loop.loop-i in
+    let next = figures_on a.figures a.n (fits entry) l.i (buffer _ l.to) _ in-loop.loop-i-test.true in
+    (ap (append _) at_line.figures_line-to.ensures ∙ sym next ∙ l.invariant.0, at_line.figures_line-to.auto.buf ∙ l.invariant.1)
 
-same_length : tie.Need-same-length invariant-loop decreases-loop
-same_length c = c.before.loop.invariant.1
+same_length : tie.Need-shape_of-buf invariant-loop decreases-loop
+same_length c = c.loop-i.invariant.1
 
 returns : tie.Need-returns invariant-loop decreases-loop
 returns c =
     let at-loop = c.before in
     let entry = at-loop.before.before in
     let a = entry.args in
-    let l = at-loop.loop in
-    sym (figures_end a.t3 a.n (fits entry) l.i (buffer _ l.to) c.loop-test.false) ∙ l.invariant.0
+    let l = at-loop.loop-i in
+    sym (figures_end a.figures a.n (fits entry) l.i (buffer _ l.to) c.loop-i-test.false) ∙ l.invariant.0
 
-pub figures-lines-spec : {M : Type 1} → statement M
-figures-lines-spec =
+pub figures_lines_spec : {M : Type 1} → statement M
+figures_lines_spec =
     tie.close
     (tie.spec
     invariant-loop

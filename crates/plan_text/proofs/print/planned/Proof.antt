@@ -13,38 +13,38 @@ use Rattle.plan_text.proofs.print.planned.Tie as tie
 room : (c : tie.Start) → length c.args.calls.call ≡ 64
 room c = search (rules, length_mapped)
 
-returns : tie.Need-returns
+returns : tie.Need-returns-then-tasks-lt1
 returns c =
     let at-refusal = c.before.before in
     let at-if1 = at-refusal.before.before in
-    let a = at-if1.before.before.args in
-    rw (tasks_none a.tasks a.version (list_of a.calls) at-if1.if1.true) at-refusal.refusal.ensures
+    let a = at-if1.args in
+    rw (tasks_none a.tasks a.version (list_of a.calls) at-if1.if-tasks-lt1.true) at-refusal.refusal.ensures
 
-returns_2 : tie.Need-returns-2
+returns_2 : tie.Need-returns-then-tasks-gt8
 returns_2 c =
     let at-refusal = c.before.before in
     let at-if2 = at-refusal.before.before in
-    let a = at-if2.before.before.before.args in
-    rw (tasks_many a.tasks a.version (list_of a.calls) at-if2.before.if1.false at-if2.if2.true) at-refusal.refusal2.ensures
+    let a = at-if2.args in
+    rw (tasks_many a.tasks a.version (list_of a.calls) at-if2.if-tasks-lt1.false at-if2.if-tasks-gt8.true) at-refusal.refusal-then-tasks-gt8.ensures
 
-returns_3 : tie.Need-returns-3
+returns_3 : tie.Need-returns-then-p-ne0
 returns_3 c =
     let at-refusal = c.before.before in
     let at-if3 = at-refusal.before.before in
     let at-plan = at-if3.before.before in
     let at-if2 = at-plan.before in
-    let a = at-if2.before.before.before.args in
-    let printed = refusal_printed a.tasks a.version a.calls at-plan.plan.result at-plan.plan.ensures in
-    rw (printed at-if2.before.if1.false at-if2.if2.false at-if3.if3.true) at-refusal.refusal3.ensures
+    let a = at-if2.args in
+    let printed = refusal_printed a.tasks a.version a.calls at-plan.plan-p.result at-plan.plan-p.ensures in
+    rw (printed at-if2.if-tasks-lt1.false at-if2.if-tasks-gt8.false at-if3.if-p-ne0.true) at-refusal.refusal-then-p-ne0.ensures
 
-figures-lines-requires : tie.Need-figures-lines-requires
+figures-lines-requires : tie.Need-figures_lines-requires
 figures-lines-requires c κs =
     let at-if3 = c.before.before.before.before.before.before in
     let at-plan = at-if3.before.before in
-    let a = at-plan.before.before.before.before.args in
-    few_calls a.tasks a.version a.calls at-plan.plan.result at-plan.plan.ensures at-if3.if3.false
+    let a = at-plan.args in
+    few_calls a.tasks a.version a.calls at-plan.plan-p.result at-plan.plan-p.ensures at-if3.if-p-ne0.false
 
-returns_4 : tie.Need-returns-4
+returns_4 : tie.Need-returns
 returns_4 c =
     let at_lines = c.before.before in
     let at-sizes = at_lines.before.before.before.before.before in
@@ -53,14 +53,14 @@ returns_4 c =
     let at-if2 = at-plan.before in
     let entry = at-if2.before.before.before in
     let a = entry.args in
-    let p = at-plan.plan.result in
-    let printed = figures_printed a.tasks a.version a.calls p at-plan.plan.ensures at-if3.if3.false (room entry) in
-    rw (printed at-if2.before.if1.false at-if2.if2.false)
-    (append_2 (size_lines a.tasks) (figures_lines (take a.calls.count p.figures)) _ _ _ at-sizes.sizes.ensures
+    let p = at-plan.plan-p.result in
+    let printed = figures_printed a.tasks a.version a.calls p at-plan.plan-p.ensures at-if3.if-p-ne0.false (room entry) in
+    rw (printed at-if2.if-tasks-lt1.false at-if2.if-tasks-gt8.false)
+    (append_2 (size_lines a.tasks) (figures_lines (take a.calls.count p.figures)) _ _ _ at-sizes.sizes-a.ensures
     at_lines.figures_lines.ensures)
 
-pub planned-spec : {M : Type 1} → statement M
-planned-spec =
+pub planned_spec : {M : Type 1} → statement M
+planned_spec =
     tie.close
     (tie.spec
     (λ c κs. search rules)

@@ -12,13 +12,13 @@ returns : tie.Need-returns
 unfolding size_lines
 returns c =
     let at_second = c.before.before in
-    let at_first = at_second.before.before.before.before.before in
-    let t = at_first.before.before.before.before.args.tasks in
-    append_2 (key_line nodes_key (enough_nodes t)) (key_line buckets_key (enough_buckets t)) _ _ _ at_first.key_line.ensures
-    at_second.key-line2.ensures
+    let at_first = at_second.before.before.before.before.before.before in
+    let t = at_first.args.tasks in
+    append_2 (key_line nodes_key (enough_nodes t)) (key_line buckets_key (enough_buckets t)) _ _ _ at_first.key_line-a.ensures
+    at_second.key_line.ensures
 
-pub sizes-spec : {M : Type 1} → statement M
-sizes-spec =
+pub sizes_spec : {M : Type 1} → statement M
+sizes_spec =
     tie.close
     (tie.spec
     (λ c. search rules)
@@ -26,9 +26,7 @@ sizes-spec =
     (λ c. search rules)
     (λ c. search rules)
     (λ c. search rules)
-    (λ c. search rules)
     (λ c κs. search rules)
-    (λ c. search rules)
     (λ c κs. search rules)
     (λ c. search rules)
     returns)

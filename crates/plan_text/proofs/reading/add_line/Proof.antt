@@ -4,24 +4,24 @@ use borrow.Author.Rules.{rules}
 use Rattle.plan_text.proofs.reading.add_line.Statement.{statement}
 use Rattle.plan_text.proofs.reading.add_line.Tie as tie
 
-returns : tie.Need-returns
+returns : tie.Need-returns-in-Tasks
 unfolding add_line
-returns c = rw c.before.said.given.1
+returns c = rw c.in-Tasks.is
 
-returns_2 : tie.Need-returns-2
+returns_2 : tie.Need-returns-in-Version
 unfolding add_line
-returns_2 c = rw c.before.said2.given.1
+returns_2 c = rw c.in-Version.is
 
-returns_3 : tie.Need-returns-3
+returns_3 : tie.Need-returns-in-Call
 unfolding add_line
-returns_3 c = rw (c.before.before.said3.given.1, c.add.ensures)
+returns_3 c = rw (c.in-Call.is, c.add.ensures)
 
-returns_4 : tie.Need-returns-4
+returns_4 : tie.Need-returns-in-Outside
 unfolding add_line
-returns_4 c = rw c.enum_told.given.1
+returns_4 c = rw c.in-Outside.is
 
-pub add-line-spec : {M : Type 1} → statement M
-add-line-spec =
+pub add_line_spec : {M : Type 1} → statement M
+add_line_spec =
     tie.close
     (tie.spec
     (λ c. search rules)

@@ -4,23 +4,23 @@ use borrow.Author.Rules.{rules}
 use Rattle.plan_text.proofs.reading.in_grammar.Statement.{statement}
 use Rattle.plan_text.proofs.reading.in_grammar.Tie as tie
 
-returns : tie.Need-returns
+returns : tie.Need-returns-in-Tasks
 unfolding in_grammar
-returns c = rw c.enum_told.given.1
+returns c = rw c.in-Tasks.is
 
-returns_2 : tie.Need-returns-2
+returns_2 : tie.Need-returns-in-Version
 unfolding in_grammar
-returns_2 c = rw c.enum-told2.given.1
+returns_2 c = rw c.in-Version.is
 
-returns_3 : tie.Need-returns-3
+returns_3 : tie.Need-returns-in-Call
 unfolding in_grammar
-returns_3 c = rw c.enum-told3.given.1
+returns_3 c = rw c.in-Call.is
 
-returns_4 : tie.Need-returns-4
+returns_4 : tie.Need-returns-in-Nothing
 unfolding in_grammar
-returns_4 c = rw c.enum-told4.given.1
+returns_4 c = rw c.in-Nothing.is
 
-pub in-grammar-spec : {M : Type 1} → statement M
-in-grammar-spec =
+pub in_grammar_spec : {M : Type 1} → statement M
+in_grammar_spec =
     tie.close
     (tie.spec (λ c. search rules) (λ c. search rules) (λ c. search rules) (λ c. search rules) returns returns_2 returns_3 returns_4)

@@ -6,21 +6,21 @@ use Rattle.play.specs.Moves.{ends_of}
 use Rattle.play.proofs.moves.ends_call.Statement.{statement}
 use Rattle.play.proofs.moves.ends_call.Tie as tie
 
-returns : tie.Need-returns
+returns : tie.Need-returns-then-k-ne0
 unfolding ends_of
-returns c = rw (ne_eqb _ _ c.if1.true)
+returns c = rw (ne_eqb _ _ c.if-k-ne0.true)
 
-returns_2 : tie.Need-returns-2
+returns_2 : tie.Need-returns-in-At
 unfolding ends_of ended
-returns_2 c = rw (eq-eqb _ _ c.before.before.if1.false, c.enum_told.given.1)
+returns_2 c = rw (eq-eqb _ _ c.if-k-ne0.false, c.in-At.is)
 
-returns_3 : tie.Need-returns-3
+returns_3 : tie.Need-returns-in-End
 unfolding ends_of ended
-returns_3 c = rw (eq-eqb _ _ c.before.before.if1.false, c.enum-told2.given.1)
+returns_3 c = rw (eq-eqb _ _ c.if-k-ne0.false, c.in-End.is)
 
-returns_4 : tie.Need-returns-4
+returns_4 : tie.Need-returns-in-Refuse
 unfolding ends_of ended
-returns_4 c = rw (eq-eqb _ _ c.before.before.if1.false, c.enum-told3.given.1)
+returns_4 c = rw (eq-eqb _ _ c.if-k-ne0.false, c.in-Refuse.is)
 
-pub ends-call-spec : {M : Type 1} → statement M
-ends-call-spec = tie.close (tie.spec returns (λ c. search rules) (λ c. search rules) (λ c. search rules) returns_2 returns_3 returns_4)
+pub ends_call_spec : {M : Type 1} → statement M
+ends_call_spec = tie.close (tie.spec returns (λ c. search rules) (λ c. search rules) (λ c. search rules) returns_2 returns_3 returns_4)

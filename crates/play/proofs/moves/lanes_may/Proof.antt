@@ -4,20 +4,20 @@ use Rattle.game.specs.Game.{lanes_may}
 use Rattle.play.proofs.moves.lanes_may.Statement.{statement}
 use Rattle.play.proofs.moves.lanes_may.Tie as tie
 
-returns : tie.Need-returns
+returns : tie.Need-returns-in-StepTask0
 unfolding lanes_may
-returns c ns bs = rw c.before.enum_told.given.1 (c.runs.ensures ns bs)
+returns c ns bs = rw c.in-StepTask0.is (c.runs.ensures ns bs)
 
-returns_2 : tie.Need-returns-2
+returns_2 : tie.Need-returns-in-StepTask1
 unfolding lanes_may
-returns_2 c ns bs = rw c.before.enum-told2.given.1 (c.runs2.ensures ns bs)
+returns_2 c ns bs = rw c.in-StepTask1.is (c.runs-in-StepTask1.ensures ns bs)
 
-returns_3 : tie.Need-returns-3
+returns_3 : tie.Need-returns-in-LanesPass
 unfolding lanes_may
-returns_3 c ns bs = rw c.enum-told3.given.1
+returns_3 c ns bs = rw c.in-LanesPass.is
 
-pub lanes-may-spec : {M : Type 1} → statement M
-lanes-may-spec =
+pub lanes_may_spec : {M : Type 1} → statement M
+lanes_may_spec =
     tie.close
     (tie.spec
     (λ c. search rules)

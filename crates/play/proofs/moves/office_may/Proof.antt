@@ -6,24 +6,24 @@ use Rattle.game.specs.Game.{office_may}
 use Rattle.play.proofs.moves.office_may.Statement.{statement}
 use Rattle.play.proofs.moves.office_may.Tie as tie
 
-returns : tie.Need-returns
+returns : tie.Need-returns-in-StepTask2
 unfolding office_may
-returns c ns bs = rw c.before.enum_told.given.1 (c.runs.ensures ns bs)
+returns c ns bs = rw c.in-StepTask2.is (c.runs.ensures ns bs)
 
-returns_2 : tie.Need-returns-2
+returns_2 : tie.Need-returns-in-StartGrow
 unfolding office_may
-returns_2 c ns bs = rw c.before.enum-told2.given.1 (ap not (c.runs2.ensures ns bs))
+returns_2 c ns bs = rw c.in-StartGrow.is (ap not (c.runs-in-StartGrow.ensures ns bs))
 
-returns_3 : tie.Need-returns-3
+returns_3 : tie.Need-returns-in-StartShrink
 unfolding office_may
-returns_3 c ns bs = rw c.before.enum-told3.given.1 (ap not (c.runs3.ensures ns bs))
+returns_3 c ns bs = rw c.in-StartShrink.is (ap not (c.runs-in-StartShrink.ensures ns bs))
 
-returns_4 : tie.Need-returns-4
+returns_4 : tie.Need-returns-in-OfficePass
 unfolding office_may
-returns_4 c ns bs = rw c.enum-told4.given.1
+returns_4 c ns bs = rw c.in-OfficePass.is
 
-pub office-may-spec : {M : Type 1} → statement M
-office-may-spec =
+pub office_may_spec : {M : Type 1} → statement M
+office_may_spec =
     tie.close
     (tie.spec
     (λ c. search rules)

@@ -9,5 +9,5 @@ returns : tie.Need-returns
 unfolding task_of idle
 returns c ns bs = refl
 
-pub runs-spec : {M : Type 1} → statement M
-runs-spec = tie.close (tie.spec (λ c. search rules) (λ c. search rules) returns)
+pub runs_spec : {M : Type 1} → statement M
+runs_spec = tie.close (tie.spec (λ c. search rules) (λ c. search rules) returns)

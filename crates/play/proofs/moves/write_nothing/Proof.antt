@@ -9,7 +9,7 @@ returns : tie.Need-returns
 returns c =
     let entry = c.before.before.before.before in
     let a = entry.args in
-    by_nothing (machine_of a.t1 a.ns.now a.bs.now) _ entry.requires c.keep.result c.keep.ensures a.next
+    by_nothing (machine_of a.s a.ns.now a.bs.now) _ entry.requires c.keep-kept.result c.keep-kept.ensures a.next
 
-pub write-nothing-spec : {M : Type 1} → statement M
-write-nothing-spec = tie.close (tie.spec (λ c. search rules) (λ c κs. search rules) returns)
+pub write_nothing_spec : {M : Type 1} → statement M
+write_nothing_spec = tie.close (tie.spec (λ c. search rules) (λ c κs. search rules) returns)

@@ -13,9 +13,9 @@ returns : tie.Need-returns
 returns c =
     let stored = c.before.before in
     let asked = stored.before.before.before in
-    let a = asked.before.before.before.before.args in
-    let same = ap (λ (b : Bucket). added b a.tag) asked.before.front.ensures in
-    let e : asked.add.result ≡ added (front_of a.part.now) a.tag = asked.add.ensures ∙ same in
+    let a = asked.args in
+    let same = ap (λ (b : Bucket). added b a.tag) asked.front-b.ensures in
+    let e : asked.add-d.result ≡ added (front_of a.part.now) a.tag = asked.add-d.ensures ∙ same in
     (ap answer_of e, stored.store.ensures ∙ ap (λ (d : Changed). overwrite a.part.now 0 d.bucket.words) e)
 
 pub add_spec : {M : Type 1} → statement M

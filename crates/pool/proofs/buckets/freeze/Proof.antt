@@ -10,10 +10,10 @@ use Rattle.pool.proofs.buckets.freeze.Tie as tie
 returns : tie.Need-returns
 returns c =
     let at_front = c.before.before.before.before.before in
-    let a = at_front.before.before.before.args in
-    let frozen = c.before.before.before.freeze.ensures ∙ ap frozen_of at_front.front.ensures in
-    c.before.before.store.ensures ∙ ap (λ (b : Bucket). overwrite a.part.now 0 b.words) frozen
+    let a = at_front.args in
+    let frozen = c.freeze.ensures ∙ ap frozen_of at_front.front-b.ensures in
+    c.store.ensures ∙ ap (λ (b : Bucket). overwrite a.part.now 0 b.words) frozen
 
-pub freeze-spec : {M : Type 1} → statement M
-freeze-spec =
+pub freeze_spec : {M : Type 1} → statement M
+freeze_spec =
     tie.close (tie.spec (λ c κs. search rules) (λ c κs. search rules) (λ c κs. search rules) (λ c. search rules) returns)

@@ -10,25 +10,25 @@ use borrow.Author.Rules.{rules}
 use Rattle.pool.proofs.buckets.freeze_at.Statement.{statement}
 use Rattle.pool.proofs.buckets.freeze_at.Tie as tie
 
-returns : tie.Need-returns
+returns : tie.Need-returns-then-pool-k
 returns c =
-    let a = c.before.before.args in
+    let a = c.args in
     let p = a.pool.now in
-    sym (store_past p a.k c.if1.true (frozen_of (bucket_at p a.k)))
+    sym (store_past p a.k c.if-pool-k.true (frozen_of (bucket_at p a.k)))
 
 freeze-requires : tie.Need-freeze-requires
-freeze-requires c κs = let a = c.before.before.before.args in lent_room a.pool.now a.k (omega arith)
+freeze-requires c κs = let a = c.args in lent_room a.pool.now a.k (omega arith)
 
-returns_2 : tie.Need-returns-2
+returns_2 : tie.Need-returns
 returns_2 c =
     let lent-to = c.before.before in
-    let a = lent-to.before.before.before.before.args in
+    let a = lent-to.args in
     let p = a.pool.now in
-    let h : 66 * a.k + 66 ≤ length p = omega (arith, lent-to.before.before.if1.false) in
-    put_back p a.k h frozen_of lent-to.freeze.new.0 lent-to.freeze.ensures
+    let h : 66 * a.k + 66 ≤ length p = omega (arith, lent-to.if-pool-k.false) in
+    put_back p a.k h frozen_of lent-to.freeze.new.part lent-to.freeze.ensures
 
-pub freeze-at-spec : {M : Type 1} → statement M
-freeze-at-spec =
+pub freeze_at_spec : {M : Type 1} → statement M
+freeze_at_spec =
     tie.close
     (tie.spec
     returns

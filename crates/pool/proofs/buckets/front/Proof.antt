@@ -14,30 +14,30 @@ use Rattle.pool.proofs.buckets.front.Tie as tie
 abbrev bucket-with : List ℕ → Bucket
 bucket-with w = record { words = w }
 
-abbrev invariant-loop : tie.invariant-loop
+abbrev invariant-loop : tie.invariant-loop-i
 invariant-loop part w₀ i₀ w i = (i ≤ 66) × (length w ≡ 66) × (w ≡ over w₀ part i)
 
-abbrev decreases-loop : tie.decreases-loop
+abbrev decreases-loop : tie.decreases-loop-i
 decreases-loop part w₀ i₀ w i = 66 - i
 
-loop_holds : tie.Need-loop-init invariant-loop decreases-loop
+loop_holds : tie.Need-loop-i-init invariant-loop decreases-loop
 loop_holds c = (omega arith, refl, over_none _ _)
 
-loop_again : tie.Need-loop-preserved invariant-loop decreases-loop
+loop_again : tie.Need-loop-i-preserved invariant-loop decreases-loop
 loop_again c =
-    let a = c.before.before.before.args in
-    let l = c.before.before.loop in
+    let a = c.args in
+    let l = c.loop-i in
     (omega arith, simp length-set l.invariant.1, over_more _ a.part.now l.i l.w l.invariant.2 (omega arith) (omega arith))
 
 returns : tie.Need-returns invariant-loop decreases-loop
 returns c =
-    let l = c.before.loop in
+    let l = c.loop-i in
     let e : l.i ≡ 66 = omega arith in
-    ap bucket-with (l.invariant.2 ∙ ap (λ (n : ℕ). over _ c.before.before.args.part.now n) e
-    ∙ over_full _ c.before.before.args.part.now 66 (omega arith))
+    ap bucket-with (l.invariant.2 ∙ ap (λ (n : ℕ). over _ c.args.part.now n) e
+    ∙ over_full _ c.args.part.now 66 (omega arith))
 
-pub front-spec : {M : Type 1} → statement M
-front-spec =
+pub front_spec : {M : Type 1} → statement M
+front_spec =
     tie.close
     (tie.spec
     invariant-loop

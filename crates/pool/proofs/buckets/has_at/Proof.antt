@@ -8,7 +8,7 @@ use Rattle.pool.proofs.buckets.has_at.Tie as tie
 
 returns : tie.Need-returns
 returns c =
-    c.has.ensures ∙ ap (λ (b : Bucket). found c.before.before.before.args.tag (tags_in b.words)) c.before.load.ensures
+    c.has.ensures ∙ ap (λ (b : Bucket). found c.args.tag (tags_in b.words)) c.load-b.ensures
 
-pub has-at-spec : {M : Type 1} → statement M
-has-at-spec = tie.close (tie.spec (λ c κs. search rules) (λ c κs. search rules) returns)
+pub has_at_spec : {M : Type 1} → statement M
+has_at_spec = tie.close (tie.spec (λ c κs. search rules) (λ c κs. search rules) returns)

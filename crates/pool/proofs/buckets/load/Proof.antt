@@ -10,21 +10,21 @@ use borrow.Author.Rules.{rules}
 use Rattle.pool.proofs.buckets.load.Statement.{statement}
 use Rattle.pool.proofs.buckets.load.Tie as tie
 
-returns : tie.Need-returns
-returns c = sym (bucket_past c.before.before.args.pool.now c.before.before.args.k c.if1.true)
+returns : tie.Need-returns-then-pool-k
+returns c = sym (bucket_past c.args.pool.now c.args.k c.if-pool-k.true)
 
 front-requires : tie.Need-front-requires
 front-requires c κs =
     rw (
-      rest c.before.before.before.args.pool.now (66 * c.before.before.before.args.k),
-      length-drop (66 * c.before.before.before.args.k) c.before.before.before.args.pool.now,
+      rest c.args.pool.now (66 * c.args.k),
+      length-drop (66 * c.args.k) c.args.pool.now,
     ) (omega arith)
 
-returns_2 : tie.Need-returns-2
+returns_2 : tie.Need-returns
 returns_2 c =
-    let a = c.before.before.before.before.args in
+    let a = c.args in
     let p = a.pool.now in
-    let i = c.before.before.if1.false in
+    let i = c.if-pool-k.false in
     c.front.ensures ∙ ap front_of (rest p (66 * a.k)) ∙ sym (bucket_here p a.k (omega arith))
 
 pub load_spec : {M : Type 1} → statement M

@@ -13,10 +13,10 @@ returns : tie.Need-returns
 returns c =
     let stored = c.before.before in
     let asked = stored.before.before.before in
-    let a = asked.before.before.before.before.args in
-    let same = ap (λ (b : Bucket). removed b a.tag) asked.before.front.ensures in
-    let e : asked.remove.result ≡ removed (front_of a.part.now) a.tag = asked.remove.ensures ∙ same in
+    let a = asked.args in
+    let same = ap (λ (b : Bucket). removed b a.tag) asked.front-b.ensures in
+    let e : asked.remove-d.result ≡ removed (front_of a.part.now) a.tag = asked.remove-d.ensures ∙ same in
     (ap answer_of e, stored.store.ensures ∙ ap (λ (d : Changed). overwrite a.part.now 0 d.bucket.words) e)
 
-pub remove-spec : {M : Type 1} → statement M
-remove-spec = tie.close (tie.spec (λ c κs. search rules) (λ c κs. search rules) (λ c κs. search rules) (λ c. search rules) returns)
+pub remove_spec : {M : Type 1} → statement M
+remove_spec = tie.close (tie.spec (λ c κs. search rules) (λ c κs. search rules) (λ c κs. search rules) (λ c. search rules) returns)

@@ -10,28 +10,28 @@ use borrow.Author.Rules.{rules}
 use Rattle.pool.proofs.buckets.remove_at.Statement.{statement}
 use Rattle.pool.proofs.buckets.remove_at.Tie as tie
 
-returns : tie.Need-returns
+returns : tie.Need-returns-then-pool-k
 returns c =
-    let a = c.before.before.args in
+    let a = c.args in
     let p = a.pool.now in
-    let past = c.if1.true in
+    let past = c.if-pool-k.true in
     (sym (remove_past p a.k past a.tag), sym (store_past p a.k past (removed (bucket_at p a.k) a.tag).bucket))
 
 remove-requires : tie.Need-remove-requires
-remove-requires c κs = let a = c.before.before.before.args in lent_room a.pool.now a.k (omega arith)
+remove-requires c κs = let a = c.args in lent_room a.pool.now a.k (omega arith)
 
-returns_2 : tie.Need-returns-2
+returns_2 : tie.Need-returns
 returns_2 c =
     let lent-to = c.before.before in
-    let a = lent-to.before.before.before.before.args in
+    let a = lent-to.args in
     let p = a.pool.now in
-    let h : 66 * a.k + 66 ≤ length p = omega (arith, lent-to.before.before.if1.false) in (
+    let h : 66 * a.k + 66 ≤ length p = omega (arith, lent-to.if-pool-k.false) in (
       lent-to.remove.ensures.0 ∙ lent_front p a.k h (λ b. answer_of (removed b a.tag)),
-      put_back p a.k h (λ b. (removed b a.tag).bucket) lent-to.remove.new.0 lent-to.remove.ensures.1,
+      put_back p a.k h (λ b. (removed b a.tag).bucket) lent-to.remove.new.part lent-to.remove.ensures.1,
     )
 
-pub remove-at-spec : {M : Type 1} → statement M
-remove-at-spec =
+pub remove_at_spec : {M : Type 1} → statement M
+remove_at_spec =
     tie.close
     (tie.spec
     returns

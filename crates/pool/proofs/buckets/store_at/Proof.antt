@@ -8,23 +8,23 @@ use borrow.Author.Rules.{rules}
 use Rattle.pool.proofs.buckets.store_at.Statement.{statement}
 use Rattle.pool.proofs.buckets.store_at.Tie as tie
 
-returns : tie.Need-returns
+returns : tie.Need-returns-then-pool-k
 returns c =
-    sym (store_past c.before.before.args.pool.now c.before.before.args.k c.if1.true c.before.before.args.b)
+    sym (store_past c.args.pool.now c.args.k c.if-pool-k.true c.args.b)
 
 store-requires : tie.Need-store-requires
-store-requires c κs = let a = c.before.before.before.args in lent_room a.pool.now a.k (omega arith)
+store-requires c κs = let a = c.args in lent_room a.pool.now a.k (omega arith)
 
-returns_2 : tie.Need-returns-2
+returns_2 : tie.Need-returns
 returns_2 c =
     let lent-to = c.before.before in
-    let a = lent-to.before.before.before.before.args in
+    let a = lent-to.args in
     let p = a.pool.now in
-    let h : 66 * a.k + 66 ≤ length p = omega (arith, lent-to.before.before.if1.false) in
-    put_back p a.k h (λ b. a.b) lent-to.store.new.0 lent-to.store.ensures
+    let h : 66 * a.k + 66 ≤ length p = omega (arith, lent-to.if-pool-k.false) in
+    put_back p a.k h (λ b. a.b) lent-to.store.new.part lent-to.store.ensures
 
-pub store-at-spec : {M : Type 1} → statement M
-store-at-spec =
+pub store_at_spec : {M : Type 1} → statement M
+store_at_spec =
     tie.close
     (tie.spec
     returns

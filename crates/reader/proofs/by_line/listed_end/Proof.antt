@@ -7,22 +7,26 @@ use borrow.Author.Rules.{rules}
 use Rattle.reader.proofs.by_line.listed_end.Statement.{statement}
 use Rattle.reader.proofs.by_line.listed_end.Tie as tie
 
-returns : tie.Need-returns
+returns : tie.Need-returns-then-n-eq0
 returns c =
     let at-print = c.before.before in
-    let call = at-print.before.before.before.before.args in
+    let call = at-print.args in
     let place = place_in (with_part call.r call.ns.now call.bs.now).machine call.k in
-    let whole = written_whole _ _ _ _ (append_written _ _ _ _ at-print.print-listed.ensures) (short_place place) in
-    ends_listed place (sym whole.0 ∙ c.if1.true)
+    let whole = written_whole _ _ _ _ (append_written _ _ _ _ at-print.print_listed-n.ensures) (short_place place) in
+    ends_listed place (sym whole.0 ∙ c.if-n-eq0.true)
 
-returns_2 : tie.Need-returns-2
+returns_2 : tie.Need-returns
 returns_2 c =
     let at-print = c.before.before in
-    let call = at-print.before.before.before.before.args in
+    let call = at-print.args in
     let place = place_in (with_part call.r call.ns.now call.bs.now).machine call.k in
-    let whole = written_whole _ _ _ _ (append_written _ _ _ _ at-print.print-listed.ensures) (short_place place) in
-    misses_listed place (λ e. c.if1.false (whole.0 ∙ e))
+    let whole = written_whole _ _ _ _ (append_written _ _ _ _ at-print.print_listed-n.ensures) (short_place place) in
+    misses_listed place (λ e. c.if-n-eq0.false (whole.0 ∙ e))
 
-pub listed-end-spec : {M : Type 1} → statement M
-listed-end-spec =
-    tie.close (tie.spec (λ c. search rules) (λ c κs. search rules) returns returns_2)
+pub listed_end_spec : {M : Type 1} → statement M
+listed_end_spec =
+    tie.close (tie.spec
+    (λ c. search rules)
+    (λ c κs. search rules)
+    returns
+    returns_2)

@@ -20,15 +20,15 @@ use Rattle.reader.proofs.by_line.listed_line.Tie as tie
 number_fits : (c : tie.Start) → c.args.r.number ≤ most_lines
 number_fits c = search rules
 
-array-share-prefix-w : tie.Need-array-share-prefix-w
+array-share-prefix-w : tie.Need-slice_bounds-w-end
 array-share-prefix-w c =
-    let o = c.before.print-listed in
-    omega (arith, append_within _ _ _ _ o.ensures, o.auto.1.1.1.1.0)
+    let o = c.print_listed-n in
+    omega (arith, append_within _ _ _ _ o.ensures, o.auto.buf)
 
-slice-aggregate-compare-listed : tie.Need-slice-aggregate-compare-listed
+slice-aggregate-compare-listed : tie.Need-slice_bounds-compare_listed-end
 slice-aggregate-compare-listed c =
-    let o = c.before.before.print-listed in
-    sym (length-take-le o.result o.new.1.1.1.1.0 (omega (arith, append_within _ _ _ _ o.ensures, o.auto.1.1.1.1.0)))
+    let o = c.print_listed-n in
+    sym (length-take-le o.result o.new.buf (omega (arith, append_within _ _ _ _ o.ensures, o.auto.buf)))
 
 returns : tie.Need-returns
 unfolding read_listed
@@ -38,13 +38,13 @@ returns c =
     let call = entry.args in
     let part = (with_part call.r call.ns.now call.bs.now).machine in
     let place = place_in part call.k in
-    let whole = (written_whole _ _ _ _ (append_written _ _ _ _ at-print.print-listed.ensures) (short_place place)).1 in
+    let whole = (written_whole _ _ _ _ (append_written _ _ _ _ at-print.print_listed-n.ensures) (short_place place)).1 in
     read_as _ _ _ _ _
     (c.compare_listed.ensures ∙ ap (λ (w : List ℕ). after_comparing (equals w (close call.line.now)) (Listed (next_place call.k)) call.r) whole)
     (listed_back call.r call.ns.now call.bs.now (number_fits entry) call.k (drop call.k (listing part)) call.line.now place)
 
-pub listed-line-spec : {M : Type 1} → statement M
-listed-line-spec =
+pub listed_line_spec : {M : Type 1} → statement M
+listed_line_spec =
     tie.close
     (tie.spec
     (λ c. search rules)

@@ -16,59 +16,59 @@ use Rattle.reader.proofs.by_line.read_line.Tie as tie
 number_fits : (c : tie.Start) → c.args.r.number ≤ most_lines
 number_fits c = search rules
 
-turn-line-requires : tie.Need-turn-line-requires
+turn-line-requires : tie.Need-turn_line-requires
 unfolding awaits_event
 turn-line-requires c κs =
     let at-enum-told = c.before.before in
-    let entry = at-enum-told.before.before.before.before.before in
-    awaits_known _ _ _ (ap awaits_event at-enum-told.enum_told.given.1) entry.requires
+    let entry = at-enum-told.before.before.before.before in
+    awaits_known _ _ _ (ap awaits_event at-enum-told.in-Event.is) entry.requires
 
-returns : tie.Need-returns
+returns : tie.Need-returns-in-Due
 unfolding phase_line
 returns c =
-    let at-match = c.before.before.before.before.before.before.before.before in
-    let entry = at-match.before.before.before.before.before in
+    let at-match = c.before.before.before.before.before.before.before in
+    let entry = at-match.before.before.before in
     let call = entry.args in
-    reads_line call.r (Due at-match.phase.given.0.0) at-match.phase.given.1 _ _ _ _ _ _ c.before.before.before.before.header_line.ensures
+    reads_line call.r (Due at-match.in-Due.due) at-match.in-Due.is _ _ _ _ _ _ c.header_line.ensures
 
-returns_2 : tie.Need-returns-2
+returns_2 : tie.Need-returns-in-Event
 unfolding phase_line
 returns_2 c =
     let at-match = c.before.before.before.before.before.before.before in
-    let entry = at-match.before.before.before.before.before in
+    let entry = at-match.before.before.before.before in
     let call = entry.args in
-    reads_line call.r (Event) at-match.enum_told.given.1 _ _ _ _ _ _ c.before.before.before.before.turn_line.ensures
+    reads_line call.r (Event) at-match.in-Event.is _ _ _ _ _ _ c.turn_line.ensures
 
-returns_3 : tie.Need-returns-3
+returns_3 : tie.Need-returns-in-Printed
 unfolding phase_line read_phase with_part
 returns_3 c =
-    let at-match = c.before.before in
-    let entry = at-match.before.before.before.before.before in
+    let at-match = c.before in
+    let entry = at-match.before.before.before.before in
     let call = entry.args in
-    let k = at-match.phase2.given.0.0 in
-    let o = at-match.phase2.given.0.1.0 in
-    reads_line call.r (Printed k o) at-match.phase2.given.1 _ _ _ _ _ _
-    (read_as _ _ _ _ _ c.compare-output.ensures
+    let k = at-match.in-Printed.k in
+    let o = at-match.in-Printed.o in
+    reads_line call.r (Printed k o) at-match.in-Printed.is _ _ _ _ _ _
+    (read_as _ _ _ _ _ c.compare_output.ensures
     (compared_back call.r call.ns.now call.bs.now (number_fits entry) (output_line k o) call.line.now Event))
 
-returns_4 : tie.Need-returns-4
+returns_4 : tie.Need-returns-in-Listed
 unfolding phase_line read_phase
 returns_4 c =
-    let at-match = c.before.before.before.before in
-    let entry = at-match.before.before.before.before.before in
+    let at-match = c.before in
+    let entry = at-match.before.before.before in
     let call = entry.args in
-    reads_line call.r (Listed at-match.phase3.given.0.0) at-match.phase3.given.1 _ _ _ _ _ _ c.listed_line.ensures
+    reads_line call.r (Listed at-match.in-Listed.k) at-match.in-Listed.is _ _ _ _ _ _ c.listed_line.ensures
 
-returns-5 : tie.Need-returns-5
+returns-5 : tie.Need-returns-in-Decided
 unfolding phase_line
 returns-5 c =
     let at-match = c in
-    let entry = at-match.before.before.before.before.before in
+    let entry = at-match.before.before.before.before in
     let call = entry.args in
-    reads_line call.r (Decided _) at-match.enum-told2.given.1 _ _ _ _ _ _ (kept_as _ _ _)
+    reads_line call.r (Decided _) at-match.in-Decided.is _ _ _ _ _ _ (kept_as _ _ _)
 
-pub read-line-spec : {M : Type 1} → statement M
-read-line-spec =
+pub read_line_spec : {M : Type 1} → statement M
+read_line_spec =
     tie.close
     (tie.spec
     (λ c. search rules)

@@ -15,11 +15,11 @@ returns c =
     let call = entry.args in
     λ ns bs e.
     read_as _ _ _ _ _ c.made.ensures
-    (runs call.r ns bs (starts call.k call.call call.tag) at-start.start.result _ _ _ (at-start.start.ensures call.r.header ns bs e)
-    at-next-number.next_number.ensures)
+    (runs call.r ns bs (starts call.k call.call call.tag) at-start.start-d.result _ _ _ (at-start.start-d.ensures call.r.header ns bs e)
+    at-next-number.next_number-next.ensures)
 
-pub start-task-spec : {M : Type 1} → statement M
-start-task-spec =
+pub start_task_spec : {M : Type 1} → statement M
+start_task_spec =
     tie.close
     (tie.spec
     (λ c κs. search rules)

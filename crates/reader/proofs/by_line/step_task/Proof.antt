@@ -14,11 +14,11 @@ returns c =
     let entry = at-step.before.before.before.before.before.before.before in
     let call = entry.args in
     read_as _ _ _ _ _ c.made.ensures
-    (runs call.r call.ns.now call.bs.now (steps call.k) at-step.step.result _ _ _ at-step.step.ensures
-    at-next-number.next_number.ensures)
+    (runs call.r call.ns.now call.bs.now (steps call.k) at-step.step-d.result _ _ _ at-step.step-d.ensures
+    at-next-number.next_number-next.ensures)
 
-pub step-task-spec : {M : Type 1} → statement M
-step-task-spec =
+pub step_task_spec : {M : Type 1} → statement M
+step_task_spec =
     tie.close
     (tie.spec
     (λ c κs. search rules)

@@ -16,9 +16,12 @@ returns c =
     let a = start.args in
     record {
       input = refl;
-      verdict = c.read_end.ensures ∙ ap (λ (b : Bool). read_end (not b) a.r a.ns.now a.bs.now) c.before.cut_off.ensures;
+      verdict = c.read_end-verdict.ensures ∙ ap (λ (b : Bool). read_end (not b) a.r a.ns.now a.bs.now) c.cut_off-unclosed.ensures;
       room = line-room start;
     }
 
-pub ended-spec : {M : Type 1} → statement M
-ended-spec = tie.close (tie.spec (λ c κs. search rules) (λ c κs. search rules) returns)
+pub ended_spec : {M : Type 1} → statement M
+ended_spec = tie.close (tie.spec
+    (λ c κs. search rules)
+    (λ c κs. search rules)
+    returns)

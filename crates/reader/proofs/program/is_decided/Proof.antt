@@ -4,28 +4,28 @@ use borrow.Author.Rules.{rules}
 use Rattle.reader.proofs.program.is_decided.Statement.{statement}
 use Rattle.reader.proofs.program.is_decided.Tie as tie
 
-returns : tie.Need-returns
+returns : tie.Need-returns-in-Due
 unfolding is_decided
-returns c = rw c.enum_told.given.1
+returns c = rw c.in-Due.is
 
-returns_2 : tie.Need-returns-2
+returns_2 : tie.Need-returns-in-Event
 unfolding is_decided
-returns_2 c = rw c.enum-told2.given.1
+returns_2 c = rw c.in-Event.is
 
-returns_3 : tie.Need-returns-3
+returns_3 : tie.Need-returns-in-Printed
 unfolding is_decided
-returns_3 c = rw c.enum-told3.given.1
+returns_3 c = rw c.in-Printed.is
 
-returns_4 : tie.Need-returns-4
+returns_4 : tie.Need-returns-in-Listed
 unfolding is_decided
-returns_4 c = rw c.enum-told4.given.1
+returns_4 c = rw c.in-Listed.is
 
-returns-5 : tie.Need-returns-5
+returns-5 : tie.Need-returns-in-Decided
 unfolding is_decided
-returns-5 c = rw c.enum-told5.given.1
+returns-5 c = rw c.in-Decided.is
 
-pub is-decided-spec : {M : Type 1} → statement M
-is-decided-spec =
+pub is_decided_spec : {M : Type 1} → statement M
+is_decided_spec =
     tie.close
     (tie.spec
     (λ c. search rules)

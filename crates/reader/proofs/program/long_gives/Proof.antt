@@ -12,30 +12,30 @@ use Rattle.reader.proofs.program.long_gives.Tie as tie
 line-room : (c : tie.Start) → length c.args.p.line.bytes ≡ 41
 line-room c = search rules
 
-array-share-prefix-b : tie.Need-array-share-prefix-b
+array-share-prefix-b : tie.Need-slice_bounds-b-end
 array-share-prefix-b c =
     let at_length = c.before.before.before in
-    omega (arith, at_length.line_length.ensures.0, line-room at_length.before.before.before.before.before.before.before.before)
+    omega (arith, at_length.line_length-n.ensures.0, line-room at_length.before.before.before.before.before.before)
 
-slice-aggregate-read-line : tie.Need-slice-aggregate-read-line
+slice-aggregate-read-line : tie.Need-slice_bounds-read_line-end
 slice-aggregate-read-line c =
     let at_length = c.before.before.before.before in
-    let n = at_length.line_length in
-    let start = at_length.before.before.before.before.before.before.before.before in
+    let n = at_length.line_length-n in
+    let start = at_length.before.before.before.before.before.before in
     sym (length-take-le n.result start.args.p.line.bytes (omega (arith, n.ensures.0, line-room start)))
 
 returns : tie.Need-returns
 returns c =
-    let at_line = c.before.before.before.before.before.before.before in
+    let at_line = c.before.before.before.before.before in
     let at_length = at_line.before.before.before.before.before in
     let at-unclosed = at_length.before.before in
-    let at_short = at-unclosed.before.before.before in
-    let a = at_short.before.before.before.args in
-    long_gives_so (line_read a.r a.ns.now a.bs.now) _ _ _ _ _ _ at-unclosed.read_end.ensures at_length.line_length.ensures.1
-    at_line.read_line.ensures c.read-end2.ensures at_short.short-printed.ensures
+    let at_short = at-unclosed.before in
+    let a = at_short.args in
+    long_gives_so (line_read a.r a.ns.now a.bs.now) _ _ _ _ _ _ at-unclosed.read_end-unclosed.ensures at_length.line_length-n.ensures.1
+    at_line.read_line-s.ensures c.read_end-closed.ensures at_short.short_printed.ensures
 
-pub long-gives-spec : {M : Type 1} → statement M
-long-gives-spec =
+pub long_gives_spec : {M : Type 1} → statement M
+long_gives_spec =
     tie.close
     (tie.spec
     (λ c κs. search rules)

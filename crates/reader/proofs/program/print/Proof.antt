@@ -4,26 +4,24 @@ use borrow.Author.Rules.{rules}
 use Rattle.reader.proofs.program.print.Statement.{statement}
 use Rattle.reader.proofs.program.print.Tie as tie
 
-returns : tie.Need-returns
+returns : tie.Need-returns-in-Same
 unfolding verdict_text
-returns c = rw c.before.before.before.before.before.enum_told.given.1 c.before.before.all-bytes.ensures
+returns c = rw c.in-Same.is c.all_bytes.ensures
 
-returns_2 : tie.Need-returns-2
+returns_2 : tie.Need-returns-in-Differs
 unfolding verdict_text
-returns_2 c = rw c.before.before.before.before.before.before.v.given.1 c.before.before.key_line.ensures
+returns_2 c = rw c.in-Differs.is c.key_line.ensures
 
-returns_3 : tie.Need-returns-3
+returns_3 : tie.Need-returns-in-Refusal
 unfolding verdict_text
-returns_3 c = rw c.before.before.before.before.before.v2.given.1 c.before.before.refusal.ensures
+returns_3 c = rw c.in-Refusal.is c.refusal.ensures
 
-pub print-spec : {M : Type 1} → statement M
-print-spec =
+pub print_spec : {M : Type 1} → statement M
+print_spec =
     tie.close
     (tie.spec
     (λ c. search rules)
-    (λ c. search rules)
     (λ c κs. search rules)
-    (λ c. search rules)
     (λ c. search rules)
     (λ c κs. search rules)
     (λ c. search rules)

@@ -7,25 +7,25 @@ use borrow.Author.Rules.{rules}
 use Rattle.reader.proofs.program.same_refusal.Statement.{statement}
 use Rattle.reader.proofs.program.same_refusal.Tie as tie
 
-returns : tie.Need-returns
+returns : tie.Need-returns-in-Same
 returns c = λ z. absurd (tf z refl)
 
-returns_2 : tie.Need-returns-2
+returns_2 : tie.Need-returns-in-Differs
 returns_2 c = λ z. absurd (tf z refl)
 
-returns_3 : tie.Need-returns-3
+returns_3 : tie.Need-returns-in-Same-v
 returns_3 c = λ z. absurd (tf z refl)
 
-returns_4 : tie.Need-returns-4
+returns_4 : tie.Need-returns-in-Differs-v
 returns_4 c = λ z. absurd (tf z refl)
 
-returns-5 : tie.Need-returns-5
+returns-5 : tie.Need-returns-in-Refusal-v
 returns-5 c = λ z.
-    let at-u = c.before.before.before.before in
-    at-u.u.given.1 ∙ ap Refusal (eqb-true _ _ z) ∙ sym c.before.v.given.1
+    let at-u = c.before in
+    at-u.in-Refusal.is ∙ ap Refusal (eqb-true _ _ z) ∙ sym c.in-Refusal-v.is
 
-pub same-refusal-spec : {M : Type 1} → statement M
-same-refusal-spec =
+pub same_refusal_spec : {M : Type 1} → statement M
+same_refusal_spec =
     tie.close
     (tie.spec
     (λ c. search rules)

@@ -20,5 +20,6 @@ returns c = λ a.
     let own = own_fits c in
     (end_short _ k a _ own, end_full_short _ k a _ own _ (number_fits c))
 
-pub short-end-spec : {M : Type 1} → statement M
-short-end-spec = tie.close (tie.spec returns)
+pub short_end_spec : {M : Type 1} → statement M
+short_end_spec = tie.close (tie.spec
+    returns)

@@ -8,20 +8,20 @@ use Rattle.reader.proofs.program.short_output.Tie as tie
 task_fits : (c : tie.Start) → c.args.k ≤ 4294967295
 task_fits c = search rules
 
-returns : tie.Need-returns
-returns c = rw c.enum_told.given.1 (at_short _ (task_fits c.before.before) _)
+returns : tie.Need-returns-in-At
+returns c = rw c.in-At.is (at_short _ (task_fits c.before) _)
 
-returns_2 : tie.Need-returns-2
-returns_2 c = rw (c.before.before.before.before.o.given.1, c.before.enum-told2.given.1) (c.short-end.ensures _).0
+returns_2 : tie.Need-returns-in-NotGiven
+returns_2 c = rw (c.in-End.is, c.in-NotGiven.is) (c.short_end.ensures _).0
 
-returns_3 : tie.Need-returns-3
-returns_3 c = rw (c.before.before.before.before.before.o.given.1, c.before.before.full.given.1) (c.short-end2.ensures _).1
+returns_3 : tie.Need-returns-in-Tags
+returns_3 c = rw (c.in-End.is, c.in-Tags.is) (c.short_end-in-Tags.ensures _).1
 
-returns_4 : tie.Need-returns-4
-returns_4 c = rw c.enum-told3.given.1 (refuse_short _ (task_fits c.before.before) _)
+returns_4 : tie.Need-returns-in-Refuse
+returns_4 c = rw c.in-Refuse.is (refuse_short _ (task_fits c.before) _)
 
-pub short-output-spec : {M : Type 1} → statement M
-short-output-spec =
+pub short_output_spec : {M : Type 1} → statement M
+short_output_spec =
     tie.close
     (tie.spec
     (λ c. search rules)

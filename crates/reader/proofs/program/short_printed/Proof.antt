@@ -5,28 +5,28 @@ use borrow.Author.Rules.{rules}
 use Rattle.reader.proofs.program.short_printed.Statement.{statement}
 use Rattle.reader.proofs.program.short_printed.Tie as tie
 
-returns : tie.Need-returns
+returns : tie.Need-returns-in-Due
 unfolding printed_length
-returns c = rw c.enum_told.given.1 (omega arith)
+returns c = rw c.in-Due.is (omega arith)
 
-returns_2 : tie.Need-returns-2
+returns_2 : tie.Need-returns-in-Event
 unfolding printed_length
-returns_2 c = rw c.enum-told2.given.1 (omega arith)
+returns_2 c = rw c.in-Event.is (omega arith)
 
-returns_3 : tie.Need-returns-3
+returns_3 : tie.Need-returns-in-Printed
 unfolding printed_length
-returns_3 c = rw c.before.before.phase.given.1 c.short-output.ensures
+returns_3 c = rw c.in-Printed.is c.short_output.ensures
 
-returns_4 : tie.Need-returns-4
+returns_4 : tie.Need-returns-in-Listed
 unfolding printed_length
-returns_4 c = rw c.enum-told3.given.1 (omega arith)
+returns_4 c = rw c.in-Listed.is (omega arith)
 
-returns-5 : tie.Need-returns-5
+returns-5 : tie.Need-returns-in-Decided
 unfolding printed_length
-returns-5 c = rw c.enum-told4.given.1 (omega arith)
+returns-5 c = rw c.in-Decided.is (omega arith)
 
-pub short-printed-spec : {M : Type 1} → statement M
-short-printed-spec =
+pub short_printed_spec : {M : Type 1} → statement M
+short_printed_spec =
     tie.close
     (tie.spec
     (λ c. search rules)

@@ -11,34 +11,34 @@ use Rattle.reader.proofs.program.take_given.Tie as tie
 line-room : (c : tie.Start) → length c.args.q.line.bytes ≡ 41
 line-room c = search rules
 
-array-share-prefix-b : tie.Need-array-share-prefix-b
+array-share-prefix-b : tie.Need-slice_bounds-b-end
 array-share-prefix-b c =
     let at_length = c.before.before.before in
-    omega (arith, at_length.line_length.ensures.0, line-room at_length.before.before.before.before.before.before)
+    omega (arith, at_length.line_length-n.ensures.0, line-room at_length.before.before.before.before.before.before)
 
-slice-aggregate-read-line : tie.Need-slice-aggregate-read-line
+slice-aggregate-read-line : tie.Need-slice_bounds-read_line-end
 slice-aggregate-read-line c =
     let at_length = c.before.before.before.before in
-    let n = at_length.line_length in
+    let n = at_length.line_length-n in
     let start = at_length.before.before.before.before.before.before in
     sym (length-take-le n.result start.args.q.line.bytes (omega (arith, n.ensures.0, line-room start)))
 
-returns : tie.Need-returns
+returns : tie.Need-returns-then-has_line
 returns c =
     let at_line = c.before.before.before.before in
     let at_length = at_line.before.before.before.before.before in
     let at-if1 = at_length.before.before in
-    let a = at-if1.before.before.before.before.args in
-    takes_line a.r a.ns.now a.bs.now a.q _ _ _ _ (sym at-if1.before.has-line.ensures ∙ at-if1.if1.true)
-    at_length.line_length.ensures.1 at_line.read_line.ensures
+    let a = at-if1.args in
+    takes_line a.r a.ns.now a.bs.now a.q _ _ _ _ (sym at-if1.has_line.ensures ∙ at-if1.if-has_line.true)
+    at_length.line_length-n.ensures.1 at_line.read_line.ensures
 
-returns_2 : tie.Need-returns-2
+returns_2 : tie.Need-returns
 returns_2 c =
-    let a = c.before.before.before.before.args in
-    takes_none a.r a.ns.now a.bs.now a.q (sym c.before.has-line.ensures ∙ c.if1.false)
+    let a = c.args in
+    takes_none a.r a.ns.now a.bs.now a.q (sym c.has_line.ensures ∙ c.if-has_line.false)
 
-pub take-given-spec : {M : Type 1} → statement M
-take-given-spec =
+pub take_given_spec : {M : Type 1} → statement M
+take_given_spec =
     tie.close
     (tie.spec
     (λ c κs. search rules)

@@ -8,33 +8,33 @@ use borrow.Author.Rules.{rules}
 use Rattle.reader_state.proofs.comparing.same_line.Statement.{statement}
 use Rattle.reader_state.proofs.comparing.same_line.Tie as tie
 
-returns : tie.Need-returns
+returns : tie.Need-returns-then-printed-n
 returns c =
     let entry = c.before.before.before in
-    sym (other_length entry.args.printed.now entry.args.line.now c.if1.true)
+    sym (other_length entry.args.printed.now entry.args.line.now c.if-printed-n.true)
 
-returns_2 : tie.Need-returns-2
+returns_2 : tie.Need-returns-then-printed-n-ne10
 returns_2 c =
     let at-if1 = c.before.before in
     let entry = at-if1.before.before.before in
-    sym (other_last entry.args.printed.now entry.args.line.now at-if1.if1.false c.if2.true)
+    sym (other_last entry.args.printed.now entry.args.line.now at-if1.if-printed-n.false c.if-printed-n-ne10.true)
 
-slice-aggregate-equals : tie.Need-slice-aggregate-equals
+slice-aggregate-equals : tie.Need-slice_bounds-equals-end
 slice-aggregate-equals c =
-    let at-if1 = c.before.before.before in
+    let at-if1 = c.before.before in
     let entry = at-if1.before.before.before in
     let line = entry.args.line.now in
-    sym (length-take-le (length line) entry.args.printed.now (omega (arith, at-if1.if1.false)))
+    sym (length-take-le (length line) entry.args.printed.now (omega (arith, at-if1.if-printed-n.false)))
 
-returns_3 : tie.Need-returns-3
+returns_3 : tie.Need-returns
 returns_3 c =
-    let at-if2 = c.before.before in
+    let at-if2 = c.before in
     let at-if1 = at-if2.before.before in
     let entry = at-if1.before.before.before in
-    c.equals.ensures ∙ same_last entry.args.printed.now entry.args.line.now at-if1.if1.false at-if2.if2.false
+    c.equals.ensures ∙ same_last entry.args.printed.now entry.args.line.now at-if1.if-printed-n.false at-if2.if-printed-n-ne10.false
 
-pub same-line-spec : {M : Type 1} → statement M
-same-line-spec =
+pub same_line_spec : {M : Type 1} → statement M
+same_line_spec =
     tie.close
     (tie.spec
     (λ c. search rules)

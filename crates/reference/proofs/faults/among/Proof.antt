@@ -4,14 +4,14 @@ use Rattle.reference.proofs.faults.among.Statement.{statement}
 use Rattle.reference.proofs.faults.among.Tie as tie
 use borrow.Author.Rules.{rules}
 
-abbrev invariant-loop : tie.invariant-loop
+abbrev invariant-loop : tie.invariant-loop-n
 invariant-loop w all count of n₀ n = (n ≤ count)
 
-abbrev decreases-loop : tie.decreases-loop
+abbrev decreases-loop : tie.decreases-loop-n
 decreases-loop w all count of n₀ n = count - n
 
-pub among-spec : {M : Type 1} → statement M
-among-spec =
+pub among_spec : {M : Type 1} → statement M
+among_spec =
     tie.close
     (tie.spec
     invariant-loop

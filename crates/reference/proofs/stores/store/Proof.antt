@@ -4,10 +4,10 @@ use Rattle.reference.proofs.stores.store.Statement.{statement}
 use Rattle.reference.proofs.stores.store.Tie as tie
 use borrow.Author.Rules.{rules}
 
-abbrev invariant-loop : tie.invariant-loop
+abbrev invariant-loop : tie.invariant-loop-j
 invariant-loop w₀ n j₀ w j = (j ≤ n)
 
-abbrev decreases-loop : tie.decreases-loop
+abbrev decreases-loop : tie.decreases-loop-j
 decreases-loop w₀ n j₀ w j = n - j
 
 pub store_spec : {M : Type 1} → statement M

@@ -4,10 +4,10 @@ use Rattle.reference.proofs.tags.count.Statement.{statement}
 use Rattle.reference.proofs.tags.count.Tie as tie
 use borrow.Author.Rules.{rules}
 
-abbrev invariant-loop : tie.invariant-loop
+abbrev invariant-loop : tie.invariant-loop-n
 invariant-loop w set from₀ n₀ from n = (n ≤ 65)
 
-abbrev decreases-loop : tie.decreases-loop
+abbrev decreases-loop : tie.decreases-loop-n
 decreases-loop w set from₀ n₀ from n = 65 - n
 
 pub count_spec : {M : Type 1} → statement M

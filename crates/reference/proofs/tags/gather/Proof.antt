@@ -4,14 +4,14 @@ use Rattle.reference.proofs.tags.gather.Statement.{statement}
 use Rattle.reference.proofs.tags.gather.Tie as tie
 use borrow.Author.Rules.{rules}
 
-abbrev invariant-loop : tie.invariant-loop
+abbrev invariant-loop : tie.invariant-loop-at
 invariant-loop w₀ set from₀ at₀ w from at = (at ≤ 70133)
 
-abbrev decreases-loop : tie.decreases-loop
+abbrev decreases-loop : tie.decreases-loop-at
 decreases-loop w₀ set from₀ at₀ w from at = 70133 - at
 
-pub gather-spec : {M : Type 1} → statement M
-gather-spec =
+pub gather_spec : {M : Type 1} → statement M
+gather_spec =
     tie.close
     (tie.spec
     invariant-loop

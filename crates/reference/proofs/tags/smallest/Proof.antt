@@ -4,14 +4,14 @@ use Rattle.reference.proofs.tags.smallest.Statement.{statement}
 use Rattle.reference.proofs.tags.smallest.Tie as tie
 use borrow.Author.Rules.{rules}
 
-abbrev invariant-loop : tie.invariant-loop
+abbrev invariant-loop : tie.invariant-loop-n
 invariant-loop w set from none all best₀ n₀ best n = (n ≤ all)
 
-abbrev decreases-loop : tie.decreases-loop
+abbrev decreases-loop : tie.decreases-loop-n
 decreases-loop w set from none all best₀ n₀ best n = all - n
 
-pub smallest-spec : {M : Type 1} → statement M
-smallest-spec =
+pub smallest_spec : {M : Type 1} → statement M
+smallest_spec =
     tie.close
     (tie.spec
     invariant-loop

@@ -4,14 +4,14 @@ use Rattle.reference.proofs.taking.found.Statement.{statement}
 use Rattle.reference.proofs.taking.found.Tie as tie
 use borrow.Author.Rules.{rules}
 
-abbrev invariant-loop : tie.invariant-loop
+abbrev invariant-loop : tie.invariant-loop-tried
 invariant-loop w kind count last place₀ tried₀ place tried = (tried ≤ count)
 
-abbrev decreases-loop : tie.decreases-loop
+abbrev decreases-loop : tie.decreases-loop-tried
 decreases-loop w kind count last place₀ tried₀ place tried = count - tried
 
-pub found-spec : {M : Type 1} → statement M
-found-spec =
+pub found_spec : {M : Type 1} → statement M
+found_spec =
     tie.close
     (tie.spec
     invariant-loop

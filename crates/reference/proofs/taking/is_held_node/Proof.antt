@@ -4,14 +4,14 @@ use Rattle.reference.proofs.taking.is_held_node.Statement.{statement}
 use Rattle.reference.proofs.taking.is_held_node.Tie as tie
 use borrow.Author.Rules.{rules}
 
-abbrev invariant-loop : tie.invariant-loop
+abbrev invariant-loop : tie.invariant-loop-at
 invariant-loop w of place₀ at₀ place at = (at ≤ 1600)
 
-abbrev decreases-loop : tie.decreases-loop
+abbrev decreases-loop : tie.decreases-loop-at
 decreases-loop w of place₀ at₀ place at = 1600 - at
 
-pub is-held-node-spec : {M : Type 1} → statement M
-is-held-node-spec =
+pub is_held_node_spec : {M : Type 1} → statement M
+is_held_node_spec =
     tie.close
     (tie.spec
     invariant-loop

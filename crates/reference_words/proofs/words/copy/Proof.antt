@@ -4,10 +4,10 @@ use Rattle.reference_words.proofs.words.copy.Statement.{statement}
 use Rattle.reference_words.proofs.words.copy.Tie as tie
 use borrow.Author.Rules.{rules}
 
-abbrev invariant-loop : tie.invariant-loop
+abbrev invariant-loop : tie.invariant-loop-i
 invariant-loop w₀ from to count a b n i₀ w i = (i ≤ n)
 
-abbrev decreases-loop : tie.decreases-loop
+abbrev decreases-loop : tie.decreases-loop-i
 decreases-loop w₀ from to count a b n i₀ w i = n - i
 
 pub copy_spec : {M : Type 1} → statement M

@@ -6,33 +6,33 @@ use borrow.Author.Rules.{rules}
 use Rattle.session_lines.proofs.events.event_line.Statement.{statement}
 use Rattle.session_lines.proofs.events.event_line.Tie as tie
 
-returns : tie.Need-returns
+returns : tie.Need-returns-in-Start
 unfolding event_effect
 returns c =
     let at-start-task = c.before.before in
-    let at-k = at-start-task.before.before.before in
-    let at-event-line = at-k.before.before in
+    let at-k = at-start-task.before.before in
+    let at-event-line = at-k.before in
     let entry = at-event-line.before.before.before.before.before in
-    rw (sym at-event-line.event-line.ensures ∙ at-k.k.given.1) (at-start-task.start-task.ensures _ _ entry.requires)
+    rw (sym at-event-line.event_line.ensures ∙ at-k.in-Start.is) (at-start-task.start_task.ensures _ _ entry.requires)
 
-returns_2 : tie.Need-returns-2
+returns_2 : tie.Need-returns-in-Step
 unfolding event_effect
 returns_2 c =
     let at-step-task = c.before.before.before.before.before.before in
-    let at-k2 = at-step-task.before.before.before.before.before in
-    let at-event-line = at-k2.before.before in
-    rw (sym at-event-line.event-line.ensures ∙ at-k2.k2.given.1) at-step-task.step-task.ensures
+    let at-k2 = at-step-task.before.before.before.before in
+    let at-event-line = at-k2.before in
+    rw (sym at-event-line.event_line.ensures ∙ at-k2.in-Step.is) at-step-task.step_task.ensures
 
-returns_3 : tie.Need-returns-3
+returns_3 : tie.Need-returns-in-Outside
 unfolding event_effect
 returns_3 c =
     let at-enum-told = c.before.before.before.before in
-    let at-event-line = at-enum-told.before.before in
-    rw (sym at-event-line.event-line.ensures ∙ at-enum-told.enum_told.given.1)
-    (keeps _ _ _ _ _ _ c.before.before.stop.ensures)
+    let at-event-line = at-enum-told.before in
+    rw (sym at-event-line.event_line.ensures ∙ at-enum-told.in-Outside.is)
+    (keeps _ _ _ _ _ _ c.stop.ensures)
 
-pub event-line-spec : {M : Type 1} → statement M
-event-line-spec =
+pub event_line_spec : {M : Type 1} → statement M
+event_line_spec =
     tie.close
     (tie.spec
     (λ c κs. search rules)

@@ -9,73 +9,73 @@ use borrow.Author.Rules.{rules}
 use Rattle.session_lines.proofs.events.list_tags.Statement.{statement}
 use Rattle.session_lines.proofs.events.list_tags.Tie as tie
 
-slice-aggregate-node-size : tie.Need-slice-aggregate-node-size
+slice-aggregate-node-size : tie.Need-slice_bounds-node_size-end
 slice-aggregate-node-size c =
+    let at-node-extent = c.before.before in
+    let entry = at-node-extent.before.before.before.before.before in
+    sym (length-take-le at-node-extent.node_extent-a.result entry.args.ns.now at-node-extent.node_extent-a.ensures.1)
+
+slice-aggregate-list : tie.Need-slice_bounds-list-end
+slice-aggregate-list c =
     let at-node-extent = c.before.before.before in
     let entry = at-node-extent.before.before.before.before.before in
-    sym (length-take-le at-node-extent.node_extent.result entry.args.ns.now at-node-extent.node_extent.ensures.1)
+    sym (length-take-le at-node-extent.node_extent-a.result entry.args.ns.now at-node-extent.node_extent-a.ensures.1)
 
-slice-aggregate-list : tie.Need-slice-aggregate-list
-slice-aggregate-list c =
-    let at-node-extent = c.before.before.before.before.before in
-    let entry = at-node-extent.before.before.before.before.before in
-    sym (length-take-le at-node-extent.node_extent.result entry.args.ns.now at-node-extent.node_extent.ensures.1)
-
-slice-aggregate-list-2 : tie.Need-slice-aggregate-list-2
+slice-aggregate-list-2 : tie.Need-slice_bounds-list-end-2
 slice-aggregate-list-2 c =
-    let at-bucket-extent = c.before.before.before.before.before in
+    let at-bucket-extent = c.before.before in
     let entry = at-bucket-extent.before.before.before.before.before.before in
     sym
-    (length-take-le at-bucket-extent.bucket_extent.result entry.args.bs.now at-bucket-extent.bucket_extent.ensures.1)
+    (length-take-le at-bucket-extent.bucket_extent-b.result entry.args.bs.now at-bucket-extent.bucket_extent-b.ensures.1)
 
-array-share-prefix-w : tie.Need-array-share-prefix-w
+array-share-prefix-w : tie.Need-slice_bounds-w-end
 array-share-prefix-w c =
-    let at_Listed = c.before.before in
-    let at-list = at_Listed.before.before.before in
+    let at_Listed = c.before in
+    let at-list = at_Listed.before.before in
     omega
-    (arith, few_listed _ _ at_Listed.listed.given.0.0 at-list.list.result at-list.list.ensures.0 at_Listed.listed.given.1)
+    (arith, few_listed _ _ at_Listed.in-Count.n at-list.list-listed.result at-list.list-listed.ensures.0 at_Listed.in-Count.is)
 
-slice-aggregate-listing : tie.Need-slice-aggregate-listing
+slice-aggregate-listing : tie.Need-slice_bounds-listing-end
 slice-aggregate-listing c =
-    let at_Listed = c.before.before.before in
-    let l = at_Listed.before.before.before.list in
-    let n = at_Listed.listed.given.0.0 in
-    let few = few_listed _ _ n l.result l.ensures.0 at_Listed.listed.given.1 in
-    sym (length-take-le n l.new.1.1.1.0 (omega (arith, few, l.auto.1.1.1.0)))
+    let at_Listed = c.before.before in
+    let l = at_Listed.list-listed in
+    let n = at_Listed.in-Count.n in
+    let few = few_listed _ _ n l.result l.ensures.0 at_Listed.in-Count.is in
+    sym (length-take-le n l.new.out (omega (arith, few, l.auto.out)))
 
-returns : tie.Need-returns
+returns : tie.Need-returns-in-Count
 returns c =
-    let at_Listed = c.before.before.before.before.before.before in
-    let at-list = at_Listed.before.before.before in
-    let at-node-size = at-list.before.before.before.before in
-    let at-bucket-extent = at-node-size.before.before.before in
+    let at_Listed = c.before.before.before.before.before in
+    let at-list = at_Listed.before.before in
+    let at-node-size = at-list.before.before in
+    let at-bucket-extent = at-node-size.before.before in
     let at-node-extent = at-bucket-extent.before in
     let entry = at-node-extent.before.before.before.before.before in
     let call = entry.args in
-    let a = at-node-extent.node_extent in
-    let b = at-bucket-extent.bucket_extent in
-    let l = at-list.list in
+    let a = at-node-extent.node_extent-a in
+    let b = at-bucket-extent.bucket_extent-b in
+    let l = at-list.list-listed in
     lists_count call.s call.ns.now call.bs.now a.result b.result a.ensures.0 b.ensures.0
-    l.result (replicate 64 0) l.new.1.1.1.0 l.ensures.0 l.ensures.1 at_Listed.listed.given.0.0
-    at-node-size.node-size.result _ _ at_Listed.listed.given.1 at-node-size.node-size.ensures c.before.before.listing.ensures
+    l.result (replicate 64 0) l.new.out l.ensures.0 l.ensures.1 at_Listed.in-Count.n
+    at-node-size.node_size-size.result _ _ at_Listed.in-Count.is at-node-size.node_size-size.ensures c.listing.ensures
 
-returns_2 : tie.Need-returns-2
+returns_2 : tie.Need-returns-in-Refused
 returns_2 c =
-    let at-listed2 = c.before.before.before.before.before in
-    let at-list = at-listed2.before.before.before in
-    let at-bucket-extent = at-list.before.before.before.before.before.before.before in
+    let at-listed2 = c.before.before.before.before in
+    let at-list = at-listed2.before.before in
+    let at-bucket-extent = at-list.before.before.before.before in
     let at-node-extent = at-bucket-extent.before in
     let entry = at-node-extent.before.before.before.before.before in
     let call = entry.args in
-    let a = at-node-extent.node_extent in
-    let b = at-bucket-extent.bucket_extent in
-    let l = at-list.list in
+    let a = at-node-extent.node_extent-a in
+    let b = at-bucket-extent.bucket_extent-b in
+    let l = at-list.list-listed in
     lists_refused call.s call.ns.now call.bs.now a.result b.result a.ensures.0 b.ensures.0
-    l.result (replicate 64 0) l.new.1.1.1.0 l.ensures.0 l.ensures.1 at-listed2.listed2.given.0.0 _ _
-    at-listed2.listed2.given.1 c.before.before.refusal.ensures
+    l.result (replicate 64 0) l.new.out l.ensures.0 l.ensures.1 at-listed2.in-Refused.r _ _
+    at-listed2.in-Refused.is c.refusal.ensures
 
-pub list-tags-spec : {M : Type 1} → statement M
-list-tags-spec =
+pub list_tags_spec : {M : Type 1} → statement M
+list_tags_spec =
     tie.close
     (tie.spec
     (λ c κs. search rules)

@@ -9,11 +9,11 @@ returns : tie.Need-returns
 returns c =
     let at-output = c.before.before.before in
     let at-start = at-output.before.before.before in
-    let call = at-start.before.before.before.before.args in
+    let call = at-start.args in
     λ ns bs e.
     line_as _ _ _ _ _ _ _ c.after_line.ensures
-    (replies call.s ns bs call.k _ at-start.start.result _ _ _ _ _ (at-start.start.ensures call.s.header ns bs e) at-output.output.ensures)
+    (replies call.s ns bs call.k _ at-start.start-d.result _ _ _ _ _ (at-start.start-d.ensures call.s.header ns bs e) at-output.output-c.ensures)
 
-pub start-task-spec : {M : Type 1} → statement M
-start-task-spec =
+pub start_task_spec : {M : Type 1} → statement M
+start_task_spec =
     tie.close (tie.spec (λ c κs. search rules) (λ c κs. search rules) (λ c κs. search rules) (λ c. search rules) returns)

@@ -9,12 +9,12 @@ returns : tie.Need-returns
 returns c =
     let at-output = c.before.before.before in
     let at-step = at-output.before.before.before.before.before.before.before in
-    let call = at-step.before.before.before.before.before.before.before.before.args in
+    let call = at-step.args in
     line_as _ _ _ _ _ _ _ c.after_line.ensures
-    (replies call.s call.ns.now call.bs.now call.k _ at-step.step.result _ _ _ _ _ at-step.step.ensures at-output.output.ensures)
+    (replies call.s call.ns.now call.bs.now call.k _ at-step.step-d.result _ _ _ _ _ at-step.step-d.ensures at-output.output-c.ensures)
 
-pub step-task-spec : {M : Type 1} → statement M
-step-task-spec =
+pub step_task_spec : {M : Type 1} → statement M
+step_task_spec =
     tie.close
     (tie.spec
     (λ c κs. search rules)

@@ -9,8 +9,8 @@ returns : tie.Need-returns
 unfolding begin
 returns c =
     let e = c.at_hand.ensures in
-    let f = c.before.empty_line.ensures in
-    λ i. record { at = 0; end = e i; reads = c.before.before.args.reads; number = 1; left = most_calls; line = f i; given = Part }
+    let f = c.empty_line-line.ensures in
+    λ i. record { at = 0; end = e i; reads = c.args.reads; number = 1; left = most_calls; line = f i; given = Part }
 
-pub begin-spec : {M : Type 1} → statement M
-begin-spec = tie.close (tie.spec (λ c κs. search rules) (λ c κs. search rules) returns)
+pub begin_spec : {M : Type 1} → statement M
+begin_spec = tie.close (tie.spec (λ c κs. search rules) (λ c κs. search rules) returns)

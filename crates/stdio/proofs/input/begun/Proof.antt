@@ -5,13 +5,13 @@ use borrow.Author.Rules.{rules}
 use Rattle.stdio.proofs.input.begun.Statement.{statement}
 use Rattle.stdio.proofs.input.begun.Tie as tie
 
-returns : tie.Need-returns
+returns : tie.Need-returns-then-has_line
 unfolding begun_line
-returns c = rw (sym c.before.before.has-line.ensures ∙ c.before.if1.true)
+returns c = rw (sym c.has_line.ensures ∙ c.if-has_line.true)
 
-returns_2 : tie.Need-returns-2
+returns_2 : tie.Need-returns
 unfolding begun_line
-returns_2 c = rw (sym c.before.has-line.ensures ∙ c.if1.false)
+returns_2 c = rw (sym c.has_line.ensures ∙ c.if-has_line.false)
 
-pub begun-spec : {M : Type 1} → statement M
-begun-spec = tie.close (tie.spec (λ c κs. search rules) returns returns_2)
+pub begun_spec : {M : Type 1} → statement M
+begun_spec = tie.close (tie.spec (λ c κs. search rules) returns returns_2)

@@ -4,17 +4,17 @@ use Rattle.stdio.specs.Inputs.{given_of}
 use Rattle.stdio.proofs.input.given_by.Statement.{statement}
 use Rattle.stdio.proofs.input.given_by.Tie as tie
 
-returns : tie.Need-returns
+returns : tie.Need-returns-then-closed
 unfolding given_of
-returns c = rw c.if1.true
+returns c = rw c.if-closed.true
 
-returns_2 : tie.Need-returns-2
+returns_2 : tie.Need-returns-then-len-lt41
 unfolding given_of
-returns_2 c = rw (c.before.if1.false, lt-ltb _ _ c.if2.true)
+returns_2 c = rw (c.if-closed.false, lt-ltb _ _ c.if-len-lt41.true)
 
-returns_3 : tie.Need-returns-3
+returns_3 : tie.Need-returns
 unfolding given_of
-returns_3 c = rw (c.before.if1.false, le-ltb _ _ c.if2.false)
+returns_3 c = rw (c.if-closed.false, le-ltb _ _ c.if-len-lt41.false)
 
-pub given-by-spec : {M : Type 1} → statement M
-given-by-spec = tie.close (tie.spec returns returns_2 returns_3)
+pub given_by_spec : {M : Type 1} → statement M
+given_by_spec = tie.close (tie.spec returns returns_2 returns_3)

@@ -9,5 +9,5 @@ use Rattle.stdio.proofs.input.has_ended.Tie as tie
 returns : tie.Need-returns
 returns c = ap (λ (n : ℕ). eqb n 4) c.given_number.ensures
 
-pub has-ended-spec : {M : Type 1} → statement M
-has-ended-spec = tie.close (tie.spec (λ c κs. search rules) returns)
+pub has_ended_spec : {M : Type 1} → statement M
+has_ended_spec = tie.close (tie.spec (λ c κs. search rules) returns)

@@ -9,5 +9,5 @@ use Rattle.stdio.proofs.input.has_failed.Tie as tie
 returns : tie.Need-returns
 returns c = ap (λ (n : ℕ). ltb 4 n) c.given_number.ensures
 
-pub has-failed-spec : {M : Type 1} → statement M
-has-failed-spec = tie.close (tie.spec (λ c κs. search rules) returns)
+pub has_failed_spec : {M : Type 1} → statement M
+has_failed_spec = tie.close (tie.spec (λ c κs. search rules) returns)

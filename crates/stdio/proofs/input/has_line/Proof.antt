@@ -9,5 +9,5 @@ use Rattle.stdio.proofs.input.has_line.Tie as tie
 returns : tie.Need-returns
 returns c = ap (λ (n : ℕ). eqb n 1) c.given_number.ensures
 
-pub has-line-spec : {M : Type 1} → statement M
-has-line-spec = tie.close (tie.spec (λ c κs. search rules) returns)
+pub has_line_spec : {M : Type 1} → statement M
+has_line_spec = tie.close (tie.spec (λ c κs. search rules) returns)

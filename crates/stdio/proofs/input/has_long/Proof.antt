@@ -9,5 +9,5 @@ use Rattle.stdio.proofs.input.has_long.Tie as tie
 returns : tie.Need-returns
 returns c = ap (λ (n : ℕ). eqb n 2) c.given_number.ensures
 
-pub has-long-spec : {M : Type 1} → statement M
-has-long-spec = tie.close (tie.spec (λ c κs. search rules) returns)
+pub has_long_spec : {M : Type 1} → statement M
+has_long_spec = tie.close (tie.spec (λ c κs. search rules) returns)

@@ -6,14 +6,14 @@ use borrow.Author.Rules.{rules}
 use Rattle.stdio.proofs.input.leaves_out.Statement.{statement}
 use Rattle.stdio.proofs.input.leaves_out.Tie as tie
 
-returns : tie.Need-returns
+returns : tie.Need-returns-then-given_number-eq3
 unfolding leaves_out
-returns c = rw (eq-eqb _ 3 (sym c.before.given_number.ensures ∙ c.if1.true))
+returns c = rw (eq-eqb _ 3 (sym c.given_number.ensures ∙ c.if-given_number-eq3.true))
 
-returns_2 : tie.Need-returns-2
+returns_2 : tie.Need-returns
 unfolding leaves_out
 returns_2 c =
-    rw (ne_eqb _ 3 (λ e. c.before.if1.false (c.before.before.given_number.ensures ∙ e))) c.cut_off.ensures
+    rw (ne_eqb _ 3 (λ e. c.if-given_number-eq3.false (c.given_number.ensures ∙ e))) c.cut_off.ensures
 
-pub leaves-out-spec : {M : Type 1} → statement M
-leaves-out-spec = tie.close (tie.spec (λ c κs. search rules) returns (λ c κs. search rules) returns_2)
+pub leaves_out_spec : {M : Type 1} → statement M
+leaves_out_spec = tie.close (tie.spec (λ c κs. search rules) returns (λ c κs. search rules) returns_2)

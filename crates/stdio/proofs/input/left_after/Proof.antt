@@ -6,13 +6,13 @@ use borrow.Author.Rules.{rules}
 use Rattle.stdio.proofs.input.left_after.Statement.{statement}
 use Rattle.stdio.proofs.input.left_after.Tie as tie
 
-returns : tie.Need-returns
+returns : tie.Need-returns-then-given_number-lt2
 unfolding left_of
-returns c = let n = c.before.given_number in rw (lt-ltb (given_number c.before.before.args.given) 2 (omega (arith, n.ensures, c.if1.true)))
+returns c = let n = c.given_number in rw (lt-ltb (given_number c.args.given) 2 (omega (arith, n.ensures, c.if-given_number-lt2.true)))
 
-returns_2 : tie.Need-returns-2
+returns_2 : tie.Need-returns
 unfolding left_of
-returns_2 c = let n = c.before.given_number in rw (le-ltb (given_number c.before.before.args.given) 2 (omega (arith, n.ensures, c.if1.false)))
+returns_2 c = let n = c.given_number in rw (le-ltb (given_number c.args.given) 2 (omega (arith, n.ensures, c.if-given_number-lt2.false)))
 
-pub left-after-spec : {M : Type 1} → statement M
-left-after-spec = tie.close (tie.spec (λ c κs. search rules) returns returns_2)
+pub left_after_spec : {M : Type 1} → statement M
+left_after_spec = tie.close (tie.spec (λ c κs. search rules) returns returns_2)

@@ -6,17 +6,17 @@ use borrow.Author.Rules.{rules}
 use Rattle.stdio.proofs.input.line_number.Statement.{statement}
 use Rattle.stdio.proofs.input.line_number.Tie as tie
 
-returns : tie.Need-returns
+returns : tie.Need-returns-then-n-lt18446744073709551615
 unfolding line_number
-returns c = rw (sym c.before.before.has-line.ensures ∙ c.before.if1.true, lt-ltb _ _ c.if2.true)
+returns c = rw (sym c.has_line.ensures ∙ c.if-has_line.true, lt-ltb _ _ c.if-n-lt18446744073709551615.true)
 
-returns_2 : tie.Need-returns-2
+returns_2 : tie.Need-returns-else-n-lt18446744073709551615
 unfolding line_number
-returns_2 c = rw (sym c.before.before.has-line.ensures ∙ c.before.if1.true, le-ltb _ _ c.if2.false)
+returns_2 c = rw (sym c.has_line.ensures ∙ c.if-has_line.true, le-ltb _ _ c.if-n-lt18446744073709551615.false)
 
-returns_3 : tie.Need-returns-3
+returns_3 : tie.Need-returns-else-has_line
 unfolding line_number
-returns_3 c = rw (sym c.before.has-line.ensures ∙ c.if1.false)
+returns_3 c = rw (sym c.has_line.ensures ∙ c.if-has_line.false)
 
-pub line-number-spec : {M : Type 1} → statement M
-line-number-spec = tie.close (tie.spec (λ c κs. search rules) (λ c. search rules) returns returns_2 returns_3)
+pub line_number_spec : {M : Type 1} → statement M
+line_number_spec = tie.close (tie.spec (λ c κs. search rules) (λ c. search rules) returns returns_2 returns_3)

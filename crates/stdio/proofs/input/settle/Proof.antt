@@ -4,13 +4,13 @@ use borrow.Author.Rules.{rules}
 use Rattle.stdio.proofs.input.settle.Statement.{statement}
 use Rattle.stdio.proofs.input.settle.Tie as tie
 
-returns : tie.Need-returns
+returns : tie.Need-returns-then-settled
 unfolding settled_if
-returns c = rw c.before.if1.true c.over.ensures
+returns c = rw c.if-settled.true c.over.ensures
 
-returns_2 : tie.Need-returns-2
+returns_2 : tie.Need-returns
 unfolding settled_if
-returns_2 c = rw c.if1.false
+returns_2 c = rw c.if-settled.false
 
-pub settle-spec : {M : Type 1} → statement M
-settle-spec = tie.close (tie.spec (λ c κs. search rules) returns returns_2)
+pub settle_spec : {M : Type 1} → statement M
+settle_spec = tie.close (tie.spec (λ c κs. search rules) returns returns_2)

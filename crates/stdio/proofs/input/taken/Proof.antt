@@ -8,13 +8,13 @@ returns : tie.Need-returns
 returns c =
     let start = c.before.before.before.before.before.before.before in
     let a = start.args in
-    let f = c.before.before.before.before.fill in
-    let g = c.before.before.given_by in
-    taken_as a.h a.at a.end a.number a.n c.left_After.result a.reads a.room.now f.result start.requires.0 start.requires.1
-    f.ensures g.result g.ensures c.left_After.ensures
+    let f = c.fill-f in
+    let g = c.given_by-what in
+    taken_as a.h a.at a.end a.number a.n c.left_after.result a.reads a.room.now f.result start.requires.0 start.requires.1
+    f.ensures g.result g.ensures c.left_after.ensures
 
-pub taken-spec : {M : Type 1} → statement M
-taken-spec =
+pub taken_spec : {M : Type 1} → statement M
+taken_spec =
     tie.close
     (tie.spec
     (λ c. search rules)

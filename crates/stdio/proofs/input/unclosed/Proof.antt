@@ -4,11 +4,11 @@ use borrow.Author.Rules.{rules}
 use Rattle.stdio.proofs.input.unclosed.Statement.{statement}
 use Rattle.stdio.proofs.input.unclosed.Tie as tie
 
-returns : tie.Need-returns
-returns c = rw (sym c.before.before.has_ended.ensures ∙ c.before.if1.true)
+returns : tie.Need-returns-then-has_ended
+returns c = rw (sym c.has_ended.ensures ∙ c.if-has_ended.true)
 
-returns_2 : tie.Need-returns-2
-returns_2 c = rw (sym c.before.has_ended.ensures ∙ c.if1.false)
+returns_2 : tie.Need-returns
+returns_2 c = rw (sym c.has_ended.ensures ∙ c.if-has_ended.false)
 
-pub unclosed-spec : {M : Type 1} → statement M
-unclosed-spec = tie.close (tie.spec (λ c κs. search rules) returns returns_2)
+pub unclosed_spec : {M : Type 1} → statement M
+unclosed_spec = tie.close (tie.spec (λ c κs. search rules) returns returns_2)

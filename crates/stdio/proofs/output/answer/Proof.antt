@@ -6,22 +6,22 @@ use borrow.Author.Rules.{rules}
 use Rattle.stdio.proofs.output.answer.Statement.{statement}
 use Rattle.stdio.proofs.output.answer.Tie as tie
 
-returns : tie.Need-returns
+returns : tie.Need-returns-then-has_failed
 unfolding outcome_of
-returns c = record { written = true; outcome = rw (sym c.before.before.has-failed.ensures ∙ c.before.if1.true) }
+returns c = record { written = true; outcome = rw (sym c.has_failed.ensures ∙ c.if-has_failed.true) }
 
-returns_2 : tie.Need-returns-2
+returns_2 : tie.Need-returns-then-not-write_all
 unfolding outcome_of
-returns_2 c = record { written = false; outcome = rw (sym c.before.before.before.before.has-failed.ensures ∙ c.before.before.before.if1.false) }
+returns_2 c = record { written = false; outcome = rw (sym c.has_failed.ensures ∙ c.if-has_failed.false) }
 
-returns_3 : tie.Need-returns-3
+returns_3 : tie.Need-returns
 unfolding outcome_of
 returns_3 c =
     let at-if1 = c.before.before.before.before in
-    record { written = true; outcome = rw (sym at-if1.before.has-failed.ensures ∙ at-if1.if1.false) c.before.text_says.ensures }
+    record { written = true; outcome = rw (sym at-if1.has_failed.ensures ∙ at-if1.if-has_failed.false) c.text_says-o.ensures }
 
-pub answer-spec : {M : Type 1} → statement M
-answer-spec =
+pub answer_spec : {M : Type 1} → statement M
+answer_spec =
     tie.close
     (tie.spec
     (λ c κs. search rules)

@@ -6,32 +6,32 @@ use borrow.Author.Rules.{rules}
 use Rattle.stdio.proofs.output.left_out.Statement.{statement}
 use Rattle.stdio.proofs.output.left_out.Tie as tie
 
-returns : tie.Need-returns
+returns : tie.Need-returns-then-not-leaves_out
 unfolding outcome_with
-returns c = rw (sym c.before.leaves_out.ensures ∙ not-true _ c.if1.true)
+returns c = rw (sym c.leaves_out.ensures ∙ not-true _ c.if-not-leaves_out.true-raw)
 
-returns_2 : tie.Need-returns-2
+returns_2 : tie.Need-returns-in-Yes
 unfolding refused_unless_failed outcome_with
 returns_2 c =
-    let at-else = c.before.before.before in
-    rw (sym at-else.before.leaves_out.ensures ∙ not-false _ at-else.if1.false, c.before.enum_told.given.1)
+    let at-else = c.before.before in
+    rw (sym at-else.leaves_out.ensures ∙ not-false _ at-else.if-not-leaves_out.false-raw, c.in-Yes.is)
 
-returns_3 : tie.Need-returns-3
+returns_3 : tie.Need-returns-in-No
 unfolding refused_unless_failed outcome_with
 returns_3 c =
-    let at-else = c.before.before.before in
-    rw (sym at-else.before.leaves_out.ensures ∙ not-false _ at-else.if1.false, c.before.enum-told2.given.1)
+    let at-else = c.before.before in
+    rw (sym at-else.leaves_out.ensures ∙ not-false _ at-else.if-not-leaves_out.false-raw, c.in-No.is)
 
-returns_4 : tie.Need-returns-4
+returns_4 : tie.Need-returns-in-Refused
 unfolding refused_unless_failed outcome_with
-returns_4 c = let at-else = c.before.before in rw (sym at-else.before.leaves_out.ensures ∙ not-false _ at-else.if1.false, c.enum-told3.given.1)
+returns_4 c = let at-else = c.before in rw (sym at-else.leaves_out.ensures ∙ not-false _ at-else.if-not-leaves_out.false-raw, c.in-Refused.is)
 
-returns-5 : tie.Need-returns-5
+returns-5 : tie.Need-returns-in-Failed
 unfolding refused_unless_failed outcome_with
-returns-5 c = let at-else = c.before.before in rw (sym at-else.before.leaves_out.ensures ∙ not-false _ at-else.if1.false, c.enum-told4.given.1)
+returns-5 c = let at-else = c.before in rw (sym at-else.leaves_out.ensures ∙ not-false _ at-else.if-not-leaves_out.false-raw, c.in-Failed.is)
 
-pub left-out-spec : {M : Type 1} → statement M
-left-out-spec =
+pub left_out_spec : {M : Type 1} → statement M
+left_out_spec =
     tie.close
     (tie.spec (λ c κs. search rules) returns (λ c. search rules) (λ c κs. search rules) (λ c. search rules) (λ c κs. search rules) (λ c. search rules)
     (λ c. search rules) returns_2 returns_3 returns_4 returns-5)

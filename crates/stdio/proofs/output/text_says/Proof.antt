@@ -9,10 +9,10 @@ use Rattle.stdio.proofs.output.text_says.Tie as tie
 
 returns : tie.Need-returns
 returns c =
-    let text = c.before.before.before.before.args.text.now in
-    c.line_says.ensures ∙ ap (λ (a : ℕ). said (take (length text - a) (drop a text))) c.before.before.last_line.ensures.0
+    let text = c.args.text.now in
+    c.line_says.ensures ∙ ap (λ (a : ℕ). said (take (length text - a) (drop a text))) c.last_line-a.ensures.0
 
-pub text-says-spec : {M : Type 1} → statement M
-text-says-spec =
+pub text_says_spec : {M : Type 1} → statement M
+text_says_spec =
     tie.close
     (tie.spec (λ c κs. search rules) (λ c. search rules) (λ c. search rules) (λ c. search rules) (λ c κs. search rules) returns)

@@ -7,11 +7,11 @@ use borrow.Author.Rules.{rules}
 use Rattle.stdio.proofs.words.byte.Statement.{statement}
 use Rattle.stdio.proofs.words.byte.Tie as tie
 
-returns_2 : tie.Need-returns-2
+returns_2 : tie.Need-returns
 returns_2 c =
-    let line = c.before.args.line.now in
-    let none : length line ≤ c.before.args.at = omega arith in
+    let line = c.args.line.now in
+    let none : length line ≤ c.args.at = omega arith in
     sym (get_or-eq_default line 0 none)
 
-pub byte-spec : {M : Type 1} → statement M
-byte-spec = tie.close (tie.spec (λ c. search rules) (λ c. search rules) returns_2)
+pub byte_spec : {M : Type 1} → statement M
+byte_spec = tie.close (tie.spec (λ c. search rules) (λ c. search rules) returns_2)

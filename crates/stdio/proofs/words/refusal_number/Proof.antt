@@ -8,21 +8,21 @@ use borrow.Author.Rules.{rules}
 use Rattle.stdio.proofs.words.refusal_number.Statement.{statement}
 use Rattle.stdio.proofs.words.refusal_number.Tie as tie
 
-returns : tie.Need-returns
+returns : tie.Need-returns-then-byte-lt48
 returns c =
-    let line = c.before.before.before.before.args.line.now in
-    let l : get_or line 8 0 < 48 = omega (arith, c.before.byte.ensures) in
-    c.before.before.digit.ensures.0 ∙ sym (one_digit line l)
+    let line = c.args.line.now in
+    let l : get_or line 8 0 < 48 = omega (arith, c.byte.ensures) in
+    c.digit-first.ensures.0 ∙ sym (one_digit line l)
 
-returns_2 : tie.Need-returns-2
+returns_2 : tie.Need-returns
 returns_2 c =
     let at_byte = c.before.before in
-    let line = at_byte.before.before.before.args.line.now in
-    let l : 48 ≤ get_or line 8 0 = omega (arith, at_byte.byte.ensures, c.before.if1.false) in
-    rw (two_digits line l, sym at_byte.before.digit.ensures.0, sym c.digit2.ensures.0)
+    let line = at_byte.args.line.now in
+    let l : 48 ≤ get_or line 8 0 = omega (arith, at_byte.byte.ensures, c.if-byte-lt48.false) in
+    rw (two_digits line l, sym at_byte.digit-first.ensures.0, sym c.digit.ensures.0)
 
-pub refusal-number-spec : {M : Type 1} → statement M
-refusal-number-spec =
+pub refusal_number_spec : {M : Type 1} → statement M
+refusal_number_spec =
     tie.close
     (tie.spec
     (λ c κs. search rules)

@@ -11,10 +11,10 @@ returns c =
     let at-stands-second = at-all-bytes.before.before.before in
     let at-stands-first = at-stands-second.before in
     let at_mark = at-stands-first.before in
-    rw (← at_mark.mark.ensures, ← at-stands-first.stands_first.ensures, ← at-stands-second.stands_second.ensures) at-all-bytes.all-bytes.ensures
+    rw (← at_mark.mark-a.ensures, ← at-stands-first.stands_first-b.ensures, ← at-stands-second.stands_second-d.ensures) at-all-bytes.all_bytes.ensures
 
-pub column-spec : {M : Type 1} → statement M
-column-spec =
+pub column_spec : {M : Type 1} → statement M
+column_spec =
     tie.close
     (tie.spec
     (λ c κs. search rules)

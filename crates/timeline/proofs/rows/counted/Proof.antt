@@ -4,21 +4,21 @@ use borrow.Author.Rules.{rules}
 use Rattle.timeline.proofs.rows.counted.Statement.{statement}
 use Rattle.timeline.proofs.rows.counted.Tie as tie
 
-returns : tie.Need-returns
+returns : tie.Need-returns-in-Start
 unfolding counted
 returns c =
     let at-enum-told = c.before in
-    rw at-enum-told.enum_told.given.1 c.one_more.ensures
+    rw at-enum-told.in-Start.is c.one_more.ensures
 
-returns_2 : tie.Need-returns-2
+returns_2 : tie.Need-returns-in-Step
 unfolding counted
 returns_2 c =
     let at-enum-told2 = c.before in
-    rw at-enum-told2.enum-told2.given.1 c.one-more2.ensures
+    rw at-enum-told2.in-Step.is c.one_more-in-Step.ensures
 
-returns_3 : tie.Need-returns-3
+returns_3 : tie.Need-returns-in-Outside
 unfolding counted
-returns_3 c = rw c.enum-told3.given.1
+returns_3 c = rw c.in-Outside.is
 
 pub counted_spec : {M : Type 1} → statement M
 counted_spec =

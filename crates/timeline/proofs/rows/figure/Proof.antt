@@ -5,13 +5,13 @@ use borrow.Author.Rules.{rules}
 use Rattle.timeline.proofs.rows.figure.Statement.{statement}
 use Rattle.timeline.proofs.rows.figure.Tie as tie
 
-returns : tie.Need-returns
+returns : tie.Need-returns-then-n-eq0
 unfolding figure
-returns c = rw (eq-eqb _ _ c.if1.true)
+returns c = rw (eq-eqb _ _ c.if-n-eq0.true)
 
-returns_2 : tie.Need-returns-2
+returns_2 : tie.Need-returns
 unfolding figure
-returns_2 c = rw (ne_eqb _ _ c.if1.false)
+returns_2 c = rw (ne_eqb _ _ c.if-n-eq0.false)
 
-pub figure-spec : {M : Type 1} → statement M
-figure-spec = tie.close (tie.spec returns (λ c. search rules) (λ c. search rules) returns_2)
+pub figure_spec : {M : Type 1} → statement M
+figure_spec = tie.close (tie.spec returns (λ c. search rules) (λ c. search rules) returns_2)

@@ -10,20 +10,18 @@ returns : tie.Need-returns
 unfolding heading
 returns c =
     let at-all-bytes2 = c.before.before in
-    let at-task-names = at-all-bytes2.before.before.before.before.before in
+    let at-task-names = at-all-bytes2.before.before.before.before.before.before in
     let at-all-bytes = at-task-names.before.before.before.before in
     let entry = at-all-bytes.before.before.before.before in
     append_3 event_word (task_names (min entry.args.tasks 8) 0) answer_word _ _ _ _
-    at-all-bytes.all-bytes.ensures at-task-names.task_names.ensures at-all-bytes2.all-bytes2.ensures
+    at-all-bytes.all_bytes-a.ensures at-task-names.task_names-b.ensures at-all-bytes2.all_bytes.ensures
 
-pub heading-spec : {M : Type 1} → statement M
-heading-spec =
+pub heading_spec : {M : Type 1} → statement M
+heading_spec =
     tie.close
     (tie.spec
-    (λ c. search rules)
     (λ c κs. search rules)
     (λ c κs. search rules)
-    (λ c. search rules)
     (λ c κs. search rules)
     (λ c. search rules)
     returns)

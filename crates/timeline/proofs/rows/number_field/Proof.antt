@@ -15,16 +15,16 @@ returns c =
     let at-figure2 = at-figure3.before in
     let at-figure = at-figure2.before in
     rw (
-      ← at-figure.figure.ensures,
-      ← at-figure2.figure2.ensures,
-      ← at-figure3.figure3.ensures,
-      ← at-figure4.figure4.ensures,
-      ← at-figure5.figure5.ensures,
-      ← at-figure6.figure6.ensures,
-    ) at-all-bytes.all-bytes.ensures
+      ← at-figure.figure-a.ensures,
+      ← at-figure2.figure-b.ensures,
+      ← at-figure3.figure-c.ensures,
+      ← at-figure4.figure-d.ensures,
+      ← at-figure5.figure-e.ensures,
+      ← at-figure6.figure-f.ensures,
+    ) at-all-bytes.all_bytes.ensures
 
-pub number-field-spec : {M : Type 1} → statement M
-number-field-spec =
+pub number_field_spec : {M : Type 1} → statement M
+number_field_spec =
     tie.close
     (tie.spec
     (λ c κs. search rules)

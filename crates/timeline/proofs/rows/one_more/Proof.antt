@@ -5,13 +5,13 @@ use borrow.Author.Rules.{rules}
 use Rattle.timeline.proofs.rows.one_more.Statement.{statement}
 use Rattle.timeline.proofs.rows.one_more.Tie as tie
 
-returns : tie.Need-returns
+returns : tie.Need-returns-then-n-lt4294967295
 unfolding one_more
-returns c = rw (lt-ltb _ _ c.if1.true)
+returns c = rw (lt-ltb _ _ c.if-n-lt4294967295.true)
 
-returns_2 : tie.Need-returns-2
+returns_2 : tie.Need-returns
 unfolding one_more
-returns_2 c = rw (le-ltb _ _ c.if1.false)
+returns_2 c = rw (le-ltb _ _ c.if-n-lt4294967295.false)
 
-pub one-more-spec : {M : Type 1} → statement M
-one-more-spec = tie.close (tie.spec (λ c. search rules) returns returns_2)
+pub one_more_spec : {M : Type 1} → statement M
+one_more_spec = tie.close (tie.spec (λ c. search rules) returns returns_2)

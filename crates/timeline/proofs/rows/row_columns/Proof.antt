@@ -14,8 +14,8 @@ returns c =
     let entry = at-number-field.before.before.before in
     let a = entry.args in
     append_2 (number_field a.n) (task_columns (min a.tasks 8) 0 a.k a.s.task) _ _ _
-    at-number-field.number_field.ensures at-task-columns.task_columns.ensures
+    at-number-field.number_field-to.ensures at-task-columns.task_columns.ensures
 
-pub row-columns-spec : {M : Type 1} → statement M
-row-columns-spec =
+pub row_columns_spec : {M : Type 1} → statement M
+row_columns_spec =
     tie.close (tie.spec (λ c κs. search rules) (λ c κs. search rules) (λ c. search rules) returns)

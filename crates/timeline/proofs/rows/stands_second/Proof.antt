@@ -4,15 +4,15 @@ use borrow.Author.Rules.{rules}
 use Rattle.timeline.proofs.rows.stands_second.Statement.{statement}
 use Rattle.timeline.proofs.rows.stands_second.Tie as tie
 
-returns : tie.Need-returns
+returns : tie.Need-returns-then-c
 unfolding stands_second
 returns c =
     let at-if1 = c.before in
-    rw at-if1.if1.true c.figure.ensures
+    rw at-if1.if-c.true c.figure.ensures
 
-returns_2 : tie.Need-returns-2
+returns_2 : tie.Need-returns
 unfolding stands_second
-returns_2 c = rw c.if1.false
+returns_2 c = rw c.if-c.false
 
-pub stands-second-spec : {M : Type 1} → statement M
-stands-second-spec = tie.close (tie.spec (λ c κs. search rules) returns returns_2)
+pub stands_second_spec : {M : Type 1} → statement M
+stands_second_spec = tie.close (tie.spec (λ c κs. search rules) returns returns_2)

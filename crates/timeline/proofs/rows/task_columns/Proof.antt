@@ -13,30 +13,30 @@ use borrow.Author.Rules.{rules}
 use Rattle.timeline.proofs.rows.task_columns.Statement.{statement}
 use Rattle.timeline.proofs.rows.task_columns.Tie as tie
 
-abbrev invariant-loop : tie.invariant-loop
+abbrev invariant-loop : tie.invariant-loop-j
 invariant-loop buf₀ at tasks k s most to₀ j₀ buf to j =
     (append (task_columns (most - j) j k s.task) (buffer buf to)
     ≡ append (task_columns (min tasks 8) 0 k s.task) (buffer buf₀ at)) × (length buf ≡ length buf₀)
 
-abbrev decreases-loop : tie.decreases-loop
+abbrev decreases-loop : tie.decreases-loop-j
 decreases-loop buf₀ at tasks k s most to₀ j₀ buf to j = most - j
 
-eight : (c : tie.Start invariant-loop decreases-loop) → length c.args.t5.task ≡ 8
+eight : (c : tie.Start invariant-loop decreases-loop) → length c.args.s.task ≡ 8
 eight c = search (rules, length_mapped)
 
-loop_holds : tie.Need-loop-init invariant-loop decreases-loop
+loop_holds : tie.Need-loop-j-init invariant-loop decreases-loop
 loop_holds c =
     let entry = c.before.before in
     let a = entry.args in
-    (columns_from a.tasks a.k a.t5.task _ _ c.shown.ensures, refl)
+    (columns_from a.tasks a.k a.s.task _ _ c.shown-most.ensures, refl)
 
-element-copy-out-c : tie.Need-element-copy-out-c invariant-loop decreases-loop
+element-copy-out-c : tie.Need-bounds-s-j invariant-loop decreases-loop
 element-copy-out-c c =
     let at-shown = c.before.before in
     let entry = at-shown.before.before in
-    omega (arith, c.loop-test.true, at-shown.shown.ensures, eight entry)
+    omega (arith, c.loop-j-test.true, at-shown.shown-most.ensures, eight entry)
 
-loop_again : tie.Need-loop-preserved invariant-loop decreases-loop
+loop_again : tie.Need-loop-j-preserved invariant-loop decreases-loop
 unfolding idle
 loop_again c =
     let at-column = c.before.before in
@@ -44,29 +44,29 @@ loop_again c =
     let at-loop = at-loop-test.before in
     let at-shown = at-loop.before in
     let entry = at-shown.before.before in
-    let l = at-loop.loop in
+    let l = at-loop.loop-j in
     let a = entry.args in
-    let most = at-shown.shown.result in
-    let on = sym (columns_on most l.j a.k a.t5.task _ at-loop-test.loop-test.true) in
-    let r = at-column.column in
-    (ap (append (task_columns (most - (l.j + 1)) (l.j + 1) a.k a.t5.task)) r.ensures ∙ on ∙ l.invariant.0, r.auto.0 ∙ l.invariant.1)
+    let most = at-shown.shown-most.result in
+    let on = sym (columns_on most l.j a.k a.s.task _ at-loop-test.loop-j-test.true) in
+    let r = at-column.column-to in
+    (ap (append (task_columns (most - (l.j + 1)) (l.j + 1) a.k a.s.task)) r.ensures ∙ on ∙ l.invariant.0, r.auto.buf ∙ l.invariant.1)
 
-same_length : tie.Need-same-length invariant-loop decreases-loop
+same_length : tie.Need-shape_of-buf invariant-loop decreases-loop
 same_length c =
     let at-loop = c.before in
-    at-loop.loop.invariant.1
+    at-loop.loop-j.invariant.1
 
 returns : tie.Need-returns invariant-loop decreases-loop
 returns c =
     let at-loop = c.before in
     let at-shown = at-loop.before in
     let entry = at-shown.before.before in
-    let l = at-loop.loop in
+    let l = at-loop.loop-j in
     let a = entry.args in
-    sym (columns_end at-shown.shown.result l.j a.k a.t5.task _ c.loop-test.false) ∙ l.invariant.0
+    sym (columns_end at-shown.shown-most.result l.j a.k a.s.task _ c.loop-j-test.false) ∙ l.invariant.0
 
-pub task-columns-spec : {M : Type 1} → statement M
-task-columns-spec =
+pub task_columns_spec : {M : Type 1} → statement M
+task_columns_spec =
     tie.close
     (tie.spec
     invariant-loop

@@ -6,10 +6,10 @@ use Rattle.timeline.proofs.rows.task_name.Tie as tie
 
 returns : tie.Need-returns
 unfolding task_name
-returns c = c.before.before.all-bytes.ensures
+returns c = c.all_bytes.ensures
 
-pub task-name-spec : {M : Type 1} → statement M
-task-name-spec =
+pub task_name_spec : {M : Type 1} → statement M
+task_name_spec =
     tie.close
     (tie.spec
     (λ c. search rules)

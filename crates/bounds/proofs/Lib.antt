@@ -1,0 +1,5 @@
+pub mod FewNodesHeld
+pub mod FewBucketsHeld
+pub mod RecordsSuffice
+pub mod Theorems
+pub mod EnoughExamples

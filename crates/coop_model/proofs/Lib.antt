@@ -1,0 +1,4 @@
+pub mod CallEnds
+pub mod Invariant
+pub mod Linearization
+pub mod TakesEffect

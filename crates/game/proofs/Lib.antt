@@ -1,0 +1,4 @@
+pub mod FirstMove
+pub mod Forcing
+pub mod MoreTurns
+pub mod Theorems

@@ -1,0 +1,4 @@
+pub mod EntriesKeep
+pub mod Held
+pub mod LinesKeep
+pub mod Taking

@@ -1,0 +1,9 @@
+pub mod Accepted
+pub mod EventOutcomes
+pub mod Events
+pub mod ResizeLines
+pub mod Schedules
+pub mod StepSimulated
+pub mod Taken
+pub mod Theorems
+pub mod UpdateLines

@@ -1,0 +1,8 @@
+-- `notes_text::program::yardnotes` meets its contract. Assumes nothing.
+use Rattle.stdio.specs.Runs.{exits_kept}
+use Rattle.notes_text.proofs.program.yardnotes.Goals as goal
+
+pub returns : goal.returns
+returns g c =
+    let t = c.text-t in
+    record { room = _; input = t.result.input; text = _; prints = t.ensures.prints; exits = exits_kept _ _ _ c.exit.ensures }

@@ -1,0 +1,5 @@
+pub mod CountFits
+pub mod CountsKept
+pub mod NoNewStarts
+pub mod TurnsLeft
+pub mod Theorems

@@ -1,0 +1,2 @@
+pub mod RecordingRead
+pub mod Theorems
