@@ -30,8 +30,8 @@
  *   one of another length, and answered so; coop_schedule_run takes no events, no outputs). The caller may copy or store the words between calls and go on
  *   with the copy, but what it changes is spoilt memory: it is either refused with 8 or taken for what it then is.
  *   One call at a time: calls for the same words from an interrupt or another thread must wait for each other.
- *   Stack, measured on x86-64 over 300,000 calls (examples/c/coop_stack.c): coop_step 21,224 bytes, coop_schedule_run 21,016,
- *   coop_start_.. 7,080, coop_open 5,384, coop_show 3,800.
+ *   Stack, measured on x86-64 over 300,000 calls (examples/c/coop_stack.c): coop_schedule_run 20,936 bytes, coop_step 16,600,
+ *   coop_start_.. 6,056, coop_open 5,384, coop_show 3,800.
  *
  * WHAT A FUNCTION GIVES
  *   A number below COOP_REFUSED, or COOP_REFUSED and a refusal's number:

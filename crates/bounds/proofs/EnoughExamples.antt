@@ -1,9 +1,10 @@
 -- Examples for request U11's first promise: refusal 7 wherever it stands among the outputs; and schedules with fewer records that meet it.
 -- Assumes nothing.
-use Rattle.std.specs.Prelude.{refl, [], ◌∷◌, ◌++◌, replicate}
+use Rattle.std.specs.Prelude.{refl, [], ◌∷◌, ◌++◌, replicate, Ok, Err}
 use Rattle.std.proofs.Common.{arith}
+use Rattle.spec.specs.declared.Refusal.TheVariants.{Idle, NoRecord}
 use Rattle.spec.specs.declared.Call.TheVariants.{Insert, Grow}
-use Rattle.spec.specs.declared.Output.TheVariants.{At, Refuse}
+use Rattle.spec.specs.declared.Progress.TheVariants.{At}
 use Rattle.spec.specs.Machine.{config_of}
 use Rattle.spec.specs.Schedule.{schedule}
 use Rattle.spec.specs.Rows.{stepping, calling}
@@ -12,8 +13,8 @@ use Rattle.bounds.specs.EnoughRecords.{Enough, NoSeven}
 
 -- the first, the second and last, one in the middle, the last of four
 pub a_seven :
-    (¬ NoSeven (Refuse 7 ∷ At 33 ∷ [])) × (¬ NoSeven (At 32 ∷ Refuse 7 ∷ [])) × (¬ NoSeven (At 32 ∷ At 33 ∷ Refuse 7 ∷ At 36 ∷ []))
-    × (¬ NoSeven (At 32 ∷ At 33 ∷ Refuse 6 ∷ Refuse 7 ∷ []))
+    (¬ NoSeven (Err NoRecord ∷ Ok (At 33) ∷ [])) × (¬ NoSeven (Ok (At 32) ∷ Err NoRecord ∷ [])) × (¬ NoSeven (Ok (At 32) ∷ Ok (At 33) ∷ Err NoRecord ∷ Ok (At 36) ∷ []))
+    × (¬ NoSeven (Ok (At 32) ∷ Ok (At 33) ∷ Err Idle ∷ Err NoRecord ∷ []))
 a_seven = (λ n. n.0 refl, λ n. n.1.0 refl, λ n. n.1.1.0 refl, λ n. n.1.1.1.0 refl)
 
 -- one node for one task, with as many buckets as are enough: a grow meets 7 at line 27

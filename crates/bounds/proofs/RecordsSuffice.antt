@@ -1,11 +1,12 @@
 -- A machine with short chains of predecessors and enough records has one free wherever line 27 or 49 wants one, and so has what an event
 -- leaves: T, H and B stay. So no schedule meets refusal 7. By induction over the events. Assumes nothing.
-use Rattle.std.specs.Prelude.{◌≡◌, true, List, [], ◌∷◌, ℕ, ◌/◌, ◌≤◌, length}
+use Rattle.std.specs.Prelude.{◌≡◌, true, List, [], ◌∷◌, ℕ, ◌/◌, ◌≤◌, length, Err}
 use Rattle.std.proofs.Common.{ap, le-div_iff_mul-le, arith}
+use Rattle.spec.specs.declared.Refusal.TheVariants.{NoRecord}
 use Rattle.spec.specs.declared.Config.{Config}
 use Rattle.spec.specs.declared.Task.{Task}
-use Rattle.spec.specs.declared.Output.{Output}
-use Rattle.spec.specs.declared.Output.TheVariants as Outs
+use Rattle.spec.specs.Outputs.{Output}
+use Rattle.spec.specs.declared.Progress.TheVariants as Outs
 use Rattle.spec.specs.Machine.{Machine, idle, state_of, task_of}
 use Rattle.spec.specs.Words.{pred}
 use Rattle.spec.specs.Listed.{key}
@@ -31,7 +32,7 @@ module _ (y : Machine) (s : EnoughNow y) where
   pub record_free : (p : ℕ) → (task_of y p).running ≡ true → all_held y (task_of y p) ≡ true → ⊥
   record_free = never_all_held y s.chains s.configuration s.reach s.sim s.nodes s.buckets
 
-  not_7 : {e : Event} {o : Output} {v : Configuration} → EventOutcome y s.configuration e o v → ¬ (o ≡ Outs.Refuse 7)
+  not_7 : {e : Event} {o : Output} {v : Configuration} → EventOutcome y s.configuration e o v → ¬ (o ≡ Err NoRecord)
   not_7 (start_refused p call tag r other) q = other.0 (cc)
   not_7 (call_started p call tag n lt a) q = let z : ◌≡◌ {A = ℕ} 0 1 = cc in omega arith
   not_7 (step_refused p r a other) q = other.0 (cc)
@@ -61,7 +62,7 @@ module _ (y : Machine) (s : EnoughNow y) where
   pub enough_next : (e : Event) → EnoughNow (event y e).machine
   enough_next e = let t = event_simulated y s.configuration s.reach s.sim e in enough_after e t.configuration t.reach t.sim
 
-  pub event_not_7 : (e : Event) → ¬ ((event y e).out ≡ Outs.Refuse 7)
+  pub event_not_7 : (e : Event) → ¬ ((event y e).out ≡ Err NoRecord)
   event_not_7 e = not_7 (event_simulated y s.configuration s.reach s.sim e).outcome
 
 -- ---- all events

@@ -1,9 +1,13 @@
 -- Examples for request U11's first promise: its numbers, at the bound and one word less, and outputs without refusal 7; those with it, and
 -- schedules with fewer records that meet it, stand in proofs/EnoughExamples. Assumes nothing.
-use Rattle.std.specs.Prelude.{ℕ, ◌≤◌, ◌≡◌, refl, List, [], ◌∷◌, map, length, replicate}
-use Rattle.std.proofs.Common.{arith}
-use Rattle.spec.specs.declared.Output.TheVariants.{At, Refuse}
+use Rattle.std.specs.Prelude.{ℕ, ◌≤◌, ◌≡◌, refl, List, [], ◌∷◌, map, length, replicate, Ok, Err}
+use Rattle.std.proofs.Common.{arith, ap}
+use Rattle.spec.specs.declared.Refusal.{Refusal}
+use Rattle.spec.specs.declared.Refusal.TheVariants.{Idle, NoRecord, Spoilt}
+use Rattle.spec.specs.declared.Progress.TheVariants.{At}
 use Rattle.spec.specs.Machine.{config_of}
+use Rattle.spec.specs.Outputs.{Output}
+use Rattle.spec.specs.Numbers.{refusal_number}
 use Rattle.bounds.specs.EnoughRecords.{enough_nodes, enough_buckets, Enough, NoSeven}
 
 -- ---- the numbers, for 1, 2 and 8 tasks
@@ -25,10 +29,10 @@ too_few = (λ e. (let n = e.nodes in omega arith), λ e. (let b = e.buckets in o
 
 -- ---- "no schedule meets refusal 7"
 
-other_refusal : (r : ℕ) → ¬ (r ≡ 7) → ¬ (Refuse r ≡ Refuse 7)
-other_refusal r f e = f cc
+other_refusal : (r : Refusal) → ¬ (refusal_number r ≡ 7) → ¬ (◌≡◌ {A = Output} (Err r) (Err NoRecord))
+other_refusal r f e = let z : r ≡ NoRecord = cc in f (ap refusal_number z)
 
 -- other refusals are allowed, and 7 as a line
-pub no_seven : NoSeven (At 7 ∷ Refuse 6 ∷ Refuse 8 ∷ [])
+pub no_seven : NoSeven (Ok (At 7) ∷ Err Idle ∷ Err Spoilt ∷ [])
 no_seven =
-    (λ e. (let z : ◌≡◌ {A = ℕ} 0 1 = cc in omega arith), (other_refusal 6 (λ e. omega arith), (other_refusal 8 (λ e. omega arith), tt)))
+    (λ e. (let z : ◌≡◌ {A = ℕ} 0 1 = cc in omega arith), (other_refusal Idle (λ e. omega arith), (other_refusal Spoilt (λ e. omega arith), tt)))

@@ -1,9 +1,9 @@
 -- Paper 02, U11, its first promise, as a type: "For T tasks, 2T + 2 nodes and 32 × (2T + 2) + 4T buckets always suffice: opened with at
 -- least these, no schedule meets refusal 7." Proved in proofs/Theorems; Examples has schedules that do meet it. Assumes nothing.
-use Rattle.std.specs.Prelude.{ℕ, ◌+◌, ◌*◌, ◌≤◌, ◌≡◌, List, [], ◌∷◌, length}
+use Rattle.std.specs.Prelude.{ℕ, ◌+◌, ◌*◌, ◌≤◌, ◌≡◌, List, [], ◌∷◌, length, Err}
+use Rattle.spec.specs.declared.Refusal.TheVariants.{NoRecord}
 use Rattle.spec.specs.declared.Config.{Config}
-use Rattle.spec.specs.declared.Output.{Output}
-use Rattle.spec.specs.declared.Output.TheVariants.{Refuse}
+use Rattle.spec.specs.Outputs.{Output}
 
 -- "For T tasks, 2T + 2 nodes"
 abbrev pub enough_nodes : ℕ → ℕ
@@ -21,4 +21,4 @@ pub record Enough (g : Config) (ns bs : List ℕ) : Type 0 where
 -- "no schedule meets refusal 7": none is among its outputs
 abbrev pub NoSeven : List Output → Type 0
 NoSeven [] = Unit {0}
-NoSeven (o ∷ os) = (¬ (o ≡ Refuse 7)) × NoSeven os
+NoSeven (o ∷ os) = (¬ (o ≡ Err NoRecord)) × NoSeven os

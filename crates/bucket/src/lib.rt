@@ -15,8 +15,6 @@ pub const WORDS: usize = bucket_words::WORDS;
 
 pub const MOST_TAGS: usize = 64;
 
-const MOST_COUNT: u32 = MOST_TAGS as u32;
-
 #[derive(Clone, Copy)]
 pub struct Bucket {
     pub words: [u32; WORDS],
@@ -40,16 +38,20 @@ pub struct Changed {
 }
 
 impl Bucket {
+    // Its tags, where they stand: at most 64.
+    pub fn tags(&self) -> &[u32]
+        ensures tags { result.now ≡ tags_in self.now.words }
+        ensures most { length result.now ≤ 64 }
+    {
+        let n = (self.words[1] as usize).min(MOST_TAGS);
+        &self.words[2..2 + n]
+    }
+
     // How many tags it has, at most 64.
     pub fn count(self) -> usize
         ensures { (result ≡ length (tags_in self.words)) × (result ≤ 64) }
     {
-        let n = self.words[1];
-        if MOST_COUNT < n {
-            MOST_TAGS
-        } else {
-            n as usize
-        }
+        self.tags().len()
     }
 
     // The search, counted in a byte: how many tags at the front are below this one. Paper 02, U4: "it ends at the count of that bucket's
@@ -59,20 +61,14 @@ impl Bucket {
         ensures most { result ≤ 64 }
         ensures below { ascending (tags_in self.words) ≡ true → result ≡ length (filter (λ k. ltb k tag) (tags_in self.words)) }
     {
-        let n = self.count();
-        bucket_search::position(&self.words, n as u8, tag)
+        bucket_search::position(&self.words, self.count() as u8, tag)
     }
 
     // The tag stands at position p.
     fn stands_at(self, p: u8, tag: u32) -> bool
         ensures { result ≡ stands_at p tag (tags_in self.words) }
     {
-        let n = self.count() as u8;
-        if n <= p {
-            return false;
-        }
-        let w = self.words;
-        w[2 + p as usize] == tag
+        (p as usize) < self.count() && self.words[2 + p as usize] == tag
     }
 
     pub fn has(self, tag: u32) -> bool
@@ -85,8 +81,7 @@ impl Bucket {
     pub fn add(self, tag: u32) -> Changed
         ensures { result ≡ added self tag }
     {
-        let flag = self.words[0];
-        if flag == 0 {
+        if self.words[0] == 0 {
             return answered(self, Response::Frozen);
         }
         let p = self.position(tag);
@@ -97,36 +92,29 @@ impl Bucket {
         if MOST_TAGS <= n {
             return answered(self, Response::Full);
         }
-        let b = Bucket {
-            words: bucket_words::put(&self.words, n, p as usize, tag),
-        };
-        answered(b, Response::Yes)
+        let words = bucket_words::put(&self.words, n, p as usize, tag);
+        answered(Bucket { words }, Response::Yes)
     }
 
     pub fn remove(self, tag: u32) -> Changed
         ensures { result ≡ removed self tag }
     {
-        let flag = self.words[0];
-        if flag == 0 {
+        if self.words[0] == 0 {
             return answered(self, Response::Frozen);
         }
         let p = self.position(tag);
         if self.stands_at(p, tag) {
-            let n = self.count();
-            let b = Bucket {
-                words: bucket_words::cut(&self.words, n, p as usize, tag),
-            };
-            return answered(b, Response::Yes);
+            let words = bucket_words::cut(&self.words, self.count(), p as usize, tag);
+            return answered(Bucket { words }, Response::Yes);
         }
         answered(self, Response::No)
     }
 
-    pub fn freeze(self) -> Bucket
+    pub fn freeze(mut self) -> Bucket
         ensures { result ≡ frozen_of self }
     {
-        let mut b = self;
-        b.words[0] = 0;
-        b
+        self.words[0] = 0;
+        self
     }
 }
 
@@ -134,11 +122,10 @@ impl Bucket {
 pub fn answered(b: Bucket, answer: Response) -> Changed
     ensures { result ≡ changed b.words answer }
 {
-    let n = b.count();
     Changed {
         bucket: b,
-        answer: answer,
-        count: n as u32,
+        answer,
+        count: b.count() as u32,
     }
 }
 

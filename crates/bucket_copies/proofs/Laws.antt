@@ -1,5 +1,6 @@
 -- Laws of the tags that a new bucket takes over from one bucket or from two.
 -- Assumes nothing.
+use Rattle.std.specs.Prelude.{Option, Some, None}
 use mathlib.Core.Path.{◌≡◌, sym, ap, ◌∙◌}
 use mathlib.Core.List.{List, [], ◌∷◌, ◌++◌, append-nil}
 use mathlib.Core.Bool.{Bool, true, false}
@@ -11,8 +12,7 @@ use lib.Seq.{drop-cons, append_snoc}
 use Rattle.spec.specs.Lists.{filter, union}
 use Rattle.spec.specs.Words.{bucket_of}
 use Rattle.bucket.specs.declared.Bucket.{Bucket}
-use Rattle.bucket.specs.declared.Response.TheVariants.{Yes, Full}
-use Rattle.bucket.specs.Bucket.{tags_in, changed}
+use Rattle.bucket.specs.Bucket.{tags_in}
 use Rattle.bucket.proofs.Pad.{padded, words_bucket}
 use Rattle.bucket_copies.specs.Copies.{joined}
 
@@ -38,13 +38,17 @@ counted acc out n e l = rw (e, ← l) (words_bucket 1 acc)
 
 -- ---- the union
 
-pub is_full : (a b : Bucket) → 64 < length (union (tags_in a.words) (tags_in b.words)) → changed b.words Full ≡ joined a b
+-- the bucket of these words
+abbrev new : List ℕ → Option Bucket
+new w = Some (record { words = w })
+
+pub is_full : (a b : Bucket) → 64 < length (union (tags_in a.words) (tags_in b.words)) → None ≡ joined a b
 unfolding joined
 is_full a b l = rw (lt-leb _ _ l)
 
 pub is_union : (a b : Bucket) (w acc : List ℕ) → length acc ≤ 64 → acc ≡ union (tags_in a.words) (tags_in b.words) → w ≡ bucket_of 1 acc
-    → changed w Yes ≡ joined a b
+    → new w ≡ joined a b
 unfolding joined
 is_union a b w acc few e words =
     let h : length (union (tags_in a.words) (tags_in b.words)) ≤ 64 = rw e at few in
-    rw (le-leb _ _ h) (ap (λ (v : List ℕ). changed v Yes) (words ∙ ap (λ (t : List ℕ). bucket_of 1 t) e))
+    rw (le-leb _ _ h) (ap new (words ∙ ap (λ (t : List ℕ). bucket_of 1 t) e))

@@ -2,16 +2,15 @@
 use Prim.Native.Nat.{ℕ, zero, suc, ◌+◌, ◌≤◌, ◌<◌}
 use mathlib.Core.Path.{◌≡◌, refl, sym, ap, ◌∙◌}
 use mathlib.Core.List.{List, [], ◌∷◌, ◌++◌, append-nil}
-use mathlib.Core.Bool.{true}
 use native.Mathlib.Omega.{arith}
 use borrow.Author.Tests.{lt-ltb, le-ltb, ne_eqb, ltb-true, ltb-false, eqb-true, eqb-false}
 use lib.Dec.{ltb, eqb}
-use lib.ListN.{length, drop, length-append, length-drop, drop_of_length-le}
-use lib.Seq.{drop-drop, append_snoc}
-use Rattle.spec.specs.Lists.{member, ascending, add_tag, union}
+use lib.ListN.{length, drop, length-append, drop_of_length-le}
+use lib.Seq.{append_snoc}
+use Rattle.spec.specs.Lists.{member, add_tag, union}
 use Rattle.laws.specs.Tests.{choose, or_case}
 use Rattle.laws.specs.Lists.{member_here, member_there}
-use Rattle.laws.specs.Ascending.{Above, Rising, above_nil, above_cons, above_less, ascending_rising, member_union}
+use Rattle.laws.specs.Ascending.{Above, Rising, above_nil, above_cons, above_less, member_union}
 use Rattle.bucket_copies.specs.declared.Taken.{Taken}
 use Rattle.bucket_copies.specs.Walk.{next_of}
 
@@ -62,43 +61,31 @@ walks (x ∷ xs) (y ∷ ys) r s h =
     let l : y < x = omega arith in
     (passes y (x ∷ xs) ys (above_cons y x xs l (above_less y x xs l r.0)), omega arith, omega arith, omega arith)))
 
--- ---- the walk, i tags of the first list and j of the second being passed
+-- ---- the walk, xs and ys being what is left of both lists
 
 -- the tags so far with this one, and how far the walk then is
-abbrev pub Goes : List ℕ → List ℕ → ℕ → ℕ → List ℕ → Taken → Type 0
-Goes xs ys i j acc t =
-    (acc ++ union (drop i xs) (drop j ys) ≡ (acc ++ (t.tag ∷ [])) ++ union (drop (i + t.first) xs) (drop (j + t.second) ys))
-    × (i + t.first ≤ length xs) × (j + t.second ≤ length ys) × (1 ≤ t.first + t.second)
+abbrev pub Goes : List ℕ → List ℕ → List ℕ → Taken → Type 0
+Goes xs ys acc t =
+    (acc ++ union xs ys ≡ (acc ++ (t.tag ∷ [])) ++ union (drop t.first xs) (drop t.second ys))
+    × (t.first ≤ length xs) × (t.second ≤ length ys) × (1 ≤ t.first + t.second)
 
-rising_drop : (i : ℕ) (xs : List ℕ) → Rising xs → Rising (drop i xs)
+pub rising_drop : (i : ℕ) (xs : List ℕ) → Rising xs → Rising (drop i xs)
 rising_drop zero xs r = r
 rising_drop (suc i) [] r = r
 rising_drop (suc i) (x ∷ xs) r = rising_drop i xs r.1
 
-module _ (xs ys : List ℕ) (up : (ascending xs ≡ true) × (ascending ys ≡ true)) (i j : ℕ) (ih : i ≤ length xs) (jh : j ≤ length ys)
-    (more : i + j < length xs + length ys) where
-  next_walks : Walks (drop i xs) (drop j ys) (next_of (drop i xs) (drop j ys))
-  next_walks =
-      let a = length-drop i xs in
-      let b = length-drop j ys in
-      walks (drop i xs) (drop j ys) (rising_drop i xs (ascending_rising xs up.0)) (rising_drop j ys (ascending_rising ys up.1)) (omega arith)
+module _ (xs ys acc : List ℕ) (r : Rising xs) (s : Rising ys) (more : 0 < length xs + length ys) where
+  pub walk : (t : Taken) → t ≡ next_of xs ys → Goes xs ys acc t
+  walk t e =
+      let w : Walks xs ys t = rw e (walks xs ys r s more) in
+      (rw w.0 (sym (append_snoc acc t.tag (union (drop t.first xs) (drop t.second ys)))), w.1, w.2, w.3)
 
-  module _ (acc : List ℕ) where
-    pub walk : (t : Taken) → t ≡ next_of (drop i xs) (drop j ys) → Goes xs ys i j acc t
-    walk t e =
-        let w : Walks (drop i xs) (drop j ys) t = rw e next_walks in
-        let a = length-drop i xs in
-        let b = length-drop j ys in
-        let rest = union (drop (i + t.first) xs) (drop (j + t.second) ys) in
-        (rw (w.0, drop-drop t.first i xs, drop-drop t.second j ys) (sym (append_snoc acc t.tag rest)), omega arith, omega arith, w.3)
+  pub walk_more : length acc < length (acc ++ union xs ys)
+  walk_more =
+      let n = length-append acc (union xs ys) in
+      let one : 0 < length (union xs ys) = rw (walks xs ys r s more).0 (omega arith) in
+      omega arith
 
-    pub walk_more : acc ++ union (drop i xs) (drop j ys) ≡ union xs ys → length acc < length (union xs ys)
-    walk_more e =
-        let n = length-append acc (union (drop i xs) (drop j ys)) in
-        let one : 0 < length (union (drop i xs) (drop j ys)) = rw next_walks.0 (omega arith) in
-        let same : length (union xs ys) ≡ length (acc ++ union (drop i xs) (drop j ys)) = ap length (sym e) in
-        omega arith
-
-pub walk_end : (xs ys acc : List ℕ) (i j : ℕ) → length xs ≤ i → length ys ≤ j → acc ++ union (drop i xs) (drop j ys) ≡ acc
+pub walk_end : (xs ys acc : List ℕ) → length xs ≡ 0 → length ys ≡ 0 → acc ++ union xs ys ≡ acc
 unfolding union
-walk_end xs ys acc i j p q = rw (drop_of_length-le xs p, drop_of_length-le ys q) (append-nil acc)
+walk_end xs ys acc p q = rw (drop_of_length-le xs {i = 0} (omega arith), drop_of_length-le ys {i = 0} (omega arith)) (append-nil acc)

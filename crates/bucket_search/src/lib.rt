@@ -16,12 +16,10 @@ pub fn position(w: &[u32; WORDS], n: u8, tag: u32) -> u8
     ensures most { result ≤ 64 }
     ensures below { ascending (tags_in w.now) ≡ true → result ≡ length (filter (λ k. ltb k tag) (tags_in w.now)) }
 {
-    let mut p: u8 = 0;
-    while p < n {
+    for p in 0..n {
         if tag <= w[2 + p as usize] {
             return p;
         }
-        p += 1;
     }
-    p
+    n
 }

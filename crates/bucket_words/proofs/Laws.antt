@@ -1,24 +1,15 @@
--- Laws of a copy, and of a tag that goes into a list or out of it at its position.
+-- Laws of a tag that goes into a list or out of it at its position.
 -- Assumes nothing.
 use mathlib.Core.Path.{◌≡◌, refl, sym, ◌∙◌}
 use mathlib.Core.List.{List, [], ◌∷◌, ◌++◌}
 use mathlib.Core.Bool.{Bool, true, false, false≢true}
-use Prim.Native.Nat.{ℕ, suc, ◌+◌, ◌<◌, ◌≤◌}
-use native.Mathlib.Numerals.{add-one}
+use Prim.Native.Nat.{ℕ, suc, ◌<◌, ◌≤◌}
 use native.Mathlib.Omega.{arith}
 use borrow.Author.Tests.{eq-eqb, ne_eqb, lt-ltb, le-ltb, ltb-true, ltb-false, eqb-true, eqb-false}
 use lib.Dec.{ltb, eqb}
-use lib.ListN.{length, get_or, take, drop, set, length-drop}
-use lib.Seq.{paste, paste-suc, get_or-drop}
+use lib.ListN.{length, take, drop}
 use Rattle.spec.specs.Lists.{add_tag, remove_tag}
 use Rattle.bucket_search.specs.Tags.{rank, stands_at, found}
-
--- a turn of a copy: the store of word `from + i` takes the copy of i words to that of i + 1
-pub paste_more : (d : List ℕ) (at from : ℕ) (s : List ℕ) (i : ℕ) (out : List ℕ) → out ≡ paste d at (drop from s) i
-    → at + i < length d → from + i < length s → set out (at + i) (get_or s (from + i) 0) ≡ paste d at (drop from s) (i + 1)
-paste_more d at from s i out e h k =
-    let m : i < length (drop from s) = simp length-drop (omega arith) in
-    rw (e, add-one, ← get_or-drop from s i 0) (paste-suc d at (drop from s) i 0 h m)
 
 -- ---- what the position says of the list
 

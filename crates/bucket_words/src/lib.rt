@@ -16,11 +16,7 @@ pub fn copied(d: [u32; WORDS], at: usize, s: &[u32; WORDS], from: usize, n: usiz
     ensures { result ≡ paste d at (drop from s.now) n }
 {
     let mut out = d;
-    let mut i = 0;
-    while i < n {
-        out[at + i] = s[from + i];
-        i += 1;
-    }
+    out[at..at + n].copy_from_slice(&s[from..from + n]);
     out
 }
 

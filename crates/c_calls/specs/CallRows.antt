@@ -1,11 +1,11 @@
 -- Rows of what calls for C give and leave: numbers from 256 on, the words of answers and of turns, events by their kinds, and one call of each
 -- entry on a small yard. Assumes nothing.
-use Rattle.std.specs.Prelude.{ℕ, ◌≡◌, refl, List, [], ◌∷◌, map, true, false, get_or, set, replicate}
+use Rattle.std.specs.Prelude.{ℕ, ◌≡◌, refl, List, [], ◌∷◌, map, true, false, get_or, set, replicate, Ok, Err}
+use Rattle.spec.specs.declared.Refusal.TheVariants.{NoTask, NoRecord, Spoilt, ShortList, Withdrawn}
 use Rattle.spec.specs.declared.Answer.TheVariants.{Yes, Full, Done}
 use Rattle.spec.specs.declared.Call.TheVariants.{Insert, Remove, Contains, Grow, Shrink}
 use Rattle.spec.specs.declared.Config.{Config}
-use Rattle.spec.specs.declared.Listing.TheVariants.{Count, Refused}
-use Rattle.spec.specs.declared.Output.TheVariants.{At, Refuse}
+use Rattle.spec.specs.declared.Progress.TheVariants.{At}
 use Rattle.spec.specs.Machine.{Machine, config_of}
 use Rattle.spec.specs.Schedule.{Event, starts, steps, run}
 use Rattle.spec.specs.Entries.{opening}
@@ -28,27 +28,27 @@ pub opens : map open_number (0 ∷ 1 ∷ 2 ∷ 3 ∷ 11 ∷ []) ≡ 0 ∷ 257 �
 unfolding open_number
 opens = refl
 
-pub outs : map out_number (At 32 ∷ ended Done 7 ∷ Refuse 4 ∷ Refuse 8 ∷ Refuse 14 ∷ []) ≡ 0 ∷ 0 ∷ 260 ∷ 264 ∷ 270 ∷ []
+pub outs : map out_number (Ok (At 32) ∷ ended Done 7 ∷ Err NoTask ∷ Err Spoilt ∷ Err Withdrawn ∷ []) ≡ 0 ∷ 0 ∷ 260 ∷ 264 ∷ 270 ∷ []
 unfolding out_number
 outs = refl
 
-pub lists : map listing_number (Count 0 ∷ Count 64 ∷ Refused 8 ∷ Refused 9 ∷ []) ≡ 0 ∷ 64 ∷ 264 ∷ 265 ∷ []
+pub lists : map listing_number (Ok 0 ∷ Ok 64 ∷ Err Spoilt ∷ Err ShortList ∷ []) ≡ 0 ∷ 64 ∷ 264 ∷ 265 ∷ []
 lists = refl
 
-pub turns_numbered : map turn_number (Turn.Idle ∷ Turn.Of 0 (At 32) ∷ Turn.Of 7 (Refuse 7) ∷ Turn.Refused 8 ∷ []) ≡ 0 ∷ 1 ∷ 1 ∷ 264 ∷ []
+pub turns_numbered : map turn_number (Turn.Idle ∷ Turn.Of 0 (Ok (At 32)) ∷ Turn.Of 7 (Err NoRecord) ∷ Turn.Refused Spoilt ∷ []) ≡ 0 ∷ 1 ∷ 1 ∷ 264 ∷ []
 unfolding turn_number
 turns_numbered = refl
 
 -- ---- words: a refusal leaves them as they were, but a turn's names its task
 
 pub outs_left :
-    map (λ o. out_left o (9 ∷ 9 ∷ 9 ∷ 9 ∷ [])) (At 32 ∷ counted Full 24 64 ∷ Refuse 7 ∷ [])
+    map (λ o. out_left o (9 ∷ 9 ∷ 9 ∷ 9 ∷ [])) (Ok (At 32) ∷ counted Full 24 64 ∷ Err NoRecord ∷ [])
     ≡ (0 ∷ 32 ∷ 0 ∷ 0 ∷ []) ∷ (1 ∷ 3 ∷ 24 ∷ 64 ∷ []) ∷ (9 ∷ 9 ∷ 9 ∷ 9 ∷ []) ∷ []
 unfolding out_left
 outs_left = refl
 
 pub turns_left :
-    map (λ a. turn_left a (9 ∷ 9 ∷ 9 ∷ 9 ∷ 9 ∷ [])) (Turn.Idle ∷ Turn.Of 3 (counted Yes 3 1) ∷ Turn.Of 2 (Refuse 7) ∷ Turn.Refused 8 ∷ [])
+    map (λ a. turn_left a (9 ∷ 9 ∷ 9 ∷ 9 ∷ 9 ∷ [])) (Turn.Idle ∷ Turn.Of 3 (counted Yes 3 1) ∷ Turn.Of 2 (Err NoRecord) ∷ Turn.Refused Spoilt ∷ [])
     ≡ (9 ∷ 9 ∷ 9 ∷ 9 ∷ 9 ∷ []) ∷ (3 ∷ 1 ∷ 1 ∷ 3 ∷ 1 ∷ []) ∷ (2 ∷ 2 ∷ 7 ∷ 0 ∷ 0 ∷ []) ∷ (9 ∷ 9 ∷ 9 ∷ 9 ∷ 9 ∷ []) ∷ []
 unfolding turn_left
 turns_left = refl

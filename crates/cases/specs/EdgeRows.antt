@@ -1,9 +1,10 @@
 -- Rows at the edges of the pools and of the enums: numbers for calls, answers and outputs; listed sizes and their neighbours; all 32 places;
 -- an unused node's predecessor; buckets from 64 on. Assumes nothing.
-use Rattle.std.specs.Prelude.{ℕ, ◌≡◌, refl, [], ◌∷◌, ◌++◌, map, true, false, replicate}
+use Rattle.std.specs.Prelude.{ℕ, ◌≡◌, refl, [], ◌∷◌, ◌++◌, map, true, false, replicate, Ok, Err}
+use Rattle.spec.specs.declared.Refusal.TheVariants.{Withdrawn}
 use Rattle.spec.specs.declared.Answer.TheVariants.{Yes, No, Full, Done, Lost, Limit}
 use Rattle.spec.specs.declared.Call.TheVariants.{Insert, Remove, Contains, Grow, Shrink}
-use Rattle.spec.specs.declared.Output.TheVariants.{At, Refuse}
+use Rattle.spec.specs.declared.Progress.TheVariants.{At}
 use Rattle.spec.specs.Lists.{range}
 use Rattle.spec.specs.Numbers.{call_number, answer_number, output_words}
 use Rattle.spec.specs.Machine.{Machine}
@@ -24,7 +25,7 @@ numbers = (refl, refl)
 
 -- an output's four words: the line; the answer, then own steps, then tags; the refusal
 pub output_rows :
-    map output_words (At 36 ∷ counted Full 24 64 ∷ counted No 12 0 ∷ ended Done 292 ∷ ended Limit 1 ∷ Refuse 14 ∷ [])
+    map output_words (Ok (At 36) ∷ counted Full 24 64 ∷ counted No 12 0 ∷ ended Done 292 ∷ ended Limit 1 ∷ Err Withdrawn ∷ [])
     ≡ (0 ∷ 36 ∷ 0 ∷ 0 ∷ []) ∷ (1 ∷ 3 ∷ 24 ∷ 64 ∷ []) ∷ (1 ∷ 2 ∷ 12 ∷ 0 ∷ []) ∷ (1 ∷ 4 ∷ 292 ∷ 0 ∷ []) ∷ (1 ∷ 6 ∷ 1 ∷ 0 ∷ []) ∷ (2 ∷ 14 ∷ 0 ∷ 0 ∷ []) ∷ []
 output_rows = refl
 

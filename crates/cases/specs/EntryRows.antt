@@ -1,8 +1,9 @@
 -- Rows of the entries: the whole machine that an opening and a start leave, and which refusal comes first where two apply.
 -- Assumes nothing.
-use Rattle.std.specs.Prelude.{ℕ, ◌≡◌, refl, [], ◌∷◌, map, replicate}
+use Rattle.std.specs.Prelude.{ℕ, ◌≡◌, refl, [], ◌∷◌, map, replicate, Ok}
+use Rattle.spec.specs.declared.Refusal.TheVariants.{NoTask, Running, Idle, NoRecord, Spoilt}
 use Rattle.spec.specs.declared.Call.TheVariants.{Insert, Remove, Contains, Grow, Shrink}
-use Rattle.spec.specs.declared.Output.TheVariants.{At}
+use Rattle.spec.specs.declared.Progress.TheVariants.{At}
 use Rattle.spec.specs.Machine.{machine_of, config_of, zero_config, idle}
 use Rattle.spec.specs.Entries.{Opened, start, step, show}
 use Rattle.spec.specs.Everything.{everything}
@@ -37,11 +38,11 @@ opened_chosen = refl
 -- task 1's start of each call with tag 9, task 0 running
 pub starts_whole :
     map (λ f. start (small (insert_at_33 ∷ [])) 1 f 9) (Insert ∷ Remove ∷ Contains ∷ Grow ∷ Shrink ∷ [])
-    ≡ replies (At 32) (small (insert_at_33 ∷ call 1 tag 9 line 32 i 0 own 0 t 0 s 0 b 0 m 0 n 0 new_node 0 new_bucket 0 ∷ []))
-    ∷ replies (At 32) (small (insert_at_33 ∷ call 2 tag 9 line 32 i 0 own 0 t 0 s 0 b 0 m 0 n 0 new_node 0 new_bucket 0 ∷ []))
-    ∷ replies (At 12) (small (insert_at_33 ∷ call 3 tag 9 line 12 i 0 own 0 t 0 s 0 b 0 m 0 n 0 new_node 0 new_bucket 0 ∷ []))
-    ∷ replies (At 20) (small (insert_at_33 ∷ call 4 tag 0 line 20 i 0 own 0 t 0 s 0 b 0 m 0 n 0 new_node 0 new_bucket 0 ∷ []))
-    ∷ replies (At 20) (small (insert_at_33 ∷ call 5 tag 0 line 20 i 0 own 0 t 0 s 0 b 0 m 0 n 0 new_node 0 new_bucket 0 ∷ []))
+    ≡ replies (Ok (At 32)) (small (insert_at_33 ∷ call 1 tag 9 line 32 i 0 own 0 t 0 s 0 b 0 m 0 n 0 new_node 0 new_bucket 0 ∷ []))
+    ∷ replies (Ok (At 32)) (small (insert_at_33 ∷ call 2 tag 9 line 32 i 0 own 0 t 0 s 0 b 0 m 0 n 0 new_node 0 new_bucket 0 ∷ []))
+    ∷ replies (Ok (At 12)) (small (insert_at_33 ∷ call 3 tag 9 line 12 i 0 own 0 t 0 s 0 b 0 m 0 n 0 new_node 0 new_bucket 0 ∷ []))
+    ∷ replies (Ok (At 20)) (small (insert_at_33 ∷ call 4 tag 0 line 20 i 0 own 0 t 0 s 0 b 0 m 0 n 0 new_node 0 new_bucket 0 ∷ []))
+    ∷ replies (Ok (At 20)) (small (insert_at_33 ∷ call 5 tag 0 line 20 i 0 own 0 t 0 s 0 b 0 m 0 n 0 new_node 0 new_bucket 0 ∷ []))
     ∷ []
 unfolding everything whole_rows small insert_at_33 replies
 starts_whole = refl
@@ -51,8 +52,8 @@ pub own_stay :
     step (small (idle ∷ call 3 tag 5 line 12 i 0 own 65535 t 0 s 0 b 0 m 0 n 0 new_node 0 new_bucket 0 ∷ [])) 1
     ∷ step (small (insert_at_33 ∷ call 3 tag 5 line 12 i 0 own 65534 t 0 s 0 b 0 m 0 n 0 new_node 0 new_bucket 0 ∷ [])) 1
     ∷ []
-    ≡ replies (At 13) (small (idle ∷ call 3 tag 5 line 13 i 0 own 65535 t 1 s 0 b 0 m 0 n 0 new_node 0 new_bucket 0 ∷ []))
-    ∷ replies (At 13) (small (insert_at_33 ∷ call 3 tag 5 line 13 i 0 own 65535 t 1 s 0 b 0 m 0 n 0 new_node 0 new_bucket 0 ∷ []))
+    ≡ replies (Ok (At 13)) (small (idle ∷ call 3 tag 5 line 13 i 0 own 65535 t 1 s 0 b 0 m 0 n 0 new_node 0 new_bucket 0 ∷ []))
+    ∷ replies (Ok (At 13)) (small (insert_at_33 ∷ call 3 tag 5 line 13 i 0 own 65535 t 1 s 0 b 0 m 0 n 0 new_node 0 new_bucket 0 ∷ []))
     ∷ []
 unfolding everything whole_rows small insert_at_33 replies
 own_stay = refl
@@ -62,7 +63,7 @@ own_stay = refl
 pub refusals_456 :
     start (small (insert_at_33 ∷ [])) 2 Insert 9 ∷ start (small (insert_at_33 ∷ [])) 0 Insert 9
     ∷ step (small (insert_at_33 ∷ [])) 2 ∷ step (small (insert_at_33 ∷ [])) 8 ∷ step (small (insert_at_33 ∷ [])) 1 ∷ []
-    ≡ map (λ r. refuses r (insert_at_33 ∷ [])) (4 ∷ 5 ∷ 4 ∷ 4 ∷ 6 ∷ [])
+    ≡ map (λ r. refuses r (insert_at_33 ∷ [])) (NoTask ∷ Running ∷ NoTask ∷ NoTask ∷ Idle ∷ [])
 unfolding everything whole_rows small insert_at_33 replies refuses
 refusals_456 = refl
 
@@ -71,7 +72,7 @@ refusals_456 = refl
 pub eight_first :
     start (small (worn ∷ [])) 0 Insert 9 ∷ step (small (worn ∷ [])) 1 ∷ step (small (worn ∷ wants_node ∷ [])) 1
     ∷ step (small (insert_at_33 ∷ wants_node ∷ [])) 1 ∷ []
-    ≡ refuses 8 (worn ∷ []) ∷ refuses 8 (worn ∷ []) ∷ refuses 8 (worn ∷ wants_node ∷ []) ∷ refuses 7 (insert_at_33 ∷ wants_node ∷ []) ∷ []
+    ≡ refuses Spoilt (worn ∷ []) ∷ refuses Spoilt (worn ∷ []) ∷ refuses Spoilt (worn ∷ wants_node ∷ []) ∷ refuses NoRecord (insert_at_33 ∷ wants_node ∷ []) ∷ []
 unfolding everything whole_rows small insert_at_33 replies refuses worn wants_node
 eight_first = refl
 

@@ -1,8 +1,8 @@
 -- Rows of how many tags there are: full at 64 listed tags, a bucket of 64, a list of 65. Assumes nothing.
-use Rattle.std.specs.Prelude.{ℕ, ◌≡◌, refl, List, [], ◌∷◌, ◌++◌, map, replicate}
+use Rattle.std.specs.Prelude.{ℕ, ◌≡◌, refl, List, [], ◌∷◌, ◌++◌, map, replicate, Ok, Err}
+use Rattle.spec.specs.Outputs.{Listing}
+use Rattle.spec.specs.declared.Refusal.TheVariants.{Spoilt, ShortList}
 use Rattle.spec.specs.declared.Answer.TheVariants.{Yes, No, Full}
-use Rattle.spec.specs.declared.Listing.{Listing}
-use Rattle.spec.specs.declared.Listing.TheVariants.{Count, Refused}
 use Rattle.spec.specs.declared.Task.{Task}
 use Rattle.spec.specs.Lists.{range}
 use Rattle.spec.specs.Machine.{Machine, idle}
@@ -34,7 +34,7 @@ full_rows =
     ∷ ends (listing 33 32) (counted Full 3 33) (at_36 1 90 1)
     ∷ ends (listing 33 32) (counted No 3 33) (at_36 1 4 1)
     -- a 65th tag in bucket 2: only an insert that would be answered yes needs it
-    ∷ refused 8 (listing 1 1) (at_36 1 90 3)
+    ∷ refused Spoilt (listing 1 1) (at_36 1 90 3)
     ∷ ends (listing 1 1) (counted No 3 64) (at_36 1 163 3)
     ∷ ends (listing 1 1) (counted No 3 64) (at_36 2 90 3)
     ∷ ends (listing 32 32) (counted Full 3 64) (at_36 1 90 3)
@@ -46,7 +46,7 @@ full_rows =
     ∷ goes (merging 63) (λ c. yard 0 0 2 (head_node ∷ []) (merged 63 (bucket 1 (range 0 64))) (c ∷ []))
     (at_49 1 2)
     (call 1 tag 5 line 50 i 0 own 3 t 1 s 0 b 0 m 1 n 2 new_node 0 new_bucket 3)
-    ∷ refused 8 (merging 64) (at_49 1 2)
+    ∷ refused Spoilt (merging 64) (at_49 1 2)
     ∷ []
 
 pub full_rows_hold : map stepped full_rows ≡ map told full_rows
@@ -64,7 +64,7 @@ written l w = record { says = l; words = w }
 pub lists_hold :
     listed_into 66 (listing 2 1 idle) ∷ listed_into 64 (listing 32 32 idle) ∷ listed_into 64 (listing 33 32 idle)
     ∷ listed_into 63 (listing 33 32 idle) ∷ listed_into 63 (listing 2 1 idle) ∷ []
-    ≡ written (Count 3) (0 ∷ 1 ∷ 2 ∷ replicate 63 7) ∷ written (Count 64) (range 0 64) ∷ written (Refused 8) (replicate 64 7)
-    ∷ written (Refused 8) (replicate 63 7) ∷ written (Refused 9) (replicate 63 7) ∷ []
+    ≡ written (Ok 3) (0 ∷ 1 ∷ 2 ∷ replicate 63 7) ∷ written (Ok 64) (range 0 64) ∷ written (Err Spoilt) (replicate 64 7)
+    ∷ written (Err Spoilt) (replicate 63 7) ∷ written (Err ShortList) (replicate 63 7) ∷ []
 unfolding everything edit_yards listed_into
 lists_hold = refl

@@ -1,10 +1,11 @@
 -- Rows of what demand 3 is told by: the plain set, a schedule's outputs, and its history. Assumes nothing.
-use Rattle.std.specs.Prelude.{ℕ, ◌≡◌, refl, List, [], ◌∷◌, ◌++◌, map, replicate}
+use Rattle.std.specs.Prelude.{ℕ, ◌≡◌, refl, List, [], ◌∷◌, ◌++◌, map, replicate, Ok, Err}
+use Rattle.spec.specs.declared.Refusal.TheVariants.{NoTask, Running, Idle, NoRecord}
 use Rattle.spec.specs.declared.Answer.{Answer}
 use Rattle.spec.specs.declared.Answer.TheVariants.{Yes, No, Full, Done, Lost, Limit}
 use Rattle.spec.specs.declared.Call.TheVariants.{Insert, Remove, Contains, Grow, Shrink}
-use Rattle.spec.specs.declared.Output.{Output}
-use Rattle.spec.specs.declared.Output.TheVariants.{At, Refuse}
+use Rattle.spec.specs.Outputs.{Output}
+use Rattle.spec.specs.declared.Progress.TheVariants.{At}
 use Rattle.spec.specs.Lists.{range}
 use Rattle.spec.specs.Machine.{config_of}
 use Rattle.spec.specs.Plain.{Plain, plain}
@@ -35,7 +36,7 @@ outs_of k =
     (schedule (config_of k) (replicate 34 7) (replicate 66 7)
     (starts 0 Insert 5 ∷ steps 0 ∷ starts 0 Insert 5 ∷ steps 1 ∷ steps 0 ∷ steps 0 ∷ steps 0 ∷ [])).outs
 
-pub schedule_rows : map outs_of (1 ∷ 0 ∷ 9 ∷ []) ≡ (At 32 ∷ At 33 ∷ Refuse 5 ∷ Refuse 4 ∷ At 36 ∷ counted Yes 3 1 ∷ Refuse 6 ∷ []) ∷ [] ∷ [] ∷ []
+pub schedule_rows : map outs_of (1 ∷ 0 ∷ 9 ∷ []) ≡ (Ok (At 32) ∷ Ok (At 33) ∷ Err Running ∷ Err NoTask ∷ Ok (At 36) ∷ counted Yes 3 1 ∷ Err Idle ∷ []) ∷ [] ∷ [] ∷ []
 unfolding everything outs_of
 schedule_rows = refl
 
@@ -49,8 +50,8 @@ told_events =
 -- a start while a call runs, and a step while none runs, are refused; a grow and a shrink end; the remove of 8 still runs at the end
 unfoldable pub told_outs : List Output
 told_outs =
-    At 32 ∷ Refuse 5 ∷ At 20 ∷ At 33 ∷ ended Done 7 ∷ counted Yes 3 1 ∷ Refuse 6 ∷ At 12 ∷ At 32 ∷ ended No 3
-    ∷ At 20 ∷ ended Done 9 ∷ []
+    Ok (At 32) ∷ Err Running ∷ Ok (At 20) ∷ Ok (At 33) ∷ ended Done 7 ∷ counted Yes 3 1 ∷ Err Idle ∷ Ok (At 12) ∷ Ok (At 32) ∷ ended No 3
+    ∷ Ok (At 20) ∷ ended Done 9 ∷ []
 
 -- the last ended first
 pub history_row :
@@ -73,9 +74,9 @@ all_events =
 
 unfoldable pub all_outs : List Output
 all_outs =
-    At 32 ∷ At 32 ∷ counted Yes 3 1 ∷ At 20 ∷ counted No 3 1 ∷ At 32 ∷ Refuse 7 ∷ Refuse 5 ∷ counted Full 3 64 ∷ ended Limit 1
-    ∷ At 20 ∷ At 32 ∷ ended Lost 5 ∷ counted Yes 3 63 ∷ At 32 ∷ At 12 ∷ counted No 3 63 ∷ ended Yes 3 ∷ At 32
-    ∷ At 33 ∷ Refuse 6 ∷ []
+    Ok (At 32) ∷ Ok (At 32) ∷ counted Yes 3 1 ∷ Ok (At 20) ∷ counted No 3 1 ∷ Ok (At 32) ∷ Err NoRecord ∷ Err Running ∷ counted Full 3 64 ∷ ended Limit 1
+    ∷ Ok (At 20) ∷ Ok (At 32) ∷ ended Lost 5 ∷ counted Yes 3 63 ∷ Ok (At 32) ∷ Ok (At 12) ∷ counted No 3 63 ∷ ended Yes 3 ∷ Ok (At 32)
+    ∷ Ok (At 33) ∷ Err Idle ∷ []
 
 -- inserts that say yes, no and full, removes that say yes and no, a contains that says yes; no resize, and nothing that still runs
 pub history_of_all :

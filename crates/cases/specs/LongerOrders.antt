@@ -1,12 +1,15 @@
 -- Examples for the types of demand 3 (Linearizable) with three and four calls: real time between any two of an order, each call once with
 -- every field its own, an answer in the middle, the plain set at 64 and past it, what is listed, and no refusal 8. Assumes nothing.
-use Rattle.std.specs.Prelude.{ℕ, ◌+◌, ◌≡◌, refl, List, [], ◌∷◌, Bool, true, false, eqb, if◌then◌else◌}
+use Rattle.std.specs.Prelude.{ℕ, ◌+◌, ◌≡◌, refl, List, [], ◌∷◌, Bool, true, false, eqb, if◌then◌else◌, Ok, Err}
 use Rattle.std.proofs.Common.{ap, arith}
+use Rattle.spec.specs.declared.Refusal.{Refusal}
+use Rattle.spec.specs.declared.Refusal.TheVariants.{NoRecord, Spoilt, ShortList}
 use Rattle.spec.specs.declared.Answer.{Answer}
 use Rattle.spec.specs.declared.Answer.TheVariants.{Yes, No, Full, Done, Lost, Limit}
 use Rattle.spec.specs.declared.Call.{Call}
 use Rattle.spec.specs.declared.Call.TheVariants.{Insert, Remove, Contains, Grow, Shrink}
-use Rattle.spec.specs.declared.Output.TheVariants.{At, Refuse}
+use Rattle.spec.specs.Outputs.{Output}
+use Rattle.spec.specs.declared.Progress.TheVariants.{At}
 use Rattle.spec.specs.Lists.{member, add_tag, remove_tag, range}
 use Rattle.spec.specs.Numbers.{answer_number}
 use Rattle.spec.specs.Plain.{insert_answer, inserted, plain_insert, plain_remove, plain_contains, plain}
@@ -216,23 +219,29 @@ past_64 = (λ a. omega (arith, a), λ a. (let b = a.0 in omega arith))
 
 -- ---- "Never from an opening onward": refusal 8, wherever it stands among the outputs
 
-other_refusal : (r : ℕ) → ¬ (r ≡ 8) → ¬ (Refuse r ≡ Refuse 8)
+other_refusal : (r : Refusal) → ¬ (r ≡ Spoilt) → ¬ (◌≡◌ {A = Output} (Err r) (Err Spoilt))
 other_refusal r f e = f cc
 
+seven_apart : ¬ (NoRecord ≡ Spoilt)
+seven_apart e = let z : ◌≡◌ {A = ℕ} 0 1 = cc in omega arith
+
+nine_apart : ¬ (ShortList ≡ Spoilt)
+nine_apart e = let z : ◌≡◌ {A = ℕ} 0 1 = cc in omega arith
+
 -- other refusals are allowed, and 8 as a line
-pub no_eight : NoEight (At 8 ∷ Refuse 7 ∷ Refuse 9 ∷ [])
+pub no_eight : NoEight (Ok (At 8) ∷ Err NoRecord ∷ Err ShortList ∷ [])
 no_eight =
-    (λ e. (let z : ◌≡◌ {A = ℕ} 0 1 = cc in omega arith), (other_refusal 7 (λ e. omega arith), (other_refusal 9 (λ e. omega arith), tt)))
+    (λ e. (let z : ◌≡◌ {A = ℕ} 0 1 = cc in omega arith), (other_refusal NoRecord seven_apart, (other_refusal ShortList nine_apart, tt)))
 
 -- the first, the second, the third and the last of four
-pub eight_first : ¬ NoEight (Refuse 8 ∷ At 33 ∷ [])
+pub eight_first : ¬ NoEight (Err Spoilt ∷ Ok (At 33) ∷ [])
 eight_first n = n.0 refl
 
-pub eight_second_and_last : ¬ NoEight (At 32 ∷ Refuse 8 ∷ [])
+pub eight_second_and_last : ¬ NoEight (Ok (At 32) ∷ Err Spoilt ∷ [])
 eight_second_and_last n = n.1.0 refl
 
-pub eight_in_the_middle : ¬ NoEight (At 32 ∷ At 33 ∷ Refuse 8 ∷ At 36 ∷ [])
+pub eight_in_the_middle : ¬ NoEight (Ok (At 32) ∷ Ok (At 33) ∷ Err Spoilt ∷ Ok (At 36) ∷ [])
 eight_in_the_middle n = n.1.1.0 refl
 
-pub eight_last_of_four : ¬ NoEight (At 32 ∷ At 33 ∷ At 36 ∷ Refuse 8 ∷ [])
+pub eight_last_of_four : ¬ NoEight (Ok (At 32) ∷ Ok (At 33) ∷ Ok (At 36) ∷ Err Spoilt ∷ [])
 eight_last_of_four n = n.1.1.1.0 refl

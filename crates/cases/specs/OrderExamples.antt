@@ -1,12 +1,12 @@
 -- Examples for the types of demand 3 (Linearizable): for each of its parts a history of two calls that breaks just that one, a history
 -- that has no order at all, and a schedule with its order and listing. Assumes nothing.
-use Rattle.std.specs.Prelude.{ℕ, suc, ◌≡◌, refl, List, [], ◌∷◌, ◌++◌, ◌⊎◌, true, false, ltb, length, drop, get_or, replicate}
+use Rattle.std.specs.Prelude.{ℕ, suc, ◌≡◌, refl, List, [], ◌∷◌, ◌++◌, ◌⊎◌, true, false, ltb, length, drop, get_or, replicate, Ok}
 use Rattle.std.proofs.Common.{sym, ap, subst, inl, inr, arith}
+use Rattle.spec.specs.Outputs.{Listing}
 use Rattle.spec.specs.declared.Answer.{Answer}
 use Rattle.spec.specs.declared.Answer.TheVariants.{Yes, No}
 use Rattle.spec.specs.declared.Call.TheVariants.{Insert, Remove, Contains}
 use Rattle.spec.specs.declared.Config.{Config}
-use Rattle.spec.specs.declared.Listing.TheVariants.{Count}
 use Rattle.spec.specs.Machine.{Machine, config_of}
 use Rattle.spec.specs.Lists.{member, add_tag}
 use Rattle.spec.specs.Plain.{insert_answer, inserted, plain_insert, plain_contains, plain}
@@ -112,7 +112,7 @@ no_order L d = go (order_of_two d.0)
 -- a machine lists exactly the tags of the plain set after an order
 abbrev pub Lists : Machine → List Ended → Type 0
 Lists y L =
-    (w : List ℕ) → length w ≡ 64 → list y w ≡ record { says = Count (length (after [] L)); words = after [] L ++ drop (length (after [] L)) w }
+    (w : List ℕ) → length w ≡ 64 → list y w ≡ record { says = Ok (length (after [] L)); words = after [] L ++ drop (length (after [] L)) w }
 
 -- a reading: it is what demand 3 has of the listing
 pub lists : {g : Config} {ns bs : List ℕ} {es : List Event} (d : Linearizable g ns bs es) → Lists (schedule g ns bs es).machine d.order
@@ -127,7 +127,7 @@ left_by es = (schedule (config_of 1) (replicate 34 7) (replicate 66 7) es).machi
 
 -- a list of a sound memory into 64 words
 list_writes : (y : Machine) (w : List ℕ) → sound y ≡ true → ltb 64 (length (listed y)) ≡ false → length w ≡ 64
-    → list y w ≡ record { says = Count (length (listed y)); words = listed y ++ drop (length (listed y)) w }
+    → list y w ≡ record { says = Ok (length (listed y)); words = listed y ++ drop (length (listed y)) w }
 unfolding list
 list_writes y w h f e = rw (h, f, e)
 
@@ -141,7 +141,7 @@ alone_linearizable =
     record { order = insert_5 ∷ []; once = more none here; timely = (tt, tt); answers = (omega arith, refl, omega arith); listed = lists_5 }
 
 -- a set that stays empty in good order: the insert's order ends with 5, and nothing is listed
-one_none : Count 0 ≡ Count 1 → ⊥
+one_none : ◌≡◌ {A = Listing} (Ok 0) (Ok 1) → ⊥
 one_none e = let z : ◌≡◌ {A = ℕ} 0 1 = cc in omega arith
 
 pub stays_empty : ¬ Lists (left_by []) (insert_5 ∷ [])
@@ -160,7 +160,7 @@ stays_listed d = one_none (sym (ap (λ (x : Written). x.says) (d (replicate 64 7
 abbrev pub insert_6 : Ended
 insert_6 = record { task = 0; call = Insert; tag = 6; answer = Yes; start = 4; end = 7 }
 
-one_two : Count 1 ≡ Count 2 → ⊥
+one_two : ◌≡◌ {A = Listing} (Ok 1) (Ok 2) → ⊥
 one_two e = let z : ◌≡◌ {A = ℕ} 1 2 = cc in omega arith
 
 pub one_more : ¬ Lists (left_by alone) (insert_5 ∷ insert_6 ∷ [])

@@ -1,12 +1,11 @@
 -- Further cases, ours and not paper 01's: bounds of the opening and the list, and schedules that tell wrong definitions from right
 -- ones where the table of the P cases does not. Again every output of a row is given. Assumes nothing.
-use Rattle.std.specs.Prelude.{ℕ, ◌*◌, ◌≡◌, refl, List, [], ◌∷◌, ◌++◌, map, replicate}
+use Rattle.std.specs.Prelude.{ℕ, ◌*◌, ◌≡◌, refl, List, [], ◌∷◌, ◌++◌, map, replicate, Ok, Err}
+use Rattle.spec.specs.declared.Refusal.TheVariants.{NoRecord, ShortList}
 use Rattle.spec.specs.declared.Answer.TheVariants.{Yes, No, Done, Lost}
 use Rattle.spec.specs.declared.Call.TheVariants.{Insert, Remove, Contains, Grow, Shrink}
-use Rattle.spec.specs.declared.Output.{Output}
-use Rattle.spec.specs.declared.Output.TheVariants.{At, Refuse}
-use Rattle.spec.specs.declared.Listing.{Listing}
-use Rattle.spec.specs.declared.Listing.TheVariants.{Count, Refused}
+use Rattle.spec.specs.Outputs.{Output, Listing}
+use Rattle.spec.specs.declared.Progress.TheVariants.{At}
 use Rattle.spec.specs.Machine.{config_of}
 use Rattle.spec.specs.Entries.{opening, list}
 use Rattle.spec.specs.Everything.{everything}
@@ -42,7 +41,7 @@ openings_hold = refl
 unfoldable pub listing : ℕ → Listing
 listing n = (list (opening (config_of 1) (replicate 34 7) (replicate 66 7)).machine (replicate n 7)).says
 
-pub listings : map listing (64 ∷ 63 ∷ []) ≡ Count 0 ∷ Refused 9 ∷ []
+pub listings : map listing (64 ∷ 63 ∷ []) ≡ Ok 0 ∷ Err ShortList ∷ []
 unfolding everything listing
 listings = refl
 
@@ -50,13 +49,13 @@ listings = refl
 
 -- an insert of a tag whose place is empty, up to the output of line 48 (so before 49), and to its end
 unfoldable pub insert_to_49 : List Output
-insert_to_49 = At 32 ∷ At 33 ∷ At 39 ∷ At 40 ∷ At 43 ∷ At 44 ∷ At 49 ∷ []
+insert_to_49 = Ok (At 32) ∷ Ok (At 33) ∷ Ok (At 39) ∷ Ok (At 40) ∷ Ok (At 43) ∷ Ok (At 44) ∷ Ok (At 49) ∷ []
 
 unfoldable pub insert_filling : Output → List Output
-insert_filling end = At 32 ∷ At 33 ∷ At 39 ∷ filling ++ At 36 ∷ end ∷ []
+insert_filling end = Ok (At 32) ∷ Ok (At 33) ∷ Ok (At 39) ∷ filling ++ Ok (At 36) ∷ end ∷ []
 
 unfoldable pub grow_to_28 : List Output
-grow_to_28 = At 20 ∷ At 39 ∷ At 40 ∷ At 51 ∷ At 24 ∷ At 27 ∷ At 28 ∷ []
+grow_to_28 = Ok (At 20) ∷ Ok (At 39) ∷ Ok (At 40) ∷ Ok (At 51) ∷ Ok (At 24) ∷ Ok (At 27) ∷ Ok (At 28) ∷ []
 
 unfoldable pub ours : List Case
 ours =
@@ -66,7 +65,7 @@ ours =
       nodes = 2;
       buckets = 3;
       events = calling 0 Insert 5 3 ++ calling 0 Grow 0 7 ++ calling 1 Contains 5 2 ++ calling 0 Grow 0 16 ++ stepping 1 3;
-      outs = in_three (counted Yes 3 1) ++ first_grow ++ At 12 ∷ At 13 ∷ At 15 ∷ grow_to_24 1 ++ At 27 ∷ At 17 ∷ At 18 ∷ ended Yes 5 ∷ [];
+      outs = in_three (counted Yes 3 1) ++ first_grow ++ Ok (At 12) ∷ Ok (At 13) ∷ Ok (At 15) ∷ grow_to_24 1 ++ Ok (At 27) ∷ Ok (At 17) ∷ Ok (At 18) ∷ ended Yes 5 ∷ [];
       head = 1;
       size = 2;
       tags = 5 ∷ [];
@@ -78,7 +77,7 @@ ours =
       nodes = 3;
       buckets = 3;
       events = calling 0 Insert 5 3 ++ calling 0 Grow 0 7 ++ calling 1 Contains 5 2 ++ calling 0 Grow 0 18 ++ stepping 1 3;
-      outs = in_three (counted Yes 3 1) ++ first_grow ++ At 12 ∷ At 13 ∷ At 15 ∷ grow_filling 1 18 ++ At 17 ∷ At 18 ∷ ended Yes 5 ∷ [];
+      outs = in_three (counted Yes 3 1) ++ first_grow ++ Ok (At 12) ∷ Ok (At 13) ∷ Ok (At 15) ∷ grow_filling 1 18 ++ Ok (At 17) ∷ Ok (At 18) ∷ ended Yes 5 ∷ [];
       head = 2;
       size = 4;
       tags = 5 ∷ [];
@@ -92,8 +91,8 @@ ours =
       events = calling 0 Insert 4 3 ++ calling 0 Insert 7 3 ++ calling 0 Grow 0 7 ++ calling 0 Shrink 0 18 ++ calling 0 Remove 4 12;
       outs =
           gaining 0 2 ++ first_grow ++ grow_filling 1 18
-          ++ At 32 ∷ At 33 ∷ At 39
-          ∷ At 40 ∷ At 46 ∷ At 47 ∷ At 48 ∷ At 52 ∷ At 49 ∷ At 50 ∷ At 51 ∷ At 36 ∷ counted Yes 12 1 ∷ [];
+          ++ Ok (At 32) ∷ Ok (At 33) ∷ Ok (At 39)
+          ∷ Ok (At 40) ∷ Ok (At 46) ∷ Ok (At 47) ∷ Ok (At 48) ∷ Ok (At 52) ∷ Ok (At 49) ∷ Ok (At 50) ∷ Ok (At 51) ∷ Ok (At 36) ∷ counted Yes 12 1 ∷ [];
       head = 0;
       size = 1;
       tags = 7 ∷ [];
@@ -106,12 +105,12 @@ ours =
       buckets = 4;
       events = calling 0 Grow 0 7 ++ calling 0 Shrink 0 17 ++ calling 1 Insert 1 2 ++ stepping 0 1 ++ calling 0 Insert 2 7 ++ stepping 1 1 ++ stepping 0 5;
       outs =
-          first_grow ++ grow_to_24 1 ++ At 27 ∷ At 28
-          ∷ At 32 ∷ At 33 ∷ At 36
+          first_grow ++ grow_to_24 1 ++ Ok (At 27) ∷ Ok (At 28)
+          ∷ Ok (At 32) ∷ Ok (At 33) ∷ Ok (At 36)
           ∷ ended Done 18
-          ∷ At 32 ∷ At 33 ∷ At 39 ∷ At 40 ∷ At 46 ∷ At 47 ∷ At 48 ∷ At 52
+          ∷ Ok (At 32) ∷ Ok (At 33) ∷ Ok (At 39) ∷ Ok (At 40) ∷ Ok (At 46) ∷ Ok (At 47) ∷ Ok (At 48) ∷ Ok (At 52)
           ∷ counted Yes 3 1
-          ∷ At 49 ∷ At 50 ∷ At 51 ∷ At 36 ∷ counted Yes 12 2 ∷ [];
+          ∷ Ok (At 49) ∷ Ok (At 50) ∷ Ok (At 51) ∷ Ok (At 36) ∷ counted Yes 12 2 ∷ [];
       head = 2;
       size = 1;
       tags = 1 ∷ 2 ∷ [];
@@ -125,13 +124,13 @@ ours =
       events = calling 0 Grow 0 7 ++ calling 0 Shrink 0 17 ++ calling 1 Insert 2 2 ++ stepping 0 1 ++ calling 0 Insert 4 7 ++ stepping 1 1 ++ stepping 0 5
           ++ stepping 1 3;
       outs =
-          first_grow ++ grow_to_24 1 ++ At 27 ∷ At 28
-          ∷ At 32 ∷ At 33 ∷ At 36
+          first_grow ++ grow_to_24 1 ++ Ok (At 27) ∷ Ok (At 28)
+          ∷ Ok (At 32) ∷ Ok (At 33) ∷ Ok (At 36)
           ∷ ended Done 18
-          ∷ At 32 ∷ At 33 ∷ At 39 ∷ At 40 ∷ At 46 ∷ At 47 ∷ At 48 ∷ At 52
-          ∷ At 32
-          ∷ At 49 ∷ At 50 ∷ At 51 ∷ At 36 ∷ counted Yes 12 1
-          ∷ At 33 ∷ At 36 ∷ counted Yes 6 2 ∷ [];
+          ∷ Ok (At 32) ∷ Ok (At 33) ∷ Ok (At 39) ∷ Ok (At 40) ∷ Ok (At 46) ∷ Ok (At 47) ∷ Ok (At 48) ∷ Ok (At 52)
+          ∷ Ok (At 32)
+          ∷ Ok (At 49) ∷ Ok (At 50) ∷ Ok (At 51) ∷ Ok (At 36) ∷ counted Yes 12 1
+          ∷ Ok (At 33) ∷ Ok (At 36) ∷ counted Yes 6 2 ∷ [];
       head = 2;
       size = 1;
       tags = 2 ∷ 4 ∷ [];
@@ -155,7 +154,7 @@ ours =
       nodes = 2;
       buckets = 3;
       events = calling 0 Insert 5 1 ++ calling 1 Grow 0 7 ++ calling 1 Grow 0 17 ++ stepping 0 1;
-      outs = At 32 ∷ At 33 ∷ first_grow ++ grow_to_24 1 ++ At 27 ∷ Refuse 7 ∷ At 36 ∷ [];
+      outs = Ok (At 32) ∷ Ok (At 33) ∷ first_grow ++ grow_to_24 1 ++ Ok (At 27) ∷ Err NoRecord ∷ Ok (At 36) ∷ [];
       head = 1;
       size = 2;
       tags = [];
@@ -167,7 +166,7 @@ ours =
       nodes = 2;
       buckets = 2;
       events = calling 0 Grow 0 7 ++ calling 0 Insert 5 6 ++ calling 1 Insert 5 6 ++ stepping 0 1 ++ stepping 1 1;
-      outs = first_grow ++ times 2 insert_to_49 ++ At 50 ∷ Refuse 7 ∷ [];
+      outs = first_grow ++ times 2 insert_to_49 ++ Ok (At 50) ∷ Err NoRecord ∷ [];
       head = 1;
       size = 2;
       tags = [];
@@ -179,7 +178,7 @@ ours =
       nodes = 2;
       buckets = 3;
       events = calling 0 Grow 0 7 ++ calling 0 Grow 0 18 ++ calling 0 Insert 0 10 ++ calling 0 Insert 1 7;
-      outs = first_grow ++ grow_filling 1 18 ++ insert_filling (counted Yes 10 1) ++ insert_to_49 ++ Refuse 7 ∷ [];
+      outs = first_grow ++ grow_filling 1 18 ++ insert_filling (counted Yes 10 1) ++ insert_to_49 ++ Err NoRecord ∷ [];
       head = 0;
       size = 4;
       tags = 0 ∷ [];
@@ -192,8 +191,8 @@ ours =
       buckets = 3;
       events = calling 0 Grow 0 7 ++ calling 0 Insert 5 7 ++ calling 1 Insert 5 7 ++ stepping 0 3 ++ stepping 1 3;
       outs =
-          first_grow ++ times 2 (insert_to_49 ++ At 50 ∷ [])
-          ++ At 51 ∷ At 36 ∷ counted Yes 10 1 ∷ At 51 ∷ At 36 ∷ counted No 10 1 ∷ [];
+          first_grow ++ times 2 (insert_to_49 ++ Ok (At 50) ∷ [])
+          ++ Ok (At 51) ∷ Ok (At 36) ∷ counted Yes 10 1 ∷ Ok (At 51) ∷ Ok (At 36) ∷ counted No 10 1 ∷ [];
       head = 1;
       size = 2;
       tags = 5 ∷ [];
@@ -205,7 +204,7 @@ ours =
       nodes = 3;
       buckets = 3;
       events = calling 0 Grow 0 5 ++ calling 1 Grow 0 7 ++ calling 1 Grow 0 18 ++ stepping 0 1;
-      outs = At 20 ∷ At 39 ∷ At 40 ∷ At 51 ∷ At 24 ∷ At 27 ∷ first_grow ++ grow_filling 1 18 ++ Refuse 7 ∷ [];
+      outs = Ok (At 20) ∷ Ok (At 39) ∷ Ok (At 40) ∷ Ok (At 51) ∷ Ok (At 24) ∷ Ok (At 27) ∷ first_grow ++ grow_filling 1 18 ++ Err NoRecord ∷ [];
       head = 2;
       size = 4;
       tags = [];

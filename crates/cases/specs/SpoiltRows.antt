@@ -1,10 +1,10 @@
 -- Rows of spoilt memory: for each condition of refusal 8 a memory that breaks it and nothing else, and for each bound a memory at the
 -- bound, which is sound (H, B and the slices' lengths: SpoiltLengths; a task's record: SpoiltTaskRows). Start and step are asked
 -- for a task that is not there, the list has no room: 8 comes before 4 and 9. Assumes nothing.
-use Rattle.std.specs.Prelude.{ℕ, ◌≡◌, refl, List, [], ◌∷◌, ◌++◌, map, replicate}
+use Rattle.std.specs.Prelude.{ℕ, ◌≡◌, refl, List, [], ◌∷◌, ◌++◌, map, replicate, Err}
+use Rattle.spec.specs.declared.Refusal.TheVariants.{NoTask, Spoilt, ShortList}
+use Rattle.spec.specs.declared.Refusal.{Refusal}
 use Rattle.spec.specs.declared.Call.TheVariants.{Insert}
-use Rattle.spec.specs.declared.Listing.TheVariants.{Refused}
-use Rattle.spec.specs.declared.Output.TheVariants.{Refuse}
 use Rattle.spec.specs.Lists.{range}
 use Rattle.spec.specs.Machine.{Machine, machine_of, config_of, with_version, with_chosen}
 use Rattle.spec.specs.Entries.{Reply, Written, start, step, list, show}
@@ -23,17 +23,17 @@ unfoldable pub said : Machine → Said
 said y = record { starts = start y 8 Insert 5; steps = step y 8; lists = list y (7 ∷ []); shows = show y 0 }
 
 -- the two refusals, and the tags shown; every word is kept
-unfoldable pub refusing : ℕ → ℕ → List ℕ → Machine → Said
+unfoldable pub refusing : Refusal → Refusal → List ℕ → Machine → Said
 refusing r l ks y =
-    let reply : Reply = record { out = Refuse r; machine = y } in
-    record { starts = reply; steps = reply; lists = record { says = Refused l; words = 7 ∷ [] }; shows = ks }
+    let reply : Reply = record { out = Err r; machine = y } in
+    record { starts = reply; steps = reply; lists = record { says = Err l; words = 7 ∷ [] }; shows = ks }
 
 unfoldable pub spoilt : Machine → Said
-spoilt y = refusing 8 8 [] y
+spoilt y = refusing Spoilt Spoilt [] y
 
 -- sound, with 5 in bucket 0
 unfoldable pub sound_with_5 : Machine → Said
-sound_with_5 y = refusing 4 9 (5 ∷ []) y
+sound_with_5 y = refusing NoTask ShortList (5 ∷ []) y
 
 -- ---- T, H, B, the head and the records last taken, over pools that are right
 

@@ -1,9 +1,10 @@
 -- Rows of the refusals of a step: 8 where its line goes through an empty place, uses a place at or past its node's size or makes a
 -- node of an unlisted size (a 65th tag: FullRows; 7, and 8 before 7: RefusalOrderRows). Nothing changes. Assumes nothing.
-use Rattle.std.specs.Prelude.{◌≡◌, refl, List, [], ◌∷◌, map}
+use Rattle.std.specs.Prelude.{◌≡◌, refl, List, [], ◌∷◌, map, Ok}
+use Rattle.spec.specs.declared.Refusal.TheVariants.{Spoilt}
 use Rattle.spec.specs.declared.Answer.TheVariants.{No, Lost}
-use Rattle.spec.specs.declared.Output.{Output}
-use Rattle.spec.specs.declared.Output.TheVariants.{At}
+use Rattle.spec.specs.Outputs.{Output}
+use Rattle.spec.specs.declared.Progress.TheVariants.{At}
 use Rattle.spec.specs.declared.Task.{Task}
 use Rattle.spec.specs.Machine.{Machine}
 use Rattle.spec.specs.Entries.{step}
@@ -20,7 +21,7 @@ three c =
 
 unfoldable pub through_rows : List Row
 through_rows =
-    map (refused 8 three)
+    map (refused Spoilt three)
     -- t
     (call 3 tag 5 line 13 i 0 own 1 t 0 s 1 b 1 m 1 n 1 new_node 1 new_bucket 1
     ∷ call 3 tag 5 line 15 i 0 own 1 t 0 s 1 b 1 m 1 n 1 new_node 1 new_bucket 1
@@ -92,10 +93,10 @@ out_of c = (step (three c) 0).out
 
 pub sparse_accepted :
     map out_of sparse
-    ≡ At 13 ∷ At 18 ∷ At 17 ∷ At 18 ∷ At 18 ∷ ended No 2
-    ∷ At 39 ∷ At 27 ∷ At 28 ∷ ended Lost 2
-    ∷ At 33 ∷ At 36 ∷ counted No 2 0
-    ∷ At 40 ∷ At 51 ∷ At 44 ∷ At 49 ∷ At 47 ∷ At 48 ∷ At 52 ∷ At 49 ∷ At 50 ∷ At 51 ∷ At 36 ∷ []
+    ≡ Ok (At 13) ∷ Ok (At 18) ∷ Ok (At 17) ∷ Ok (At 18) ∷ Ok (At 18) ∷ ended No 2
+    ∷ Ok (At 39) ∷ Ok (At 27) ∷ Ok (At 28) ∷ ended Lost 2
+    ∷ Ok (At 33) ∷ Ok (At 36) ∷ counted No 2 0
+    ∷ Ok (At 40) ∷ Ok (At 51) ∷ Ok (At 44) ∷ Ok (At 49) ∷ Ok (At 47) ∷ Ok (At 48) ∷ Ok (At 52) ∷ Ok (At 49) ∷ Ok (At 50) ∷ Ok (At 51) ∷ Ok (At 36) ∷ []
 unfolding everything whole_rows three sparse out_of
 sparse_accepted = refl
 
@@ -103,7 +104,7 @@ sparse_accepted = refl
 
 unfoldable pub size_rows : List Row
 size_rows =
-    map (refused 8 three)
+    map (refused Spoilt three)
     -- t's place 2 of two
     (call 1 tag 5 line 39 i 2 own 1 t 2 s 3 b 1 m 1 n 1 new_node 1 new_bucket 1
     ∷ call 1 tag 5 line 50 i 2 own 1 t 2 s 3 b 1 m 1 n 1 new_node 1 new_bucket 1

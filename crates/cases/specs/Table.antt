@@ -1,9 +1,10 @@
 -- "The cases marked P stand together as one table proved from the definitions by one statement": `table_holds`. What a row is made
 -- of stands in spec/specs/Rows. Assumes nothing.
-use Rattle.std.specs.Prelude.{◌≡◌, refl, List, [], ◌∷◌, ◌++◌, map}
+use Rattle.std.specs.Prelude.{◌≡◌, refl, List, [], ◌∷◌, ◌++◌, map, Ok, Err}
+use Rattle.spec.specs.declared.Refusal.TheVariants.{NoTask, Running, Idle, NoRecord}
 use Rattle.spec.specs.declared.Answer.TheVariants.{Yes, No, Full, Done, Limit}
 use Rattle.spec.specs.declared.Call.TheVariants.{Insert, Remove, Contains, Grow, Shrink}
-use Rattle.spec.specs.declared.Output.TheVariants.{At, Refuse}
+use Rattle.spec.specs.declared.Progress.TheVariants.{At}
 use Rattle.spec.specs.Lists.{range}
 use Rattle.spec.specs.Machine.{config_of}
 use Rattle.spec.specs.Schedule.{starts, steps}
@@ -20,9 +21,9 @@ table =
       buckets = 4;
       events = calling 0 Insert 17 3 ++ calling 0 Grow 0 7 ++ calling 0 Contains 17 5;
       outs =
-          At 32 ∷ At 33 ∷ At 36 ∷ counted Yes 3 1
-          ∷ At 20 ∷ At 39 ∷ At 40 ∷ At 51 ∷ At 24 ∷ At 27 ∷ At 28 ∷ ended Done 7
-          ∷ At 12 ∷ At 13 ∷ At 15 ∷ At 16 ∷ At 18 ∷ ended Yes 5 ∷ [];
+          Ok (At 32) ∷ Ok (At 33) ∷ Ok (At 36) ∷ counted Yes 3 1
+          ∷ Ok (At 20) ∷ Ok (At 39) ∷ Ok (At 40) ∷ Ok (At 51) ∷ Ok (At 24) ∷ Ok (At 27) ∷ Ok (At 28) ∷ ended Done 7
+          ∷ Ok (At 12) ∷ Ok (At 13) ∷ Ok (At 15) ∷ Ok (At 16) ∷ Ok (At 18) ∷ ended Yes 5 ∷ [];
       head = 1;
       size = 2;
       tags = 17 ∷ [];
@@ -38,7 +39,7 @@ table =
           ++ calling 0 Grow 0 116 ++ calling 0 Grow 0 1;
       outs =
           first_grow ++ grow_filling 1 18 ++ grow_filling 3 32 ++ grow_filling 7 60
-          ++ grow_filling 15 116 ++ At 20 ∷ ended Limit 1 ∷ [];
+          ++ grow_filling 15 116 ++ Ok (At 20) ∷ ended Limit 1 ∷ [];
       head = 1;
       size = 32;
       tags = [];
@@ -50,7 +51,7 @@ table =
       nodes = 2;
       buckets = 1;
       events = calling 0 Shrink 0 1 ++ calling 0 Grow 0 7 ++ calling 0 Shrink 0 1;
-      outs = At 20 ∷ ended Limit 1 ∷ first_grow ++ At 20 ∷ At 39 ∷ [];
+      outs = Ok (At 20) ∷ ended Limit 1 ∷ first_grow ++ Ok (At 20) ∷ Ok (At 39) ∷ [];
       head = 1;
       size = 2;
       tags = [];
@@ -74,7 +75,7 @@ table =
       nodes = 1;
       buckets = 1;
       events = calling 0 Grow 0 7;
-      outs = At 20 ∷ At 39 ∷ At 40 ∷ At 51 ∷ At 24 ∷ At 27 ∷ Refuse 7 ∷ Refuse 7 ∷ [];
+      outs = Ok (At 20) ∷ Ok (At 39) ∷ Ok (At 40) ∷ Ok (At 51) ∷ Ok (At 24) ∷ Ok (At 27) ∷ Err NoRecord ∷ Err NoRecord ∷ [];
       head = 0;
       size = 1;
       tags = [];
@@ -88,10 +89,10 @@ table =
       events = calling 0 Grow 0 7 ++ calling 0 Grow 0 18;
       outs =
           first_grow
-          ++ At 20 ∷ At 39
-          ∷ At 40 ∷ At 43 ∷ At 44 ∷ At 49 ∷ At 50 ∷ At 51 ∷ At 39
-          ∷ At 40 ∷ At 43 ∷ At 44 ∷ At 49 ∷ At 50 ∷ At 51 ∷ At 24
-          ∷ At 27 ∷ At 28 ∷ ended Done 18 ∷ [];
+          ++ Ok (At 20) ∷ Ok (At 39)
+          ∷ Ok (At 40) ∷ Ok (At 43) ∷ Ok (At 44) ∷ Ok (At 49) ∷ Ok (At 50) ∷ Ok (At 51) ∷ Ok (At 39)
+          ∷ Ok (At 40) ∷ Ok (At 43) ∷ Ok (At 44) ∷ Ok (At 49) ∷ Ok (At 50) ∷ Ok (At 51) ∷ Ok (At 24)
+          ∷ Ok (At 27) ∷ Ok (At 28) ∷ ended Done 18 ∷ [];
       head = 0;
       size = 4;
       tags = [];
@@ -106,8 +107,8 @@ table =
       events = waiting ++ calling 1 Insert 5 10 ++ stepping 0 4;
       outs =
           waiting_outs
-          ++ At 32 ∷ At 33 ∷ At 39 ∷ At 40 ∷ At 43 ∷ At 44 ∷ At 49 ∷ At 50 ∷ At 51 ∷ At 36 ∷ counted Yes 10 1
-          ∷ At 32 ∷ At 33 ∷ At 36 ∷ counted No 6 1 ∷ [];
+          ++ Ok (At 32) ∷ Ok (At 33) ∷ Ok (At 39) ∷ Ok (At 40) ∷ Ok (At 43) ∷ Ok (At 44) ∷ Ok (At 49) ∷ Ok (At 50) ∷ Ok (At 51) ∷ Ok (At 36) ∷ counted Yes 10 1
+          ∷ Ok (At 32) ∷ Ok (At 33) ∷ Ok (At 36) ∷ counted No 6 1 ∷ [];
       head = 1;
       size = 2;
       tags = 5 ∷ [];
@@ -121,9 +122,9 @@ table =
       events = waiting ++ calling 1 Insert 5 5 ++ stepping 0 1 ++ stepping 1 5;
       outs =
           waiting_outs
-          ++ At 32 ∷ At 33 ∷ At 39 ∷ At 40 ∷ At 43 ∷ At 44
+          ++ Ok (At 32) ∷ Ok (At 33) ∷ Ok (At 39) ∷ Ok (At 40) ∷ Ok (At 43) ∷ Ok (At 44)
           ∷ counted Yes 3 1
-          ∷ At 49 ∷ At 50 ∷ At 51 ∷ At 36 ∷ counted No 10 1 ∷ [];
+          ∷ Ok (At 49) ∷ Ok (At 50) ∷ Ok (At 51) ∷ Ok (At 36) ∷ counted No 10 1 ∷ [];
       head = 1;
       size = 2;
       tags = 5 ∷ [];
@@ -138,8 +139,8 @@ table =
           starts 0 Insert 0 ∷ starts 0 Insert 0 ∷ steps 1 ∷ steps 8 ∷ starts 8 Grow 0 ∷ []
           ++ stepping 0 3 ++ calling 7 Insert 4294967295 3;
       outs =
-          At 32 ∷ Refuse 5 ∷ Refuse 6 ∷ Refuse 4 ∷ Refuse 4
-          ∷ At 33 ∷ At 36 ∷ counted Yes 3 1 ∷ At 32 ∷ At 33 ∷ At 36 ∷ counted Yes 3 2 ∷ [];
+          Ok (At 32) ∷ Err Running ∷ Err Idle ∷ Err NoTask ∷ Err NoTask
+          ∷ Ok (At 33) ∷ Ok (At 36) ∷ counted Yes 3 1 ∷ Ok (At 32) ∷ Ok (At 33) ∷ Ok (At 36) ∷ counted Yes 3 2 ∷ [];
       head = 0;
       size = 1;
       tags = 0 ∷ 4294967295 ∷ [];

@@ -1,10 +1,10 @@
 -- Rows of sets of version 2 (paper 02, U3): tags whose first digits agree share a place at every size, lines 13, 16, 17, 33, 49 and the
 -- listing go by tag div 10, line 43 by the place's number; the opening's 11 comes after 3 (another version in the state: SpoiltRows). The
 -- crowded set, and the rows that have a name, are in EditRows of `spec`. Assumes nothing.
-use Rattle.std.specs.Prelude.{◌≡◌, refl, List, [], ◌∷◌, ◌++◌, map}
+use Rattle.std.specs.Prelude.{◌≡◌, refl, List, [], ◌∷◌, ◌++◌, map, Ok}
 use Rattle.spec.specs.declared.Answer.TheVariants.{Yes}
 use Rattle.spec.specs.declared.Call.TheVariants.{Insert, Remove, Contains, Grow}
-use Rattle.spec.specs.declared.Output.TheVariants.{At}
+use Rattle.spec.specs.declared.Progress.TheVariants.{At}
 use Rattle.spec.specs.Machine.{config_of, with_version}
 use Rattle.spec.specs.Everything.{everything}
 use Rattle.spec.specs.Rows.{Case, observed, expected, stepping, calling, ended, counted, in_three, gaining, filling, first_grow}
@@ -23,7 +23,7 @@ version_cases =
       nodes = 3;
       buckets = 4;
       events = calling 0 Insert 17 3 ++ calling 0 Grow 0 7 ++ calling 0 Contains 17 5;
-      outs = in_three (counted Yes 3 1) ++ first_grow ++ At 12 ∷ At 13 ∷ At 15 ∷ At 16 ∷ At 18 ∷ ended Yes 5 ∷ [];
+      outs = in_three (counted Yes 3 1) ++ first_grow ++ Ok (At 12) ∷ Ok (At 13) ∷ Ok (At 15) ∷ Ok (At 16) ∷ Ok (At 18) ∷ ended Yes 5 ∷ [];
       head = 1;
       size = 2;
       tags = 17 ∷ [];
@@ -37,8 +37,8 @@ version_cases =
       events = calling 0 Insert 170 3 ++ calling 0 Insert 171 3 ++ calling 0 Grow 0 7 ++ calling 0 Remove 170 10 ++ calling 0 Contains 171 3;
       outs =
           gaining 0 2 ++ first_grow
-          ++ At 32 ∷ At 33 ∷ At 39 ∷ filling ++ At 36 ∷ counted Yes 10 1
-          ∷ At 12 ∷ At 13 ∷ At 18 ∷ ended Yes 3 ∷ [];
+          ++ Ok (At 32) ∷ Ok (At 33) ∷ Ok (At 39) ∷ filling ++ Ok (At 36) ∷ counted Yes 10 1
+          ∷ Ok (At 12) ∷ Ok (At 13) ∷ Ok (At 18) ∷ ended Yes 3 ∷ [];
       head = 1;
       size = 2;
       tags = 171 ∷ [];

@@ -2,29 +2,13 @@
 #![tactic(auto)]
 
 ghost use Rattle.std.specs.Prelude.{◌≡◌, List, ℕ};
-ghost use Rattle.spec.specs.Sound.{sound};
 ghost use Rattle.spec.specs.Entries.{withdrawn, start};
-ghost use Rattle.spec.specs.Machine.{Machine, machine_of};
+ghost use Rattle.spec.specs.Machine.{machine_of};
 ghost use Rattle.soundness.specs.Told.{checked_of};
 ghost use Rattle.lines.specs.Reply.{refusal, Gives};
-ghost use Rattle.checked_start.specs.Barred.{Barred};
 
 use lines::Moved;
-use soundness::Checked;
-use spec::{Call, Config, Output, State};
-
-// The refusal of a start and a step alike, 8 or 4; 0 for none.
-pub fn barred(ok: bool, g: Config, k: u32) -> u32
-    ensures { (y : Machine) → ok ≡ sound y → g ≡ y.state.config → Barred y k result }
-{
-    if !ok {
-        return 8;
-    }
-    if g.tasks <= k {
-        return 4;
-    }
-    0
-}
+use spec::{Call, Config, Progress, Refusal, State, Task};
 
 // Whether tag 0 is withdrawn and the call an insert of it.
 fn withdrawn(g: Config, call: Call, tag: u32) -> bool
@@ -32,24 +16,20 @@ fn withdrawn(g: Config, call: Call, tag: u32) -> bool
 {
     match call {
         Call::Insert => g.zero_withdrawn & (tag == 0),
-        Call::Remove => false,
-        Call::Contains => false,
-        Call::Grow => false,
-        Call::Shrink => false,
+        Call::Remove | Call::Contains | Call::Grow | Call::Shrink => false,
     }
 }
 
 // A refusal, beside the state's numbers.
-pub fn refused(head: u32, node: u32, bucket: u32, why: u32) -> Moved
+pub fn refused(head: u32, node: u32, bucket: u32, why: Refusal) -> Moved
     ensures { (s : State) → s.head ≡ head → s.last_node ≡ node → s.last_bucket ≡ bucket → result ≡ refusal s why }
 {
-    let x = state::idle();
     Moved {
-        out: Output::Refuse(why),
+        out: Err(why),
         head,
         last_node: node,
         last_bucket: bucket,
-        task: x,
+        task: state::idle(),
     }
 }
 
@@ -59,7 +39,7 @@ pub fn start_of(
     head: u32,
     node: u32,
     bucket: u32,
-    d: Checked,
+    d: Option<Task>,
     k: u32,
     call: Call,
     tag: u32,
@@ -67,21 +47,21 @@ pub fn start_of(
     ensures { (s : State) (ns bs : List ℕ) → s.config ≡ g → s.head ≡ head → s.last_node ≡ node → s.last_bucket ≡ bucket
         → d ≡ checked_of (machine_of s ns bs) k → Gives s k result ns bs (start (machine_of s ns bs) k call tag) }
 {
-    let why = barred(d.sound, g, k);
-    if why != 0 {
-        return refused(head, node, bucket, why);
+    let Some(c) = d else {
+        return refused(head, node, bucket, Refusal::Spoilt);
+    };
+    if g.tasks <= k {
+        return refused(head, node, bucket, Refusal::NoTask);
     }
-    let c = d.task;
-    let running = c.running;
-    if running {
-        return refused(head, node, bucket, 5);
+    if c.running {
+        return refused(head, node, bucket, Refusal::Running);
     }
     if withdrawn(g, call, tag) {
-        return refused(head, node, bucket, 14);
+        return refused(head, node, bucket, Refusal::Withdrawn);
     }
     let x = started_task::begun(call, tag);
     Moved {
-        out: Output::At(x.line),
+        out: Ok(Progress::At(x.line)),
         head,
         last_node: node,
         last_bucket: bucket,
@@ -90,9 +70,17 @@ pub fn start_of(
 }
 
 // The same for the state s.
-pub fn start(s: State, d: Checked, k: u32, call: Call, tag: u32) -> Moved
+pub fn start(s: State, d: Option<Task>, k: u32, call: Call, tag: u32) -> Moved
     ensures { (ns bs : List ℕ) → d ≡ checked_of (machine_of s ns bs) k → Gives s k result ns bs (start (machine_of s ns bs) k call tag) }
 {
-    let g = s.config;
-    start_of(g, s.head, s.last_node, s.last_bucket, d, k, call, tag)
+    start_of(
+        s.config,
+        s.head,
+        s.last_node,
+        s.last_bucket,
+        d,
+        k,
+        call,
+        tag,
+    )
 }

@@ -11,22 +11,18 @@ use reference_words::words::{
 // The words of m from `from` on become those of s.
 pub fn load(s: &mut [u32], m: &Memory, from: usize) {
     let a = from % SPAN;
-    let mut i: usize = 0;
-    while i < s.len() {
-        s[i] = get(m, a + i % SPAN);
-        i += 1;
+    for (i, word) in s.iter_mut().enumerate() {
+        *word = get(m, a + i % SPAN);
     }
 }
 
 // Whether the words of s are those of m from `from` on.
 pub fn alike(s: &[u32], m: &Memory, from: usize) -> bool {
     let a = from % SPAN;
-    let mut i: usize = 0;
-    while i < s.len() {
-        if s[i] != get(m, a + i % SPAN) {
+    for (i, word) in s.iter().enumerate() {
+        if *word != get(m, a + i % SPAN) {
             return false;
         }
-        i += 1;
     }
     true
 }

@@ -9,7 +9,7 @@ use reference_words::words::{
     B, CHOSEN, H, HEAD, LAST_BUCKET, LAST_NODE, LENT, Memory, NODE_WORDS, RECORDS, REPLY,
     STATE_END, T, VERSION, ZERO_WITHDRAWN, either, field_at, get, plus,
 };
-use spec::{Answer, Config, Listing, Occupancy, Output, State, Task};
+use spec::{Answer, Config, Listing, Output, Progress, Refusal, State, Task};
 use turns::Turn;
 
 // A word as m had it before the call, and word j of task k's record.
@@ -72,12 +72,10 @@ pub fn state_of(m: &Memory) -> State {
 
 // Whether these words are as they were before the call.
 pub fn is_kept(m: &Memory, from: usize, end: usize) -> bool {
-    let mut at = from;
-    while at < end {
+    for at in from..end {
         if get(m, at) != was(m, at) {
             return false;
         }
-        at += 1;
     }
     true
 }
@@ -105,12 +103,10 @@ fn is_task(m: &Memory, at: usize, c: Task) -> bool {
 }
 
 fn are_tasks(m: &Memory, ts: [Task; 8]) -> bool {
-    let mut k: usize = 0;
-    while k < 8 {
-        if !is_task(m, RECORDS + 13 * k, ts[k]) {
+    for (k, c) in ts.iter().enumerate() {
+        if !is_task(m, RECORDS + 13 * k, *c) {
             return false;
         }
-        k += 1;
     }
     true
 }
@@ -153,26 +149,33 @@ fn answer(a: Answer) -> u32 {
 }
 
 // The number of tags plus 1, 0 where it is not given.
-fn occupancy(o: Occupancy) -> u32 {
+fn occupancy(o: Option<u32>) -> u32 {
     match o {
-        Occupancy::NotGiven => 0,
-        Occupancy::Tags(n) => plus(n, 1),
+        None => 0,
+        Some(n) => plus(n, 1),
     }
 }
 
 // An output as a reply, of a turn with the task that it names plus 1.
 fn output(o: Output, named: u32) -> [u32; 5] {
     match o {
-        Output::At(l) => [0, l, 0, 0, named],
-        Output::End(a, n, f) => [1, answer(a), n as u32, occupancy(f), named],
-        Output::Refuse(r) => [2, r, 0, 0, named],
+        Ok(Progress::At(l)) => [0, l, 0, 0, named],
+        Ok(Progress::End(a, n, f)) => [1, answer(a), n as u32, occupancy(f), named],
+        Err(why) => [2, why.number(), 0, 0, named],
+    }
+}
+
+fn opening(why: Option<Refusal>) -> [u32; 5] {
+    match why {
+        None => [0, 0, 0, 0, 0],
+        Some(refusal) => [2, refusal.number(), 0, 0, 0],
     }
 }
 
 pub fn listing(l: Listing) -> [u32; 5] {
     match l {
-        Listing::Count(c) => [0, c, 0, 0, 0],
-        Listing::Refused(r) => [2, r, 0, 0, 0],
+        Ok(c) => [0, c, 0, 0, 0],
+        Err(why) => [2, why.number(), 0, 0, 0],
     }
 }
 
@@ -180,7 +183,7 @@ fn turn(says: Turn) -> [u32; 5] {
     match says {
         Turn::Idle => [3, 0, 0, 0, 0],
         Turn::Of(k, o) => output(o, plus(k, 1)),
-        Turn::Refused(why) => [2, why, 0, 0, 0],
+        Turn::Refused(why) => [2, why.number(), 0, 0, 0],
     }
 }
 
@@ -192,8 +195,7 @@ pub fn is_stepped(m: &Memory, r: Stepped) -> bool {
 
 pub fn is_opened(m: &Memory, o: Opened) -> bool {
     let s = o.state;
-    let why = o.refusal;
-    is_moved(m, s, [either(why == 0, 0, 2), why, 0, 0, 0])
+    is_moved(m, s, opening(o.refusal))
 }
 
 pub fn is_turned(m: &Memory, r: Turned) -> bool {

@@ -14,14 +14,12 @@ mod vars;
 use reference_words::words::{END, Memory, NOWHERE, WHAT, copy, get};
 
 fn run(text: &[u8], m: &mut Memory, ns: &mut [u32; 2210], bs: &mut [u32; 67650]) {
-    let mut left: u32 = 10000000;
-    while 0 < left {
+    for _ in 0..10000000 {
         script::next(text, m);
         if 10 < get(m, WHAT) {
             return;
         }
         both::call(m, ns, bs);
-        left -= 1;
     }
 }
 

@@ -65,12 +65,10 @@ fn count_at(v: u32, i: u32) -> usize {
 
 fn count(m: &mut Memory, same: bool) {
     let v = get(m, COUNTED);
-    let mut j: u32 = 0;
-    while j < 5 {
+    for j in 0..5 {
         let at = count_at(v, counted(m, same, j));
         let n = plus(get(m, at), 1);
         put(m, at, n);
-        j += 1;
     }
 }
 
@@ -115,10 +113,8 @@ fn cell(i: u32, n: u32) {
 // The counts from an address on, those that are not 0, each as number:count with the number counted from there.
 fn row(m: &Memory, at: usize) {
     let first = at % SPAN;
-    let mut i: u32 = 0;
-    while i < 64 {
+    for i in 0..64 {
         cell(i, get(m, first + i as usize));
-        i += 1;
     }
 }
 
@@ -160,14 +156,11 @@ shows P
 differences R
 |";
     let mut k: u32 = 0;
-    let mut i: usize = 0;
-    while i < texts.len() {
-        let b = texts[i];
-        if (k == n) & (b != b'|') {
-            mark(m, b, v);
+    for b in texts {
+        if (k == n) & (*b != b'|') {
+            mark(m, *b, v);
         }
-        k = plus(k, either(b == b'|', 1, 0));
-        i += 1;
+        k = plus(k, either(*b == b'|', 1, 0));
     }
 }
 

@@ -43,5 +43,4 @@ known (suc (suc zero)) l e = narrow 0 (suc l) l every_line (omega arith) (omega 
 known (suc (suc (suc zero))) l e = narrow 0 (suc l) l every_line (omega arith) (omega arith) calls.freeze_call refl e
 known (suc (suc (suc (suc zero)))) l e = narrow 0 (suc l) l every_line (omega arith) (omega arith) calls.member_call refl e
 known (suc (suc (suc (suc (suc zero))))) l e = narrow 0 (suc l) l every_line (omega arith) (omega arith) calls.response_call refl e
-known (suc (suc (suc (suc (suc (suc n)))))) l e =
-    absurd (tf e (ap (member l) (calls.lines_past (suc (suc (suc (suc (suc (suc n)))))) (omega arith))))
+known (suc (suc (suc (suc (suc (suc n)))))) l e = absurd (tf e refl)

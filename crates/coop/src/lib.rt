@@ -7,17 +7,17 @@ ghost use Rattle.coop_spec.specs.Entries.{start, step};
 ghost use Rattle.coop_lines.specs.Reply.{reply_of};
 
 use coop_lines::Stepped;
-use coop_spec::{Call, State};
+use coop_spec::{Call, Refusal, State};
 
 // Starts a call for task k: of operation n, with a tag.
 pub fn start(s: State, k: u32, call: Call, n: u32, tag: u32, vs: &[u32]) -> Stepped
     ensures { reply_of result vs.now ≡ start (machine_of s vs.now) k call n tag }
 {
     if !coop_sound::sound(s, vs) {
-        return coop_lines::refused(s, 8);
+        return coop_lines::refused(s, Refusal::Spoilt);
     }
     if s.tasks <= k {
-        return coop_lines::refused(s, 4);
+        return coop_lines::refused(s, Refusal::NoTask);
     }
     coop_starts::start_of_task(s, k, call, n, tag)
 }
@@ -27,15 +27,15 @@ pub fn step(s: State, k: u32, vs: &mut [u32]) -> Stepped
     ensures { reply_of result vs.new ≡ step (machine_of s vs.old) k }
 {
     if !coop_sound::sound(s, vs) {
-        return coop_lines::refused(s, 8);
+        return coop_lines::refused(s, Refusal::Spoilt);
     }
     if s.tasks <= k {
-        return coop_lines::refused(s, 4);
+        return coop_lines::refused(s, Refusal::NoTask);
     }
     let c = coop_state::task(s, k);
     let running = c.running;
     if !running {
-        return coop_lines::refused(s, 6);
+        return coop_lines::refused(s, Refusal::Idle);
     }
     let line = c.line;
     if line < 109 {

@@ -1,31 +1,32 @@
 -- Laws of the calls for C: the numbers are small, and what an entry gave put together as the call's definition has it. Assumes nothing.
+use Rattle.std.specs.Prelude.{Ok, Err}
 use Prim.Native.Nat.{ℕ, ◌+◌, ◌*◌, ◌≤◌, ◌<◌}
 use mathlib.Core.Path.{◌≡◌, refl, sym, ap, ◌∙◌}
-use mathlib.Core.Bool.{true, false, not, ◌&&◌}
+use mathlib.Core.Bool.{true, false, ◌&&◌}
 use mathlib.Core.List.{List, []}
 use native.Mathlib.Omega.{arith}
 use borrow.Author.Tests.{eq-eqb, ne_eqb, leb-true, ltb-true, lt-ltb, le-ltb}
 use lib.Dec.{eqb, ltb}
 use lib.ListN.{length, get_or, set, drop, length-take, length-drop}
 use lib.Seq.{get_or-drop}
+use Rattle.coop_spec.specs.declared.Refusal.{Refusal}
 use Rattle.spec.specs.Words.{count, tags, overwrite}
-use Rattle.spec.specs.Sound.{within}
-use Rattle.spec.specs.Entries.{pool_fits}
 use Rattle.laws.specs.Tests.{and2, choose}
 use Rattle.yard_answers.specs.Answers.{open_number}
 use Rattle.yard_answers.specs.CallLaws.{Ready, ready_test, one_word}
 use Rattle.yard_words.proofs.Over.{over_all}
 use Rattle.coop_spec.specs.declared.Call.{Call}
 use Rattle.coop_spec.specs.declared.State.{State}
-use Rattle.coop_spec.specs.declared.Output.{Output}
-use Rattle.coop_spec.specs.declared.Output.TheVariants.{At, End, Refuse}
+use Rattle.coop_spec.specs.Outputs.{Output}
+use Rattle.coop_spec.specs.declared.Progress.TheVariants.{At, End}
 use Rattle.coop_spec.specs.Numbers.{output_words}
 use Rattle.coop_spec.specs.Machine.{Machine, machine_of}
 use Rattle.coop_spec.specs.Words.{tags_of}
 use Rattle.coop_spec.specs.Sound.{version_count, sound}
 use Rattle.coop_spec.specs.Entries.{opening, Reply, start, step}
-use Rattle.coop_laws.specs.Refusals.{opening_refusal, StartRefused, is_8, is_4, is_5_running, is_5_barred, start_refused_iff}
+use Rattle.coop_laws.specs.Refusals.{StartRefused, is_8, is_4, is_5_running, is_5_barred, start_refused_iff}
 use Rattle.coop_laws.specs.Refusals.{StepRefused, is_6, is_8_step, is_7, step_refused_iff}
+use Rattle.coop_laws.specs.RefusalNumbers.{from_1_to_8}
 use Rattle.coop_lines.specs.declared.Stepped.{Stepped}
 use Rattle.coop_lines.specs.Reply.{reply_of}
 use Rattle.coop.proofs.Facts.{bounds, tagged}
@@ -35,52 +36,26 @@ use Rattle.coop_c.specs.Calls.{called, machine_in, c_open, c_reply, c_start, c_s
 
 -- ---- refusals have small numbers
 
-pub opening_small : (t : ℕ) (vs : List ℕ) → (opening t vs).refusal ≤ 255
-opening_small t vs =
-    rw (opening_refusal t vs) (choose Small (not (within 1 8 t)) _ _ (λ p. omega arith) (λ p.
-    choose Small (not (pool_fits 66 1024 (length vs))) _ _ (λ q. omega arith) (λ q. omega arith)))
-  where
-    Small : ℕ → Type 0
-    Small n = n ≤ 255
-
-small_out : (o : Output) → ((r : ℕ) → o ≡ Refuse r → r ≤ 8) → out_number o ≤ 511
+small_out : (o : Output) → out_number o ≤ 511
 unfolding out_number
-small_out (At line) h = omega arith
-small_out (End a own) h = omega arith
-small_out (Refuse r) h = let s = h r refl in omega arith
-
-start_least : {y : Machine} {p : ℕ} {call : Call} {n k r : ℕ} → StartRefused y p call n k r → r ≤ 8
-start_least (is_8 e s) = omega arith
-start_least (is_4 e s b) = omega arith
-start_least (is_5_running e s b x) = omega arith
-start_least (is_5_barred e s b x a) = omega arith
-
-step_least : {y : Machine} {p r : ℕ} → StepRefused y p r → r ≤ 8
-step_least (is_8 e s) = omega arith
-step_least (is_4 e s b) = omega arith
-step_least (is_6 e s b x) = omega arith
-step_least (is_8_step e s b x u) = omega arith
-step_least (is_7 e s b x u h) = omega arith
+small_out (Ok (At line)) = omega arith
+small_out (Ok (End a own)) = omega arith
+small_out (Err r) = let s = from_1_to_8 r in omega arith
 
 pub start_small : (y : Machine) (call : Call) (p n k : ℕ) → out_number (start y p call n k).out ≤ 511
-start_small y call p n k = small_out (start y p call n k).out (λ r e. start_least ((start_refused_iff y p call n k r).0 e))
+start_small y call p n k = small_out (start y p call n k).out
 
 pub step_small : (y : Machine) (p : ℕ) → out_number (step y p).out ≤ 511
-step_small y p = small_out (step y p).out (λ r e. step_least ((step_refused_iff y p r).0 e))
+step_small y p = small_out (step y p).out
 
 -- ---- the answer's words
 
-pub out_written : (o : Output) (out : List ℕ) → length out ≡ 4 → out_number o ≡ 0 → overwrite out 0 (output_words o) ≡ out_left o out
+-- what is no refusal is written, and its number is 0
+pub written : (o : Output) (out : List ℕ) → length out ≡ 4 → ((why : Refusal) → o ≡ Err why → ⊥) → (0 ≡ out_number o) × (overwrite out 0 (output_words o) ≡ out_left o out)
 unfolding out_number out_left
-out_written (At line) out room e = over_all out (output_words (At line)) (sym room)
-out_written (End a own) out room e = over_all out (output_words (End a own)) (sym room)
-out_written (Refuse r) out room e = absurd (omega arith)
-
-pub out_kept : (o : Output) (out : List ℕ) → ¬ (out_number o ≡ 0) → out ≡ out_left o out
-unfolding out_number out_left
-out_kept (At line) out d = absurd (d refl)
-out_kept (End a own) out d = absurd (d refl)
-out_kept (Refuse r) out d = refl
+written (Ok (At line)) out room d = (refl, over_all out (output_words (Ok (At line))) (sym room))
+written (Ok (End a own)) out room d = (refl, over_all out (output_words (Ok (End a own))) (sym room))
+written (Err why) out room d = absurd (d why refl)
 
 -- ---- the calls
 

@@ -1,19 +1,23 @@
 -- Calls of C one after the other, over the words that an opening wrote and with an answer of four words, are a schedule of the definitions: each gives the
 -- number of the schedule's output, and leaves the words of the schedule's machine and of that output. So what is promised of every schedule is promised of
 -- them (`linearizable`, `at_most_once` of coop_linear); none is refused with 8, and with T + 1 versions none with 7. Assumes nothing.
-use Rattle.std.specs.Prelude.{ℕ, ◌+◌, ◌/◌, ◌≤◌, ◌≡◌, refl, true, ◌&&◌, List, [], ◌∷◌, eqb, length}
+use Rattle.std.specs.Prelude.{ℕ, ◌+◌, ◌/◌, ◌≤◌, ◌≡◌, refl, true, ◌&&◌, List, [], ◌∷◌, eqb, length, Ok, Err}
 use Rattle.std.proofs.Common.{ap, ◌∙◌, subst, sym, arith, eq-eqb, ne_eqb}
 use Rattle.std.proofs.Math.Decide.{ℕ_discrete}
 use Rattle.laws.specs.Tests.{and_i}
 use Rattle.yard_answers.specs.Answers.{open_number}
-use Rattle.coop_spec.specs.declared.Output.{Output}
-use Rattle.coop_spec.specs.declared.Output.TheVariants.{At, End, Refuse}
+use Rattle.coop_spec.specs.declared.Refusal.{Refusal}
+use Rattle.coop_spec.specs.declared.Refusal.TheVariants.{NoVersion, Spoilt}
+use Rattle.coop_spec.specs.Outputs.{Output}
+use Rattle.coop_spec.specs.declared.Progress.TheVariants.{At, End}
 use Rattle.coop_spec.specs.declared.State.{State}
 use Rattle.coop_spec.specs.Machine.{Machine, machine_of}
 use Rattle.coop_spec.specs.Entries.{opening, start, step}
 use Rattle.coop_spec.specs.Schedule.{Event, starts, steps, event, run, run_opened, schedule}
 use Rattle.coop_spec.specs.Linearizable.{Never}
+use Rattle.coop_spec.specs.Numbers.{refusal_number}
 use Rattle.coop_laws.specs.Enough.{suffices}
+use Rattle.coop_laws.specs.RefusalNumbers.{same_refusal, from_1_to_8}
 use Rattle.coop_linear.specs.Theorems as theorems
 use Rattle.coop_state_words.specs.StateWords.{state_words, state_fits}
 use Rattle.coop_state_words.specs.RoundTrip.{Stored, state_again, words_fit}
@@ -43,9 +47,9 @@ event_stored y h (steps k) = step_stored y k h
 
 four_left : (o : Output) (out : List ℕ) → length out ≡ 4 → length (out_left o out) ≡ 4
 unfolding out_left
-four_left (At line) out e = refl
-four_left (End a own) out e = refl
-four_left (Refuse r) out e = e
+four_left (Ok (At line)) out e = refl
+four_left (Ok (End a own)) out e = refl
+four_left (Err r) out e = e
 
 module _ (y : Machine) (h : Stored y.state) (out : List ℕ) (room : length out ≡ 4) where
   ready : (state_fits (state_words y.state) && eqb (length out) 4) ≡ true
@@ -75,13 +79,13 @@ abbrev pub NeverGiven : ℕ → List Called → Type 0
 NeverGiven n [] = Unit {0}
 NeverGiven n (x ∷ xs) = (¬ (x.number ≡ n)) × NeverGiven n xs
 
-refusal_given : (o : Output) (r : ℕ) → out_number o ≡ 256 + r → o ≡ Refuse r
+refusal_given : (o : Output) (r : Refusal) → out_number o ≡ 256 + refusal_number r → o ≡ Err r
 unfolding out_number
-refusal_given (At line) r e = absurd (omega arith)
-refusal_given (End a own) r e = absurd (omega arith)
-refusal_given (Refuse s) r e = let same : s ≡ r = omega arith in ap Refuse same
+refusal_given (Ok (At line)) r e = absurd (omega (arith, from_1_to_8 r))
+refusal_given (Ok (End a own)) r e = absurd (omega (arith, from_1_to_8 r))
+refusal_given (Err s) r e = let same : s ≡ r = same_refusal s r (omega arith) in ap Err same
 
-never_given : (es : List Event) (y : Machine) (out : List ℕ) (r : ℕ) → Never r (run y es).outs → NeverGiven (256 + r) (c_replies es y out)
+never_given : (es : List Event) (y : Machine) (out : List ℕ) (r : Refusal) → Never r (run y es).outs → NeverGiven (256 + refusal_number r) (c_replies es y out)
 unfolding run c_replies c_reply
 never_given [] y out r h = h
 never_given (e ∷ es) y out r h =
@@ -119,12 +123,12 @@ module _ (t : ℕ) (w vs out : List ℕ) (long : length w ≡ 397) (room : lengt
     unfolding schedule run_opened
     runs = rw (eq-eqb (opening t vs).refusal 0 not_refused)
 
-    never : (r : ℕ) → Never r (schedule t vs es).outs → NeverGiven (256 + r) calls
+    never : (r : Refusal) → Never r (schedule t vs es).outs → NeverGiven (256 + refusal_number r) calls
     never r h =
-        subst (NeverGiven (256 + r)) (sym calls_are_a_schedule) (never_given es (opening t vs).machine out r (subst (λ x. Never r x.outs) runs h))
+        subst (NeverGiven (256 + refusal_number r)) (sym calls_are_a_schedule) (never_given es (opening t vs).machine out r (subst (λ x. Never r x.outs) runs h))
 
     pub never_8 : NeverGiven 264 calls
-    never_8 = never 8 (theorems.never_8 t vs not_refused es)
+    never_8 = never Spoilt (theorems.never_8 t vs not_refused es)
 
     pub never_7 : t + 1 ≤ length vs / 66 → NeverGiven 263 calls
-    never_7 enough = never 7 (suffices t vs es enough)
+    never_7 enough = never NoVersion (suffices t vs es enough)

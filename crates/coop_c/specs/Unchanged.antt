@@ -1,21 +1,23 @@
 -- "A refusal gives only its number; state and slices keep every word", for the calls of C: a number of 256 or more leaves the words of the state, of the
 -- versions and of the answer as they were. "A refused opening gives a state of all zeros." A show changes no word of the state and the versions.
 -- Assumes nothing.
-use Rattle.std.specs.Prelude.{ℕ, ◌+◌, ◌≤◌, ◌≡◌, refl, true, not, ◌&&◌, length, replicate}
+use Rattle.std.specs.Prelude.{ℕ, ◌+◌, ◌≤◌, ◌≡◌, refl, true, not, ◌&&◌, length, replicate, Ok, Err}
 use Rattle.std.proofs.Math.Path.{ap}
 use Rattle.std.proofs.Common.{◌∙◌, arith, eq-eqb, ne_eqb}
 use mathlib.Core.List.{List, []}
 use Rattle.std.proofs.lemmas.Bool.{not-false}
 use Rattle.std.proofs.Math.Dec.{eqb}
+use Rattle.coop_spec.specs.declared.Refusal.{Refusal}
 use Rattle.spec.specs.Lists.{concat_map, range}
 use Rattle.laws.specs.Tests.{choose, and_left}
 use Rattle.yard_answers.specs.Answers.{open_number}
 use Rattle.yard_answers.specs.CallLaws.{opens_with_0}
 use Rattle.coop_spec.specs.declared.Call.{Call}
-use Rattle.coop_spec.specs.declared.Output.{Output}
-use Rattle.coop_spec.specs.declared.Output.TheVariants.{At, End, Refuse}
+use Rattle.coop_spec.specs.Outputs.{Output}
+use Rattle.coop_spec.specs.declared.Progress.TheVariants.{At, End}
 use Rattle.coop_spec.specs.Machine.{Machine, never_invoked, idle, state_of}
 use Rattle.coop_spec.specs.Entries.{opening, start, step}
+use Rattle.coop_spec.specs.Numbers.{refusal_number}
 use Rattle.coop_laws.specs.Refusals.{refused_opening_changes_nothing, refused_start_changes_nothing, refused_step_changes_nothing}
 use Rattle.coop_state_words.specs.StateWords.{operations_words, tasks_words, state_words, state_fits}
 use Rattle.coop_state_words.specs.RoundTrip.{words_again}
@@ -40,12 +42,12 @@ module _ (w vs out : List ℕ) where
   same_machine fits n z e =
       ap (λ (u : Machine). called n (state_words u.state) u.versions out) e ∙ ap (λ (v : List ℕ). called n v vs out) (words_again w fits)
 
-  reply_kept : state_fits w ≡ true → (o : Output) (z : Machine) → ((r : ℕ) → o ≡ Refuse r → z ≡ y)
+  reply_kept : state_fits w ≡ true → (o : Output) (z : Machine) → ((r : Refusal) → o ≡ Err r → z ≡ y)
       → KeptIfRefused (c_reply (record { out = o; machine = z }) out)
   unfolding c_reply out_number out_left
-  reply_kept fits (At line) z same h = absurd (omega arith)
-  reply_kept fits (End a own) z same h = absurd (omega arith)
-  reply_kept fits (Refuse r) z same h = same_machine fits (256 + r) z (same r refl)
+  reply_kept fits (Ok (At line)) z same h = absurd (omega arith)
+  reply_kept fits (Ok (End a own)) z same h = absurd (omega arith)
+  reply_kept fits (Err r) z same h = same_machine fits (256 + refusal_number r) z (same r refl)
 
   pub refused_start_keeps : (call : Call) (k n tag : ℕ) → 256 ≤ (c_start call w k n tag vs out).number → Kept (c_start call w k n tag vs out)
   unfolding c_start

@@ -25,6 +25,7 @@ const TASK_WORDS: usize = 9;
 // ---- the state that words are
 
 // The operation whose words begin there.
+#[tactic(auto, unfolding(coop_state_words::specs::StateWords::operation_at))]
 fn operation_at(w: &[u32], at: usize) -> Operation
     requires { at + 5 ≤ length w.now }
     ensures { result ≡ operation_at w.now at }
@@ -39,6 +40,7 @@ fn operation_at(w: &[u32], at: usize) -> Operation
 }
 
 // The task whose words begin there.
+#[tactic(auto, unfolding(coop_state_words::specs::StateWords::task_at))]
 fn task_at(w: &[u32], at: usize) -> Task
     requires { at + 9 ≤ length w.now }
     ensures { result ≡ task_at w.now at }
@@ -61,11 +63,9 @@ fn operations_of_words(w: &[u32]) -> [Operation; 64]
     ensures { result ≡ operations_of_words w.now }
 {
     let mut all = [operation_at(w, OPERATIONS); 64];
-    let mut k: usize = 0;
-    while k < 64 {
+    for k in 0..64 {
         let op = operation_at(w, OPERATIONS + OPERATION_WORDS * k);
         all[k] = op;
-        k += 1;
     }
     all
 }
@@ -75,16 +75,15 @@ fn tasks_of_words(w: &[u32]) -> [Task; 8]
     ensures { result ≡ tasks_of_words w.now }
 {
     let mut all = [task_at(w, TASKS); 8];
-    let mut k: usize = 0;
-    while k < 8 {
+    for k in 0..8 {
         let c = task_at(w, TASKS + TASK_WORDS * k);
         all[k] = c;
-        k += 1;
     }
     all
 }
 
 // The state that these words are.
+#[tactic(auto, unfolding(coop_state_words::specs::StateWords::state_of_words))]
 pub fn state_of_words(w: &[u32]) -> State
     requires { length w.now ≡ 397 }
     ensures { result ≡ state_of_words w.now }
@@ -104,6 +103,7 @@ pub fn state_of_words(w: &[u32]) -> State
 
 // ---- whether a state has these words
 
+#[tactic(auto, unfolding(coop_state_words::specs::StateWords::operation_fits, state_words::specs::StateWords::bit_fits))]
 fn operation_fits(w: &[u32], at: usize) -> bool
     requires { at + 5 ≤ length w.now }
     ensures { result ≡ operation_fits w.now at }
@@ -111,6 +111,7 @@ fn operation_fits(w: &[u32], at: usize) -> bool
     (w[at + 2] <= 1) & (w[at + 3] <= 1) & (w[at + 4] <= 1)
 }
 
+#[tactic(auto, unfolding(coop_state_words::specs::StateWords::task_fits, state_words::specs::StateWords::bit_fits, state_words::specs::StateWords::own_fits))]
 fn task_fits(w: &[u32], at: usize) -> bool
     requires { at + 9 ≤ length w.now }
     ensures { result ≡ task_fits w.now at }
@@ -122,41 +123,22 @@ fn operations_fit(w: &[u32]) -> bool
     requires { length w.now ≡ 397 }
     ensures { result ≡ operations_fit w.now }
 {
-    let mut k: usize = 0;
-    while k < 64 {
-        if !operation_fits(w, OPERATIONS + OPERATION_WORDS * k) {
-            return false;
-        }
-        k += 1;
-    }
-    true
+    (0..64).all(|k| operation_fits(w, OPERATIONS + OPERATION_WORDS * k))
 }
 
 fn tasks_fit(w: &[u32]) -> bool
     requires { length w.now ≡ 397 }
     ensures { result ≡ tasks_fit w.now }
 {
-    let mut k: usize = 0;
-    while k < 8 {
-        if !task_fits(w, TASKS + TASK_WORDS * k) {
-            return false;
-        }
-        k += 1;
-    }
-    true
+    (0..8).all(|k| task_fits(w, TASKS + TASK_WORDS * k))
 }
 
 // Whether a state has these words.
+#[tactic(auto, unfolding(coop_state_words::specs::StateWords::state_fits, state_words::specs::StateWords::bit_fits))]
 pub fn state_fits(w: &[u32]) -> bool
     ensures { result ≡ state_fits w.now }
 {
-    if w.len() != STATE_WORDS {
-        return false;
-    }
-    let flag = w[4] <= 1;
-    let operations = operations_fit(w);
-    let tasks = tasks_fit(w);
-    flag & operations & tasks
+    w.len() == STATE_WORDS && (w[4] <= 1) & operations_fit(w) & tasks_fit(w)
 }
 
 // ---- a state's words
@@ -165,52 +147,47 @@ fn put_operation(w: &mut [u32], at: usize, op: Operation)
     requires { at + 5 ≤ length w.old }
     ensures { w.new ≡ overwrite w.old at (operation_words op) }
 {
-    let v = [
+    w[at..at + OPERATION_WORDS].copy_from_slice(&[
         op.kind,
         op.tag,
-        yard_words::bit(op.resp),
-        yard_words::bit(op.done),
-        yard_words::bit(op.returned),
-    ];
-    pool::write_over(&mut w[at..], &v)
+        u32::from(op.resp),
+        u32::from(op.done),
+        u32::from(op.returned),
+    ])
 }
 
 fn put_task(w: &mut [u32], at: usize, c: Task)
     requires { at + 9 ≤ length w.old }
     ensures { w.new ≡ overwrite w.old at (task_words c) }
 {
-    let v = [
-        yard_words::bit(c.running),
+    w[at..at + TASK_WORDS].copy_from_slice(&[
+        u32::from(c.running),
         c.call,
         c.op,
         c.tag,
         c.line,
         c.back,
-        c.own as u32,
+        u32::from(c.own),
         c.o,
         c.helped,
-    ];
-    pool::write_over(&mut w[at..], &v)
+    ])
 }
 
 // The words before a state's operations, from the first on.
+#[tactic(auto, unfolding(spec::specs::Words::overwrite))]
 fn put_first(w: &mut [u32], s: State)
     requires { length w.old ≡ 397 }
     ensures { w.new ≡ overwrite w.old 0 (first_words s) }
 {
-    let v = [s.tasks, s.versions, s.node, s.last, yard_words::bit(s.flag)];
-    pool::write_over(w, &v)
+    w[..OPERATIONS].copy_from_slice(&[s.tasks, s.versions, s.node, s.last, u32::from(s.flag)])
 }
 
 fn put_operations(w: &mut [u32], s: State)
     requires { length w.old ≡ 397 }
     ensures { w.new ≡ overwrite w.old 5 (operations_words s.operation) }
 {
-    let all = s.operation;
-    let mut k: usize = 0;
-    while k < 64 {
-        put_operation(w, OPERATIONS + OPERATION_WORDS * k, all[k]);
-        k += 1;
+    for k in 0..64 {
+        put_operation(w, OPERATIONS + OPERATION_WORDS * k, s.operation[k]);
     }
 }
 
@@ -218,11 +195,8 @@ fn put_tasks(w: &mut [u32], s: State)
     requires { length w.old ≡ 397 }
     ensures { w.new ≡ overwrite w.old 325 (tasks_words s.task) }
 {
-    let all = s.task;
-    let mut k: usize = 0;
-    while k < 8 {
-        put_task(w, TASKS + TASK_WORDS * k, all[k]);
-        k += 1;
+    for k in 0..8 {
+        put_task(w, TASKS + TASK_WORDS * k, s.task[k]);
     }
 }
 

@@ -7,7 +7,7 @@ ghost use Rattle.coop_spec.specs.Entries.{step_running};
 ghost use Rattle.coop_lines.specs.Reply.{reply_of, Ready};
 
 use coop_lines::Stepped;
-use coop_spec::{State, Task};
+use coop_spec::{Refusal, State, Task};
 
 // o <- b.node
 fn line112(s: State, k: u32, c: Task) -> Stepped
@@ -21,7 +21,7 @@ fn line112(s: State, k: u32, c: Task) -> Stepped
 fn op_number(m: u32) -> u32
     ensures { result ≡ m - 2 }
 {
-    if m < 2 { 0 } else { m - 2 }
+    m.saturating_sub(2)
 }
 
 // op <- o.op; by its type where its key is the tag (lines 114 and 115), else by o.set (line 116)
@@ -30,30 +30,31 @@ fn line113(s: State, k: u32, c: Task, vs: &[u32]) -> Stepped
     ensures { reply_of result vs.now ≡ step_running (machine_of s vs.now) k c }
 {
     if c.o == 0 {
-        return coop_lines::refused(s, 8);
+        return coop_lines::refused(s, Refusal::Spoilt);
     }
     let j = c.o - 1;
     let m = coop_pool::op_word(vs, j);
-    let n = op_number(m);
-    let op = coop_state::operation(s, n);
-    let there = 2 <= m;
-    let same = op.tag == c.tag;
-    if there & same {
-        let a = coop_lines::yes_no(op.kind == coop_state::INVOKE_INSERT);
-        return coop_lines::end(s, k, c, a);
+    let op = coop_state::operation(s, op_number(m));
+    if (2 <= m) & (op.tag == c.tag) {
+        return coop_lines::end(
+            s,
+            k,
+            c,
+            coop_lines::yes_no(op.kind == coop_state::INVOKE_INSERT),
+        );
     }
-    let h = coop_pool::has(vs, j, c.tag);
-    let a = coop_lines::yes_no(h);
-    coop_lines::end(s, k, c, a)
+    coop_lines::end(s, k, c, coop_lines::yes_no(coop_pool::has(vs, j, c.tag)))
 }
 
-// A step of a task that stands at one of these lines.
+// A step of a task that stands at one of these lines. (Compiled by itself: in its caller its state would lie on the stack beside that of every other line.)
+#[inline(never)]
 pub fn step(s: State, k: u32, c: Task, vs: &[u32]) -> Stepped
     requires { Ready s vs.now c × (member c.line member_lines ≡ true) }
     ensures { reply_of result vs.now ≡ step_running (machine_of s vs.now) k c }
 {
     if c.line == 112 {
-        return line112(s, k, c);
+        line112(s, k, c)
+    } else {
+        line113(s, k, c, vs)
     }
-    line113(s, k, c, vs)
 }

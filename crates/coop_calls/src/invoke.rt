@@ -7,16 +7,15 @@ ghost use Rattle.coop_spec.specs.Entries.{step_running};
 ghost use Rattle.coop_lines.specs.Reply.{reply_of, Ready};
 
 use coop_lines::Stepped;
-use coop_spec::{Answer, State, Task};
+use coop_spec::{Answer, Refusal, State, Task};
 
 // while b.node.op ≠ ⊥ and op.prio ≠ ∞
 fn line95(s: State, k: u32, c: Task, vs: &[u32]) -> Stepped
     requires { c.line ≡ 95 }
     ensures { reply_of result vs.now ≡ step_running (machine_of s vs.now) k c }
 {
-    let f = coop_lines::frozen(s, vs);
-    let d = coop_lines::own_done(s, c);
-    coop_lines::choose(s, k, c, !f & !d, 96, 107)
+    let goes_on = !coop_lines::frozen(s, vs) & !coop_lines::own_done(s, c);
+    coop_lines::choose(s, k, c, goes_on, 96, 107)
 }
 
 // if b.flag then DOFREEZE(b) (line 97)
@@ -60,7 +59,7 @@ fn line102(s: State, k: u32, c: Task, vs: &mut [u32]) -> Stepped
     ensures { reply_of result vs.new ≡ step_running (machine_of s vs.old) k c }
 {
     if c.o == 0 {
-        return coop_lines::refused(s, 8);
+        return coop_lines::refused(s, Refusal::Spoilt);
     }
     if coop_lines::cas_op(c, vs, c.op + 2) {
         return coop_lines::go_help(s, k, c, 103);
@@ -79,29 +78,19 @@ fn line107(s: State, k: u32, c: Task) -> Stepped
     coop_lines::end(s, k, c, Answer::No)
 }
 
-// A step of a task that stands at one of these lines.
+// A step of a task that stands at one of these lines. (Compiled by itself: in its caller its state would lie on the stack beside that of every other line.)
+#[inline(never)]
 pub fn step(s: State, k: u32, c: Task, vs: &mut [u32]) -> Stepped
     requires { Ready s vs.old c × (member c.line invoke_lines ≡ true) }
     ensures { reply_of result vs.new ≡ step_running (machine_of s vs.old) k c }
 {
-    let line = c.line;
-    if line == 95 {
-        return line95(s, k, c, vs);
+    match c.line {
+        95 => line95(s, k, c, vs),
+        96 => line96(s, k, c),
+        99 => line99(s, k, c),
+        100 => line100(s, k, c, vs),
+        101 => line101(s, k, c),
+        102 => line102(s, k, c, vs),
+        _ => line107(s, k, c),
     }
-    if line == 96 {
-        return line96(s, k, c);
-    }
-    if line == 99 {
-        return line99(s, k, c);
-    }
-    if line == 100 {
-        return line100(s, k, c, vs);
-    }
-    if line == 101 {
-        return line101(s, k, c);
-    }
-    if line == 102 {
-        return line102(s, k, c, vs);
-    }
-    line107(s, k, c)
 }

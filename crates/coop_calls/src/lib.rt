@@ -18,8 +18,7 @@ pub fn line109(s: State, k: u32, c: Task) -> Stepped
     requires { c.line ≡ 109 }
     ensures { (vs : List ℕ) → reply_of result vs ≡ step_running (machine_of s vs) k c }
 {
-    let t = coop_state::with_flag(s);
-    coop_lines::go_line(t, k, c, 120)
+    coop_lines::go_line(coop_state::with_flag(s), k, c, 120)
 }
 
 // GETRESPONSE. return op.resp (line 118)
@@ -27,7 +26,6 @@ pub fn line117(s: State, k: u32, c: Task) -> Stepped
     requires { c.line ≡ 117 }
     ensures { (vs : List ℕ) → reply_of result vs ≡ step_running (machine_of s vs) k c }
 {
-    let op = coop_state::operation(s, c.op);
-    let a = coop_lines::yes_no(op.resp);
-    coop_lines::end(s, k, c, a)
+    let resp = coop_state::operation(s, c.op).resp;
+    coop_lines::end(s, k, c, coop_lines::yes_no(resp))
 }

@@ -1,12 +1,14 @@
 -- Examples for the parts of request U10's claim, each by itself: real time over three calls, each call once, what the atomic bucket answers,
 -- an operation that takes effect twice, refusals, a version with 65 tags, and operations past 63. The claim of a whole schedule is in
 -- OrderExamples. Assumes nothing.
-use Rattle.std.specs.Prelude.{ℕ, ◌≤◌, ◌≡◌, refl, List, [], ◌∷◌, ◌++◌, map, Bool, true, false, ◌||◌, eqb, replicate, if◌then◌else◌}
-use Rattle.std.proofs.Common.{arith}
+use Rattle.std.specs.Prelude.{ℕ, ◌≤◌, ◌≡◌, refl, List, [], ◌∷◌, ◌++◌, map, Bool, true, false, ◌||◌, eqb, replicate, if◌then◌else◌, Ok, Err}
+use Rattle.std.proofs.Common.{arith, ap}
+use Rattle.coop_spec.specs.declared.Refusal.{Refusal}
+use Rattle.coop_spec.specs.declared.Refusal.TheVariants.{NoVersion, Spoilt}
 use Rattle.spec.specs.Lists.{range}
 use Rattle.coop_spec.specs.declared.Answer.TheVariants.{Yes}
 use Rattle.coop_spec.specs.declared.Call.TheVariants.{InvokeInsert, InvokeRemove}
-use Rattle.coop_spec.specs.declared.Output.TheVariants.{At, End, Refuse}
+use Rattle.coop_spec.specs.declared.Progress.TheVariants.{At, End}
 use Rattle.coop_spec.specs.Machine.{Machine, set_task, task_of}
 use Rattle.coop_spec.specs.Entries.{may_start}
 use Rattle.coop_spec.specs.Schedule.{Event}
@@ -19,6 +21,8 @@ use Rattle.coop_spec.specs.Everything.{everything}
 use Rattle.coop_spec.specs.Rows.{calling, stepping}
 use Rattle.coop_spec.specs.LineRows.{task, frz}
 use Rattle.coop_spec.specs.ToldRows.{ended_call, called}
+use Rattle.coop_spec.specs.Outputs.{Output}
+use Rattle.coop_spec.specs.Numbers.{refusal_number}
 use Rattle.coop_cases.specs.SpoiltRows.{base}
 use Rattle.coop_cases.specs.OrderExamples.{not_both, in_one}
 
@@ -171,17 +175,17 @@ number_twice = (λ n. n.0 here, λ n. n.0 (there here), λ n. n.1.0 here)
 
 -- ---- refusals, wherever they stand, and T + 1 versions
 
-other_refusal : (r s : ℕ) → ¬ (r ≡ s) → ¬ (Refuse r ≡ Refuse s)
-other_refusal r s f e = f cc
+other_refusal : (r s : Refusal) → ¬ (refusal_number r ≡ refusal_number s) → ¬ (◌≡◌ {A = Output} (Err r) (Err s))
+other_refusal r s f e = let z : r ≡ s = cc in f (ap refusal_number z)
 
-pub never : Never 8 (At 8 ∷ Refuse 7 ∷ []) × Never 7 (End Yes 7 ∷ Refuse 8 ∷ [])
+pub never : Never Spoilt (Ok (At 8) ∷ Err NoVersion ∷ []) × Never NoVersion (Ok (End Yes 7) ∷ Err Spoilt ∷ [])
 never = (
-  (λ e. (let z : ◌≡◌ {A = ℕ} 0 1 = cc in omega arith), (other_refusal 7 8 (λ e. omega arith), tt)),
-  (λ e. (let z : ◌≡◌ {A = ℕ} 0 1 = cc in omega arith), (other_refusal 8 7 (λ e. omega arith), tt)),
+  (λ e. (let z : ◌≡◌ {A = ℕ} 0 1 = cc in omega arith), (other_refusal NoVersion Spoilt (λ e. omega arith), tt)),
+  (λ e. (let z : ◌≡◌ {A = ℕ} 0 1 = cc in omega arith), (other_refusal Spoilt NoVersion (λ e. omega arith), tt)),
 )
 
 pub refused_somewhere :
-    (¬ Never 8 (Refuse 8 ∷ At 95 ∷ [])) × (¬ Never 8 (At 95 ∷ Refuse 8 ∷ [])) × (¬ Never 7 (At 95 ∷ Refuse 8 ∷ Refuse 7 ∷ At 96 ∷ []))
+    (¬ Never Spoilt (Err Spoilt ∷ Ok (At 95) ∷ [])) × (¬ Never Spoilt (Ok (At 95) ∷ Err Spoilt ∷ [])) × (¬ Never NoVersion (Ok (At 95) ∷ Err Spoilt ∷ Err NoVersion ∷ Ok (At 96) ∷ []))
 refused_somewhere = (λ n. n.0 refl, λ n. n.1.0 refl, λ n. n.1.1.0 refl)
 
 pub versions_for : map enough_versions (1 ∷ 2 ∷ 8 ∷ []) ≡ 2 ∷ 3 ∷ 9 ∷ []

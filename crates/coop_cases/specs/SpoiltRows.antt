@@ -1,11 +1,12 @@
 -- Spoilt memory, a row for each condition of refusal 8, beside memory at the edge that is sound; and the refusals of a step. The machine
 -- has two tasks, two versions and operation 0, an insert of tag 5 that has ended true; the bucket has version 1. Assumes nothing.
-use Rattle.std.specs.Prelude.{ℕ, ◌≡◌, refl, List, [], ◌∷◌, ◌++◌, map, Bool, true, false, replicate, set}
+use Rattle.std.specs.Prelude.{ℕ, ◌≡◌, refl, List, [], ◌∷◌, ◌++◌, map, Bool, true, false, replicate, set, Ok, Err}
+use Rattle.coop_spec.specs.declared.Refusal.TheVariants.{NoVersion, Spoilt}
 use Rattle.spec.specs.Lists.{range}
 use Rattle.coop_spec.specs.declared.Answer.TheVariants.{Yes}
 use Rattle.coop_spec.specs.declared.Call.TheVariants.{Freeze, InvokeInsert}
-use Rattle.coop_spec.specs.declared.Output.{Output}
-use Rattle.coop_spec.specs.declared.Output.TheVariants.{At, End, Refuse}
+use Rattle.coop_spec.specs.Outputs.{Output}
+use Rattle.coop_spec.specs.declared.Progress.TheVariants.{At, End}
 use Rattle.coop_spec.specs.declared.Task.{Task}
 use Rattle.coop_spec.specs.Machine.{Machine, with_state, with_versions, set_operation, set_task, with_own}
 use Rattle.coop_spec.specs.Words.{install, set_op, apply_all}
@@ -98,7 +99,7 @@ unfolding everything stepping calling task inv frz has base with_numbers word op
 each_spoilt = refl
 
 -- 8 comes before 4, 5 and 6
-pub eight_first : ((start (word 0 66) 9 Freeze 0 0).out ≡ Refuse 8) × ((step (word 0 66) 9).out ≡ Refuse 8)
+pub eight_first : ((start (word 0 66) 9 Freeze 0 0).out ≡ Err Spoilt) × ((step (word 0 66) 9).out ≡ Err Spoilt)
 unfolding everything stepping calling base word
 eight_first = (refl, refl)
 
@@ -114,17 +115,17 @@ through =
     inv 100 0 0 0 ∷ inv 102 0 0 0 ∷ has 5 113 0 ∷ frz 122 0 0 0 ∷ frz 123 0 0 0 ∷ frz 130 126 0 0
     ∷ frz 138 126 0 1 ∷ frz 140 126 0 1 ∷ frz 138 126 1 0 ∷ frz 139 126 1 0 ∷ frz 140 126 1 0 ∷ []
 
-pub through_rows : map steps_from through ≡ map (λ c. Refuse 8) through
+pub through_rows : map steps_from through ≡ map (λ c. Err Spoilt) through
 unfolding everything stepping calling task inv frz has base through steps_from
 through_rows = refl
 
 -- 101 and 139 do not go through o; the operation of 101 has been applied, so that it goes round
-pub past_o_rows : map steps_from (inv 101 0 0 0 ∷ frz 139 126 0 1 ∷ []) ≡ At 95 ∷ At 140 ∷ []
+pub past_o_rows : map steps_from (inv 101 0 0 0 ∷ frz 139 126 0 1 ∷ []) ≡ Ok (At 95) ∷ Ok (At 140) ∷ []
 unfolding everything stepping calling task inv frz has base steps_from
 past_o_rows = refl
 
 -- every version is held: 7 at line 140, but only if the bucket still has o
-pub seven_rows : map steps_from (frz 140 126 2 1 ∷ frz 140 126 1 1 ∷ frz 139 126 2 1 ∷ []) ≡ Refuse 7 ∷ At 120 ∷ At 140 ∷ []
+pub seven_rows : map steps_from (frz 140 126 2 1 ∷ frz 140 126 1 1 ∷ frz 139 126 2 1 ∷ []) ≡ Err NoVersion ∷ Ok (At 120) ∷ Ok (At 140) ∷ []
 unfolding everything stepping calling task inv frz has base steps_from
 seven_rows = refl
 
@@ -133,11 +134,11 @@ unfoldable pub full_from : ℕ → Task → Output
 full_from tag c =
     let y = apply_all (install 1 (range tag 64) ∷ set_op 1 2 ∷ []) base in (step (set_task 1 c (set_task 0 (has 5 113 1) y)) 1).out
 
-pub full_rows : map (full_from 10) (frz 140 126 2 1 ∷ frz 140 126 1 1 ∷ []) ++ map (full_from 5) (frz 140 126 2 1 ∷ []) ≡ Refuse 8 ∷ At 120 ∷ Refuse 7 ∷ []
+pub full_rows : map (full_from 10) (frz 140 126 2 1 ∷ frz 140 126 1 1 ∷ []) ++ map (full_from 5) (frz 140 126 2 1 ∷ []) ≡ Err Spoilt ∷ Ok (At 120) ∷ Err NoVersion ∷ []
 unfolding everything stepping calling task inv frz has base full_from
 full_rows = refl
 
 -- own steps stay at 65,535
-pub own_rows : map (λ n. steps_from (with_own n (has 5 113 2))) (0 ∷ 65534 ∷ 65535 ∷ []) ≡ End Yes 1 ∷ End Yes 65535 ∷ End Yes 65535 ∷ []
+pub own_rows : map (λ n. steps_from (with_own n (has 5 113 2))) (0 ∷ 65534 ∷ 65535 ∷ []) ≡ Ok (End Yes 1) ∷ Ok (End Yes 65535) ∷ Ok (End Yes 65535) ∷ []
 unfolding everything stepping calling task inv frz has base steps_from
 own_rows = refl

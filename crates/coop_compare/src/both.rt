@@ -8,7 +8,7 @@ use coop_reference::slices::{copy, get, put};
 use coop_reference::words::{
     ASKED_K, ASKED_N, ASKED_TAG, CALL, VERSION_WORDS, VERSIONS, WHAT, mine,
 };
-use coop_spec::{Call, Output, State};
+use coop_spec::{Call, State};
 use reference_words::words::{SPAN, either};
 
 fn call_of(what: u32) -> Call {
@@ -23,19 +23,17 @@ fn call_of(what: u32) -> Call {
 
 fn versions_are(m: &[u32]) -> bool {
     let n = get(m, VERSION_WORDS);
-    let mut i: u32 = 0;
-    while i < n {
-        if get(m, VERSIONS + i as usize) != get(m, FIRST_VERSIONS + i as usize) {
+    for i in 0..n as usize {
+        if get(m, VERSIONS + i) != get(m, FIRST_VERSIONS + i) {
             return false;
         }
-        i += 1;
     }
     true
 }
 
-fn compare(m: &mut [u32], s: State, o: Output) {
+fn compare(m: &mut [u32], s: State, said: [u32; 3]) {
     coop_reference::act(m);
-    let same = flat::state_is(m, s) & flat::output_is(m, o) & versions_are(m);
+    let same = flat::state_is(m, s) & flat::reply_is(m, said) & versions_are(m);
     put(m, DIFFERS, either(same, 0, 1));
 }
 
@@ -69,23 +67,15 @@ fn start(m: &mut [u32]) {
 }
 
 fn compare_step(m: &mut [u32], r: Stepped) {
-    let s = r.state;
-    let o = r.out;
-    compare(m, s, o);
-}
-
-fn opening(refusal: u32) -> Output {
-    if refusal == 0 {
-        Output::At(0)
-    } else {
-        Output::Refuse(refusal)
-    }
+    compare(m, r.state, flat::output_words(r.out));
 }
 
 fn compare_open(m: &mut [u32], r: Opened) {
-    let s = r.state;
-    let o = opening(r.refusal);
-    compare(m, s, o);
+    let said = match r.refusal {
+        None => [0, 0, 0],
+        Some(refusal) => [2, refusal.number(), 0],
+    };
+    compare(m, r.state, said);
 }
 
 fn open(m: &mut [u32], lent: usize) {

@@ -121,12 +121,10 @@ fn draw(m: &mut [u32], opens: bool) {
 
 // So many random calls as are left.
 pub fn calls(m: &mut [u32]) {
-    let mut left = get(m, LEFT);
-    while 0 < left {
+    for left in (1..=get(m, LEFT)).rev() {
         draw(m, rest(left, get(m, SCHEDULE)) == 0);
         both::call(m);
         report::count(m);
-        left -= 1;
     }
     put(m, LEFT, 0);
 }

@@ -1,7 +1,7 @@
 // The proved bucket's state and output, made of words and compared with words, as the second implementation has them.
 use coop_reference::slices::get;
 use coop_reference::words::{FLAG, LAST, NODE, OPERATIONS, REPLY, T, TASKS, V};
-use coop_spec::{Answer, Operation, Output, State, Task};
+use coop_spec::{Answer, Operation, Output, Progress, State, Task};
 
 fn operation_of(m: &[u32], n: usize) -> Operation {
     let at = OPERATIONS + n % 64 * 5;
@@ -16,11 +16,8 @@ fn operation_of(m: &[u32], n: usize) -> Operation {
 
 fn operations_of(m: &[u32]) -> [Operation; 64] {
     let mut a = [operation_of(m, 0); 64];
-    let mut n: usize = 1;
-    while n < 64 {
-        let x = operation_of(m, n);
-        a[n] = x;
-        n += 1;
+    for (n, x) in a.iter_mut().enumerate() {
+        *x = operation_of(m, n);
     }
     a
 }
@@ -42,11 +39,8 @@ fn task_of(m: &[u32], k: usize) -> Task {
 
 fn tasks_of(m: &[u32]) -> [Task; 8] {
     let mut a = [task_of(m, 0); 8];
-    let mut k: usize = 1;
-    while k < 8 {
-        let x = task_of(m, k);
-        a[k] = x;
-        k += 1;
+    for (k, x) in a.iter_mut().enumerate() {
+        *x = task_of(m, k);
     }
     a
 }
@@ -63,40 +57,20 @@ pub fn state_of(m: &[u32]) -> State {
     }
 }
 
-fn operation_is(m: &[u32], n: usize, x: Operation) -> bool {
-    let y = operation_of(m, n);
-    (x.kind == y.kind)
-        & (x.tag == y.tag)
-        & (x.resp == y.resp)
-        & (x.done == y.done)
-        & (x.returned == y.returned)
-}
-
 fn operations_are(m: &[u32], a: [Operation; 64]) -> bool {
-    let mut n: usize = 0;
-    while n < 64 {
-        if !operation_is(m, n, a[n]) {
+    for (n, x) in a.iter().enumerate() {
+        if *x != operation_of(m, n) {
             return false;
         }
-        n += 1;
     }
     true
 }
 
-fn task_is(m: &[u32], k: usize, x: Task) -> bool {
-    let y = task_of(m, k);
-    let asked = (x.running == y.running) & (x.call == y.call) & (x.op == y.op) & (x.tag == y.tag);
-    let place = (x.line == y.line) & (x.back == y.back) & (x.own == y.own);
-    asked & place & (x.o == y.o) & (x.helped == y.helped)
-}
-
 fn tasks_are(m: &[u32], a: [Task; 8]) -> bool {
-    let mut k: usize = 0;
-    while k < 8 {
-        if !task_is(m, k, a[k]) {
+    for (k, x) in a.iter().enumerate() {
+        if *x != task_of(m, k) {
             return false;
         }
-        k += 1;
     }
     true
 }
@@ -111,22 +85,17 @@ pub fn state_is(m: &[u32], s: State) -> bool {
     sizes & rest & operations_are(m, a) & tasks_are(m, b)
 }
 
-fn reply_is(m: &[u32], kind: u32, value: u32, own: u32) -> bool {
-    (get(m, REPLY) == kind) & (get(m, REPLY + 1) == value) & (get(m, REPLY + 2) == own)
-}
-
-fn end_is(m: &[u32], a: Answer, own: u32) -> bool {
-    match a {
-        Answer::Yes => reply_is(m, 1, 1, own),
-        Answer::No => reply_is(m, 1, 2, own),
-        Answer::Version(v) => reply_is(m, 3, v, own),
-    }
-}
-
-pub fn output_is(m: &[u32], o: Output) -> bool {
+// An output as the words of a reply: 0 and the line; 1 and the answer, 1 or 2, or 3 and the version, with the own steps; 2 and the refusal's number.
+pub fn output_words(o: Output) -> [u32; 3] {
     match o {
-        Output::At(l) => reply_is(m, 0, l, 0),
-        Output::End(a, n) => end_is(m, a, n as u32),
-        Output::Refuse(r) => reply_is(m, 2, r, 0),
+        Ok(Progress::At(l)) => [0, l, 0],
+        Ok(Progress::End(Answer::Yes, n)) => [1, 1, u32::from(n)],
+        Ok(Progress::End(Answer::No, n)) => [1, 2, u32::from(n)],
+        Ok(Progress::End(Answer::Version(v), n)) => [3, v, u32::from(n)],
+        Err(why) => [2, why.number(), 0],
     }
+}
+
+pub fn reply_is(m: &[u32], said: [u32; 3]) -> bool {
+    (get(m, REPLY) == said[0]) & (get(m, REPLY + 1) == said[1]) & (get(m, REPLY + 2) == said[2])
 }

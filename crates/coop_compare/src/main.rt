@@ -24,12 +24,9 @@ fn memory() -> [u32; 284000]
 
 // A byte is printed as it is read, but the end of a row after what came out of it.
 fn run(text: &[u8], m: &mut [u32]) {
-    let mut i: usize = 0;
-    while i < text.len() {
-        let b = text[i];
-        script::take(m, b);
-        io::write_all(1, &[b]);
-        i += 1;
+    for b in text {
+        script::take(m, *b);
+        io::write_all(1, &[*b]);
     }
 }
 

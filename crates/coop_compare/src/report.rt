@@ -56,10 +56,8 @@ fn cell(i: u32, n: u32) {
 fn row(name: &[u8], m: &[u32], r: u32) {
     let first = COUNTS + (r % 8) as usize * 256;
     io::write_all(1, name);
-    let mut i: u32 = 0;
-    while i < 256 {
+    for i in 0..256 {
         cell(i, get(m, first + i as usize));
-        i += 1;
     }
 }
 

@@ -1,43 +1,43 @@
 -- Line 140 takes a version: what it holds, and that HELPFINISH returns after it has been put in. Assumes nothing.
-use Rattle.std.specs.Prelude.{if◌then◌else◌}
+use Rattle.std.specs.Prelude.{not, if◌then◌else◌}
 use mathlib.Core.Path.{◌≡◌, refl}
 use mathlib.Core.List.{List, [], ◌∷◌}
 use mathlib.Core.Bool.{Bool, true, false}
 use Prim.Native.Nat.{ℕ}
 use lib.Dec.{ltb, eqb}
 use lib.ListN.{length}
-use Rattle.laws.specs.Tests.{tf}
 use Rattle.spec.specs.Words.{bucket_of}
+use Rattle.bucket.specs.declared.Bucket.{Bucket}
 use Rattle.coop_spec.specs.declared.Operation.{Operation}
 use Rattle.coop_spec.specs.declared.Task.{Task}
 use Rattle.coop_spec.specs.Machine.{Machine, to_line}
 use Rattle.coop_spec.specs.Words.{applied, Write, install, apply, apply_all}
 use Rattle.coop_spec.specs.Lines.{Effect, on, returns_true, returns}
 use Rattle.coop_spec.specs.Entries.{accept}
-use Rattle.coop_pool.specs.Versions.{made}
+use Rattle.coop_pool.specs.Versions.{has_room, made}
 
 -- ---- what it holds
 
 module _ (q : Operation) (ts : List ℕ) where
-  pub made_full : (made q ts).full ≡ true → ltb 64 (length (applied q ts)) ≡ true
-  unfolding made
-  made_full e = go (ltb 64 (length (applied q ts))) refl e
+  pub no_room : false ≡ has_room q ts → ltb 64 (length (applied q ts)) ≡ true
+  unfolding has_room
+  no_room e = go (ltb 64 (length (applied q ts))) e
     where
-      go : (b : Bool) → ltb 64 (length (applied q ts)) ≡ b → (made q ts).full ≡ true → b ≡ true
-      go true p q = refl
-      go false p q = absurd (tf q (rw p))
+      go : (b : Bool) → false ≡ not b → b ≡ true
+      go true f = refl
+      go false f = cc
 
-  pub record Fits : Type 0 where
-    pub room : ltb 64 (length (applied q ts)) ≡ false
-    pub words : (made q ts).version.words ≡ bucket_of 0 (applied q ts)
-
-  pub made_fits : (made q ts).full ≡ false → Fits
-  unfolding made
-  made_fits e = go (ltb 64 (length (applied q ts))) refl
+  pub room : true ≡ has_room q ts → ltb 64 (length (applied q ts)) ≡ false
+  unfolding has_room
+  room e = go (ltb 64 (length (applied q ts))) e
     where
-      go : (b : Bool) → ltb 64 (length (applied q ts)) ≡ b → Fits
-      go true p = absurd (tf (rw p) e)
-      go false p = record { room = p; words = rw p }
+      go : (b : Bool) → true ≡ not b → b ≡ false
+      go true f = cc
+      go false f = refl
+
+  pub made_words : ltb 64 (length (applied q ts)) ≡ false → (v : Bucket) → v ≡ made q ts → v.words ≡ bucket_of 0 (applied q ts)
+  unfolding made
+  made_words e v f = rw f (rw e refl)
 
 -- ---- a version is put in, and HELPFINISH returns
 

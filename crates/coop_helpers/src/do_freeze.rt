@@ -7,15 +7,14 @@ ghost use Rattle.coop_spec.specs.Entries.{step_running};
 ghost use Rattle.coop_lines.specs.Reply.{reply_of, Ready};
 
 use coop_lines::Stepped;
-use coop_spec::{Answer, State, Task};
+use coop_spec::{Answer, Refusal, State, Task};
 
 // while b.node.op ≠ ⊥
 fn line120(s: State, k: u32, c: Task, vs: &[u32]) -> Stepped
     requires { c.line ≡ 120 }
     ensures { reply_of result vs.now ≡ step_running (machine_of s vs.now) k c }
 {
-    let f = coop_lines::frozen(s, vs);
-    coop_lines::choose(s, k, c, f, 127, 121)
+    coop_lines::choose(s, k, c, coop_lines::frozen(s, vs), 127, 121)
 }
 
 // o <- b.node
@@ -40,7 +39,7 @@ fn line123(s: State, k: u32, c: Task, vs: &mut [u32]) -> Stepped
     ensures { reply_of result vs.new ≡ step_running (machine_of s vs.old) k c }
 {
     if c.o == 0 {
-        return coop_lines::refused(s, 8);
+        return coop_lines::refused(s, Refusal::Spoilt);
     }
     if coop_lines::cas_op(c, vs, 1) {
         return coop_lines::go_line(s, k, c, 127);
@@ -59,23 +58,17 @@ fn line127(s: State, k: u32, c: Task) -> Stepped
     coop_lines::end(s, k, c, Answer::Version(s.node))
 }
 
-// A step of a task that stands at one of these lines.
+// A step of a task that stands at one of these lines. (Compiled by itself: in its caller its state would lie on the stack beside that of every other line.)
+#[inline(never)]
 pub fn step(s: State, k: u32, c: Task, vs: &mut [u32]) -> Stepped
     requires { Ready s vs.old c × (member c.line freeze_lines ≡ true) }
     ensures { reply_of result vs.new ≡ step_running (machine_of s vs.old) k c }
 {
-    let line = c.line;
-    if line == 120 {
-        return line120(s, k, c, vs);
+    match c.line {
+        120 => line120(s, k, c, vs),
+        121 => line121(s, k, c),
+        122 => line122(s, k, c, vs),
+        123 => line123(s, k, c, vs),
+        _ => line127(s, k, c),
     }
-    if line == 121 {
-        return line121(s, k, c);
-    }
-    if line == 122 {
-        return line122(s, k, c, vs);
-    }
-    if line == 123 {
-        return line123(s, k, c, vs);
-    }
-    line127(s, k, c)
 }

@@ -7,7 +7,7 @@ ghost use Rattle.coop_spec.specs.Entries.{step_running};
 ghost use Rattle.coop_lines.specs.Reply.{reply_of, Ready};
 
 use coop_lines::Stepped;
-use coop_spec::{State, Task};
+use coop_spec::{Refusal, State, Task};
 
 // o <- b.node
 fn line129(s: State, k: u32, c: Task) -> Stepped
@@ -23,14 +23,19 @@ fn line130(s: State, k: u32, c: Task, vs: &[u32]) -> Stepped
     ensures { reply_of result vs.now ≡ step_running (machine_of s vs.now) k c }
 {
     if c.o == 0 {
-        return coop_lines::refused(s, 8);
+        return coop_lines::refused(s, Refusal::Spoilt);
     }
     let m = coop_pool::op_word(vs, c.o - 1);
     if 2 <= m {
-        let mut x = c;
-        x.line = 138;
-        x.helped = m - 1;
-        return coop_lines::go(s, k, x);
+        return coop_lines::go(
+            s,
+            k,
+            Task {
+                line: 138,
+                helped: m - 1,
+                ..c
+            },
+        );
     }
     coop_lines::return_to(s, k, c)
 }
@@ -41,13 +46,12 @@ fn line138(s: State, k: u32, c: Task, vs: &[u32]) -> Stepped
     ensures { reply_of result vs.now ≡ step_running (machine_of s vs.now) k c }
 {
     if !coop_lines::both_filled(c) {
-        return coop_lines::refused(s, 8);
+        return coop_lines::refused(s, Refusal::Spoilt);
     }
     let j = pool::number_of(c.o);
     let n = pool::number_of(c.helped);
     let op = coop_state::operation(s, n);
-    let b = coop_pool::responds(op, vs, j);
-    let t = coop_state::set_resp(s, n, b);
+    let t = coop_state::set_resp(s, n, coop_pool::responds(op, vs, j));
     coop_lines::go_with(t, k, c, 139, c.o)
 }
 
@@ -57,7 +61,7 @@ fn line139(s: State, k: u32, c: Task) -> Stepped
     ensures { (vs : List ℕ) → reply_of result vs ≡ step_running (machine_of s vs) k c }
 {
     if c.helped == 0 {
-        return coop_lines::refused(s, 8);
+        return coop_lines::refused(s, Refusal::Spoilt);
     }
     let n = pool::number_of(c.helped);
     let t = coop_state::set_done(s, n);
@@ -70,7 +74,7 @@ fn line140(s: State, k: u32, c: Task, vs: &mut [u32]) -> Stepped
     ensures { reply_of result vs.new ≡ step_running (machine_of s vs.old) k c }
 {
     if !coop_lines::both_filled(c) {
-        return coop_lines::refused(s, 8);
+        return coop_lines::refused(s, Refusal::Spoilt);
     }
     let j = pool::number_of(c.o);
     if s.node != j {
@@ -78,37 +82,28 @@ fn line140(s: State, k: u32, c: Task, vs: &mut [u32]) -> Stepped
     }
     let n = pool::number_of(c.helped);
     let op = coop_state::operation(s, n);
-    let d = coop_pool::made_of(op, vs, j);
-    let full = d.full;
-    if full {
-        return coop_lines::refused(s, 8);
+    if !coop_pool::has_room(op, vs, j) {
+        return coop_lines::refused(s, Refusal::Spoilt);
     }
-    let l = coop_pool::taking::free_version(s);
-    if l == 0 {
-        return coop_lines::refused(s, 7);
-    }
-    let v = d.version;
-    let t = coop_pool::install(s, vs, l - 1, v);
+    let Some(free) = coop_pool::taking::free_version(s) else {
+        return coop_lines::refused(s, Refusal::NoVersion);
+    };
+    let version = coop_pool::made_of(op, vs, j);
+    let t = coop_pool::install(s, vs, free, version);
     coop_lines::return_to(t, k, c)
 }
 
-// A step of a task that stands at one of these lines.
+// A step of a task that stands at one of these lines. (Compiled by itself: in its caller its state would lie on the stack beside that of every other line.)
+#[inline(never)]
 pub fn step(s: State, k: u32, c: Task, vs: &mut [u32]) -> Stepped
     requires { Ready s vs.old c × (member c.line help_lines ≡ true) }
     ensures { reply_of result vs.new ≡ step_running (machine_of s vs.old) k c }
 {
-    let line = c.line;
-    if line == 129 {
-        return line129(s, k, c);
+    match c.line {
+        129 => line129(s, k, c),
+        130 => line130(s, k, c, vs),
+        138 => line138(s, k, c, vs),
+        139 => line139(s, k, c),
+        _ => line140(s, k, c, vs),
     }
-    if line == 130 {
-        return line130(s, k, c, vs);
-    }
-    if line == 138 {
-        return line138(s, k, c, vs);
-    }
-    if line == 139 {
-        return line139(s, k, c);
-    }
-    line140(s, k, c, vs)
 }

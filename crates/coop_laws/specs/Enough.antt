@@ -1,11 +1,12 @@
 -- How many versions always suffice: one more than there are tasks, and no fewer. A step that is refused with 7 finds each version to be the
 -- o of a task (Seven), and no event changes T or the number of versions (Fixed). With T versions a schedule meets 7: each task but one
 -- names a version that the bucket had, one after the other, and the one left stands at line 140. Assumes nothing.
-use Rattle.std.specs.Prelude.{◌*◌, ◌+◌, ◌-◌, ◌/◌, ◌<◌, ◌≤◌, suc, zero, ℕ, Bool, false, not, true, List, [], ◌∷◌, ◌++◌, ◌≡◌, refl, eqb, length, replicate, if◌then◌else◌}
+use Rattle.std.specs.Prelude.{◌*◌, ◌+◌, ◌-◌, ◌/◌, ◌<◌, ◌≤◌, suc, zero, ℕ, Bool, false, not, true, List, [], ◌∷◌, ◌++◌, ◌≡◌, refl, eqb, length, replicate, if◌then◌else◌, Ok, Err}
 use Rattle.std.proofs.Common.{inl, inr, ◌∙◌, ap, arith, eqb-true}
 use Rattle.std.proofs.Math.Decide.{dec_le}
 use Rattle.std.proofs.Math.Nat.{mul-div_cancel_left}
 use Rattle.std.proofs.lemmas.List.{length-replicate}
+use Rattle.coop_spec.specs.declared.Refusal.TheVariants.{NoVersion}
 use Rattle.spec.specs.Entries.{pool_fits}
 use Rattle.spec.specs.Lists.{every, member, range}
 use Rattle.spec.specs.Sound.{within}
@@ -18,33 +19,35 @@ use Rattle.coop_spec.specs.Linearizable.{Never, Suffices, enough_versions}
 use Rattle.coop_spec.specs.Machine.{Machine, state_of}
 use Rattle.coop_spec.specs.Schedule.{Event, event, run, run_opened, schedule, starts, steps}
 use Rattle.coop_spec.specs.declared.Call.TheVariants.{HasMember, InvokeInsert}
-use Rattle.coop_spec.specs.declared.Output.{Output}
+use Rattle.coop_spec.specs.Outputs.{Output}
 use Rattle.coop_laws.specs.Fixed.{event_fixed}
 use Rattle.coop_laws.specs.Refusals.{StartRefused, StepRefused, start_refused_iff, step_refused_iff}
 use Rattle.coop_laws.specs.Seven.{held_by_tasks}
-use Rattle.coop_spec.specs.declared.Output.TheVariants as Outs
+use Rattle.coop_laws.specs.RefusalNumbers.{same_refusal}
+use Rattle.coop_spec.specs.declared.Progress.TheVariants as Outs
+use Rattle.coop_spec.specs.Numbers.{refusal_number}
 
 -- ---- one more than there are tasks
 
-start_not_7 : {y : Machine} {p : ℕ} {call : _} {n k : ℕ} → StartRefused y p call n k 7 → ⊥
-start_not_7 (StartRefused.is_8 e s) = absurd (omega arith)
-start_not_7 (StartRefused.is_4 e s b) = absurd (omega arith)
-start_not_7 (StartRefused.is_5_running e s b r) = absurd (omega arith)
-start_not_7 (StartRefused.is_5_barred e s b r a) = absurd (omega arith)
+start_not_7 : {y : Machine} {p : ℕ} {call : _} {n k : ℕ} → StartRefused y p call n k NoVersion → ⊥
+start_not_7 (StartRefused.is_8 e s) = absurd (omega (arith, ap refusal_number e))
+start_not_7 (StartRefused.is_4 e s b) = absurd (omega (arith, ap refusal_number e))
+start_not_7 (StartRefused.is_5_running e s b r) = absurd (omega (arith, ap refusal_number e))
+start_not_7 (StartRefused.is_5_barred e s b r a) = absurd (omega (arith, ap refusal_number e))
 
-step_not_7 : {y : Machine} {p : ℕ} → y.state.tasks < y.state.versions → StepRefused y p 7 → ⊥
-step_not_7 more (StepRefused.is_8 e s) = absurd (omega arith)
-step_not_7 more (StepRefused.is_4 e s b) = absurd (omega arith)
-step_not_7 more (StepRefused.is_6 e s b r) = absurd (omega arith)
-step_not_7 more (StepRefused.is_8_step e s b r u) = absurd (omega arith)
+step_not_7 : {y : Machine} {p : ℕ} → y.state.tasks < y.state.versions → StepRefused y p NoVersion → ⊥
+step_not_7 more (StepRefused.is_8 e s) = absurd (omega (arith, ap refusal_number e))
+step_not_7 more (StepRefused.is_4 e s b) = absurd (omega (arith, ap refusal_number e))
+step_not_7 more (StepRefused.is_6 e s b r) = absurd (omega (arith, ap refusal_number e))
+step_not_7 more (StepRefused.is_8_step e s b r u) = absurd (omega (arith, ap refusal_number e))
 step_not_7 {y} {p} more (StepRefused.is_7 e s b r u h) = let few = held_by_tasks y s p b h in absurd (omega arith)
 
-event_not_7 : (y : Machine) (e : Event) → y.state.tasks < y.state.versions → ¬ ((event y e).out ≡ Outs.Refuse 7)
+event_not_7 : (y : Machine) (e : Event) → y.state.tasks < y.state.versions → ¬ ((event y e).out ≡ Err NoVersion)
 unfolding event
-event_not_7 y (starts p call n k) more q = start_not_7 ((start_refused_iff y p call n k 7).0 q)
-event_not_7 y (steps p) more q = step_not_7 more ((step_refused_iff y p 7).0 q)
+event_not_7 y (starts p call n k) more q = start_not_7 ((start_refused_iff y p call n k NoVersion).0 q)
+event_not_7 y (steps p) more q = step_not_7 more ((step_refused_iff y p NoVersion).0 q)
 
-run_never_7 : (es : List Event) (y : Machine) → y.state.tasks < y.state.versions → Never 7 (run y es).outs
+run_never_7 : (es : List Event) (y : Machine) → y.state.tasks < y.state.versions → Never NoVersion (run y es).outs
 unfolding run
 run_never_7 [] y more = tt
 run_never_7 (e ∷ es) y more =
@@ -59,7 +62,7 @@ suffices t ws es enough = go (not (within 1 8 t)) (not (pool_fits 66 1024 (lengt
     fresh = fresh_machine t (length ws / 66)
 
     go : (a b : Bool)
-        → Never 7 (run_opened (if a then not_opened 1 ws else if b then not_opened 3 ws else record { refusal = 0; machine = fresh }) es).outs
+        → Never NoVersion (run_opened (if a then not_opened 1 ws else if b then not_opened 3 ws else record { refusal = 0; machine = fresh }) es).outs
     go true b = tt
     go false true = tt
     go false false = run_never_7 es fresh (omega arith)
@@ -78,16 +81,16 @@ crowded t = named_by (t - 1) ++ calling 0 InvokeInsert t t 11
 -- the first refusal is a 7
 unfoldable refused_7 : List Output → Bool
 refused_7 [] = false
-refused_7 (Outs.At l ∷ os) = refused_7 os
-refused_7 (Outs.End a own ∷ os) = refused_7 os
-refused_7 (Outs.Refuse r ∷ os) = eqb r 7
+refused_7 (Ok (Outs.At l) ∷ os) = refused_7 os
+refused_7 (Ok (Outs.End a own) ∷ os) = refused_7 os
+refused_7 (Err r ∷ os) = eqb (refusal_number r) 7
 
-not_never : (os : List Output) → refused_7 os ≡ true → Never 7 os → ⊥
+not_never : (os : List Output) → refused_7 os ≡ true → Never NoVersion os → ⊥
 unfolding refused_7
 not_never [] e n = tf e refl
-not_never (Outs.At l ∷ os) e n = not_never os e n.1
-not_never (Outs.End a own ∷ os) e n = not_never os e n.1
-not_never (Outs.Refuse r ∷ os) e n = n.0 (ap Outs.Refuse (eqb-true r 7 e))
+not_never (Ok (Outs.At l) ∷ os) e n = not_never os e n.1
+not_never (Ok (Outs.End a own) ∷ os) e n = not_never os e n.1
+not_never (Err r ∷ os) e n = n.0 (ap Err (same_refusal r NoVersion (eqb-true (refusal_number r) 7 e)))
 
 -- with T versions, whatever they held
 unfoldable meets_7 : ℕ → Bool

@@ -1,3 +1,4 @@
+pub mod RefusalNumbers
 pub mod Pigeonholes
 pub mod VersionWords
 pub mod Held

@@ -1,10 +1,12 @@
 -- "Refusals 4 to 8 in their meaning there": each is given exactly under its condition, and a refused start or step changes nothing. Of any
 -- memory, sound or not. Assumes nothing.
-use Rattle.std.specs.Prelude.{◌+◌, ◌/◌, ◌<◌, ◌≤◌, min, ℕ, Bool, ◌||◌, true, List, ◌↔◌, ◌⊎◌, ◌≡◌, refl, eqb, ltb, length, if◌then◌else◌}
+use Rattle.std.specs.Prelude.{◌+◌, ◌/◌, ◌<◌, ◌≤◌, min, ℕ, Bool, ◌||◌, true, List, ◌↔◌, ◌⊎◌, ◌≡◌, refl, eqb, ltb, length, if◌then◌else◌, Ok, Err}
 use Rattle.std.proofs.Math.Bool.{false, not}
 use Rattle.std.proofs.Math.Logic.{inl, inr}
 use Rattle.std.proofs.Common.{sym, arith}
 use borrow.Author.Tests.{eq-eqb, eqb-true, le-ltb, lt-ltb, ltb-false, ltb-true, not-false, not-true}
+use Rattle.coop_spec.specs.declared.Refusal.{Refusal}
+use Rattle.coop_spec.specs.declared.Refusal.TheVariants.{NoTask, NotStarted, Idle, NoVersion, Spoilt}
 use Rattle.spec.specs.Entries.{pool_fits}
 use Rattle.spec.specs.Sound.{within}
 use Rattle.laws.specs.Tests.{and_i, and_left, and_right, bool?, choose, or_e, or_l, or_r, tf}
@@ -19,19 +21,20 @@ use Rattle.coop_spec.specs.declared.Call.{Call}
 use Rattle.coop_spec.specs.declared.Call.TheVariants.{Freeze, GetResponse, HasMember, InvokeInsert, InvokeRemove}
 use Rattle.coop_spec.specs.declared.Operation.{Operation}
 use Rattle.coop_laws.specs.Seven.{AllHeld, means_seven, seven_means}
-use Rattle.coop_spec.specs.declared.Output.TheVariants as Outs
+use Rattle.coop_spec.specs.declared.Progress.TheVariants as Outs
+use Rattle.coop_spec.specs.Outputs.{Output}
 
-at_not_refused : {l r : ℕ} → Outs.At l ≡ Outs.Refuse r → ⊥
+at_not_refused : {l : ℕ} {r : Refusal} → ◌≡◌ {A = Output} (Ok (Outs.At l)) (Err r) → ⊥
 at_not_refused e = let z : ◌≡◌ {A = ℕ} 0 1 = cc in omega arith
 
-refusal_same : {r s : ℕ} → Outs.Refuse r ≡ Outs.Refuse s → r ≡ s
+refusal_same : {r s : Refusal} → ◌≡◌ {A = Output} (Err r) (Err s) → r ≡ s
 refusal_same e = cc
 
-accept_not_refused : (y : Machine) (p own : ℕ) (e : Effect) {r : ℕ} → (accept y p own e).out ≡ Outs.Refuse r → ⊥
+accept_not_refused : (y : Machine) (p own : ℕ) (e : Effect) {r : Refusal} → (accept y p own e).out ≡ Err r → ⊥
 unfolding accept finish
 accept_not_refused y p own e h = go e.next h
   where
-    go : (n : Next) {r : ℕ} → (finish (apply_all e.writes y) p (min (own + 1) 65535) n).out ≡ Outs.Refuse r → ⊥
+    go : (n : Next) {r : Refusal} → (finish (apply_all e.writes y) p (min (own + 1) 65535) n).out ≡ Err r → ⊥
     go (on c) h = at_not_refused h
     go (ends a) h = let z : ◌≡◌ {A = ℕ} 0 1 = cc in omega arith
 
@@ -106,15 +109,15 @@ allowed_iff y GetResponse n k = (
 )
 
 -- 8, 4, 5
-pub data StartRefused (y : Machine) (p : ℕ) (call : Call) (n k r : ℕ) : Type 0 where
-  is_8 : r ≡ 8 → sound y ≡ false → StartRefused y p call n k r
-  is_4 : r ≡ 4 → sound y ≡ true → y.state.tasks ≤ p → StartRefused y p call n k r
-  is_5_running : r ≡ 5 → sound y ≡ true → p < y.state.tasks → (task_of y p).running ≡ true → StartRefused y p call n k r
-  is_5_barred : r ≡ 5 → sound y ≡ true → p < y.state.tasks → (task_of y p).running ≡ false → ¬ Allowed y call n k
+pub data StartRefused (y : Machine) (p : ℕ) (call : Call) (n k : ℕ) (r : Refusal) : Type 0 where
+  is_8 : r ≡ Spoilt → sound y ≡ false → StartRefused y p call n k r
+  is_4 : r ≡ NoTask → sound y ≡ true → y.state.tasks ≤ p → StartRefused y p call n k r
+  is_5_running : r ≡ NotStarted → sound y ≡ true → p < y.state.tasks → (task_of y p).running ≡ true → StartRefused y p call n k r
+  is_5_barred : r ≡ NotStarted → sound y ≡ true → p < y.state.tasks → (task_of y p).running ≡ false → ¬ Allowed y call n k
       → StartRefused y p call n k r
 
-module _ (y : Machine) (p : ℕ) (call : Call) (n k r : ℕ) where
-  start_means : (start y p call n k).out ≡ Outs.Refuse r → StartRefused y p call n k r
+module _ (y : Machine) (p : ℕ) (call : Call) (n k : ℕ) (r : Refusal) where
+  start_means : (start y p call n k).out ≡ Err r → StartRefused y p call n k r
   unfolding start refuse
   start_means =
       choose P (not (sound y)) _ _ (λ a e. is_8 (sym (refusal_same e)) (not-true (sound y) a))
@@ -125,9 +128,9 @@ module _ (y : Machine) (p : ℕ) (call : Call) (n k r : ℕ) where
       (λ c e. absurd (at_not_refused e))))
     where
       P : Reply → Type 0
-      P m = m.out ≡ Outs.Refuse r → StartRefused y p call n k r
+      P m = m.out ≡ Err r → StartRefused y p call n k r
 
-      five : sound y ≡ true → p < y.state.tasks → ((task_of y p).running || not (may_start y call n k)) ≡ true → r ≡ 5
+      five : sound y ≡ true → p < y.state.tasks → ((task_of y p).running || not (may_start y call n k)) ≡ true → r ≡ NotStarted
           → StartRefused y p call n k r
       five s b c e = go (bool? (task_of y p).running)
         where
@@ -138,7 +141,7 @@ module _ (y : Machine) (p : ℕ) (call : Call) (n k r : ℕ) where
             | inr z ↦ is_5_barred e s b x (λ a. tf ((allowed_iff y call n k).1 a) (not-true (may_start y call n k) z))
           ]
 
-  means_start : StartRefused y p call n k r → (start y p call n k).out ≡ Outs.Refuse r
+  means_start : StartRefused y p call n k r → (start y p call n k).out ≡ Err r
   unfolding start refuse
   means_start (is_8 e s) = rw (e, s)
   means_start (is_4 e s b) = rw (e, s, le-ltb p y.state.tasks b)
@@ -149,10 +152,10 @@ module _ (y : Machine) (p : ℕ) (call : Call) (n k r : ℕ) where
       barred (inl z) = absurd (a ((allowed_iff y call n k).0 z))
       barred (inr z) = z
 
-  pub start_refused_iff : ((start y p call n k).out ≡ Outs.Refuse r) ↔ StartRefused y p call n k r
+  pub start_refused_iff : ((start y p call n k).out ≡ Err r) ↔ StartRefused y p call n k r
   start_refused_iff = (start_means, means_start)
 
-  pub refused_start_changes_nothing : (start y p call n k).out ≡ Outs.Refuse r → (start y p call n k).machine ≡ y
+  pub refused_start_changes_nothing : (start y p call n k).out ≡ Err r → (start y p call n k).machine ≡ y
   unfolding start refuse
   refused_start_changes_nothing =
       choose P (not (sound y)) _ _ (λ a e. refl)
@@ -160,21 +163,21 @@ module _ (y : Machine) (p : ℕ) (call : Call) (n k r : ℕ) where
       (λ b. choose P ((task_of y p).running || not (may_start y call n k)) _ _ (λ c e. refl) (λ c e. absurd (at_not_refused e))))
     where
       P : Reply → Type 0
-      P m = m.out ≡ Outs.Refuse r → m.machine ≡ y
+      P m = m.out ≡ Err r → m.machine ≡ y
 
 -- ---- steps: 8, 4, 6, 8 of the step, 7
 
-pub data StepRefused (y : Machine) (p r : ℕ) : Type 0 where
-  is_8 : r ≡ 8 → sound y ≡ false → StepRefused y p r
-  is_4 : r ≡ 4 → sound y ≡ true → y.state.tasks ≤ p → StepRefused y p r
-  is_6 : r ≡ 6 → sound y ≡ true → p < y.state.tasks → (task_of y p).running ≡ false → StepRefused y p r
-  is_8_step : r ≡ 8 → sound y ≡ true → p < y.state.tasks → (task_of y p).running ≡ true → unsound_step y (task_of y p) ≡ true
+pub data StepRefused (y : Machine) (p : ℕ) (r : Refusal) : Type 0 where
+  is_8 : r ≡ Spoilt → sound y ≡ false → StepRefused y p r
+  is_4 : r ≡ NoTask → sound y ≡ true → y.state.tasks ≤ p → StepRefused y p r
+  is_6 : r ≡ Idle → sound y ≡ true → p < y.state.tasks → (task_of y p).running ≡ false → StepRefused y p r
+  is_8_step : r ≡ Spoilt → sound y ≡ true → p < y.state.tasks → (task_of y p).running ≡ true → unsound_step y (task_of y p) ≡ true
       → StepRefused y p r
-  is_7 : r ≡ 7 → sound y ≡ true → p < y.state.tasks → (task_of y p).running ≡ true → unsound_step y (task_of y p) ≡ false
+  is_7 : r ≡ NoVersion → sound y ≡ true → p < y.state.tasks → (task_of y p).running ≡ true → unsound_step y (task_of y p) ≡ false
       → AllHeld y (task_of y p) → StepRefused y p r
 
-module _ (y : Machine) (p r : ℕ) where
-  step_means : (step y p).out ≡ Outs.Refuse r → StepRefused y p r
+module _ (y : Machine) (p : ℕ) (r : Refusal) where
+  step_means : (step y p).out ≡ Err r → StepRefused y p r
   unfolding step step_running refuse
   step_means =
       choose P (not (sound y)) _ _ (λ a e. is_8 (sym (refusal_same e)) (not-true (sound y) a))
@@ -188,7 +191,7 @@ module _ (y : Machine) (p r : ℕ) where
       (λ f e. absurd (accept_not_refused y p (task_of y p).own (effect y (task_of y p)) e))))))
     where
       P : Reply → Type 0
-      P m = m.out ≡ Outs.Refuse r → StepRefused y p r
+      P m = m.out ≡ Err r → StepRefused y p r
 
       sound_so : not (sound y) ≡ false → sound y ≡ true
       sound_so a = not-false (sound y) a
@@ -199,7 +202,7 @@ module _ (y : Machine) (p r : ℕ) where
       runs : not (task_of y p).running ≡ false → (task_of y p).running ≡ true
       runs c = not-false (task_of y p).running c
 
-  means_step : StepRefused y p r → (step y p).out ≡ Outs.Refuse r
+  means_step : StepRefused y p r → (step y p).out ≡ Err r
   unfolding step step_running refuse
   means_step (is_8 e s) = rw (e, s)
   means_step (is_4 e s b) = rw (e, s, le-ltb p y.state.tasks b)
@@ -207,10 +210,10 @@ module _ (y : Machine) (p r : ℕ) where
   means_step (is_8_step e s b x u) = rw (u, e, s, lt-ltb p y.state.tasks b, x)
   means_step (is_7 e s b x u h) = rw (u, means_seven y s (task_of y p) h, e, s, lt-ltb p y.state.tasks b, x)
 
-  pub step_refused_iff : ((step y p).out ≡ Outs.Refuse r) ↔ StepRefused y p r
+  pub step_refused_iff : ((step y p).out ≡ Err r) ↔ StepRefused y p r
   step_refused_iff = (step_means, means_step)
 
-  pub refused_step_changes_nothing : (step y p).out ≡ Outs.Refuse r → (step y p).machine ≡ y
+  pub refused_step_changes_nothing : (step y p).out ≡ Err r → (step y p).machine ≡ y
   unfolding step step_running refuse
   refused_step_changes_nothing =
       choose P (not (sound y)) _ _ (λ a e. refl)
@@ -221,4 +224,4 @@ module _ (y : Machine) (p r : ℕ) where
       (λ f e. absurd (accept_not_refused y p (task_of y p).own (effect y (task_of y p)) e))))))
     where
       P : Reply → Type 0
-      P m = m.out ≡ Outs.Refuse r → m.machine ≡ y
+      P m = m.out ≡ Err r → m.machine ≡ y

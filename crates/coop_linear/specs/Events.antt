@@ -1,6 +1,6 @@
 -- One event of a schedule, accepted or refused, is one transition of the model, and is not refused with 8. Assumes nothing.
 use Prim.Native.Nat.{◌<◌, suc, ℕ}
-use Rattle.std.specs.Prelude.{Bool, ◌||◌, false, true, List, ltb, if◌then◌else◌}
+use Rattle.std.specs.Prelude.{Bool, ◌||◌, false, true, List, ltb, if◌then◌else◌, Ok, Err}
 use Rattle.std.proofs.Math.Bool.{not}
 use Rattle.std.proofs.Common.{inr, ◌∙◌, subst, le_refl}
 use Rattle.std.proofs.Math.Path.{◌≡◌, ap, refl, sym}
@@ -9,6 +9,7 @@ use native.Mathlib.Omega.{arith}
 use borrow.Author.Tests.{eq-eqb, ltb-true, ne_eqb, not-false, not-true}
 use Rattle.std.proofs.Math.Dec.{eqb}
 use Rattle.laws.specs.Tests.{At, choose, hit, miss, or_none, tf}
+use Rattle.coop_spec.specs.declared.Refusal.{Refusal}
 use Rattle.coop_spec.specs.Atomic.{AtomicCall, Operations, changed}
 use Rattle.coop_spec.specs.Entries.{Reply, accept, fixing, may_start, refuse, start, started, step, step_running}
 use Rattle.coop_spec.specs.History.{History, Occurrence, Started, atomic_call, extended, note, result_of, tell}
@@ -18,7 +19,7 @@ use Rattle.coop_spec.specs.Schedule.{Event, event, starts, steps}
 use Rattle.coop_spec.specs.Sound.{sound}
 use Rattle.coop_spec.specs.StepRefusals.{all_held, unsound_step}
 use Rattle.coop_spec.specs.declared.Call.{Call}
-use Rattle.coop_spec.specs.declared.Output.{Output}
+use Rattle.coop_spec.specs.Outputs.{Output}
 use Rattle.coop_spec.specs.declared.Task.{Task}
 use Rattle.coop_linear.specs.Effects.{Claimed, Effects, Installed, claimed_next, installed_next, no_effects}
 use Rattle.coop_model.specs.Functions.{changed_at, changed_other, changed_same}
@@ -35,7 +36,9 @@ use Rattle.coop_linear.specs.StepOutcome.{Stepped, call_ended, went_on}
 use Rattle.coop_linear.specs.StepSimulated.{step_simulated}
 use Rattle.coop_linear.specs.TaskImages.{idle_image, runs_image}
 use Rattle.coop_laws.specs.Fixed.{Agrees}
-use Rattle.coop_spec.specs.declared.Output.TheVariants as Outs
+use Rattle.coop_laws.specs.RefusalNumbers.{apart}
+use Rattle.coop_spec.specs.declared.Progress.TheVariants as Outs
+use Rattle.coop_spec.specs.declared.Refusal.TheVariants.{NoTask, NotStarted, Idle, NoVersion, Spoilt}
 
 -- ---- before event n: what is told so far, and the configuration of the model that the words simulate
 
@@ -56,7 +59,7 @@ runs_same e = cc
 -- ---- one event
 
 abbrev pub After : Operations → ℕ → History → Event → Reply → Type 0
-After T n s e m = Before T (suc n) (extended n s e m) × (¬ (m.out ≡ Outs.Refuse 8))
+After T n s e m = Before T (suc n) (extended n s e m) × (¬ (m.out ≡ Err Spoilt))
 
 module _ {T : Operations} {n : ℕ} {s : History} (b : Before T n s) where
   abbrev y : Machine
@@ -76,17 +79,17 @@ module _ {T : Operations} {n : ℕ} {s : History} (b : Before T n s) where
   same_effects : Effects s.machine s.machine b.configuration.heap b.configuration.heap
   same_effects = no_effects (λ v m e. e) (le_refl _) refl refl
 
-  note_refused : (e : Event) (r q : ℕ) → note n s.last e (Outs.Refuse r) q ≡ s.last q
+  note_refused : (e : Event) (r : Refusal) (q : ℕ) → note n s.last e (Err r) q ≡ s.last q
   unfolding note
   note_refused (starts p call i k) r q = refl
   note_refused (steps p) r q = refl
 
-  tell_refused : (e : Event) (r : ℕ) → tell n s.last s.ended e (Outs.Refuse r) s.machine ≡ s.ended
+  tell_refused : (e : Event) (r : Refusal) → tell n s.last s.ended e (Err r) s.machine ≡ s.ended
   unfolding tell
   tell_refused (starts p call i k) r = refl
   tell_refused (steps p) r = refl
 
-  refused_event : (e : Event) (r : ℕ) → ¬ (r ≡ 8) → After T n s e (refuse r s.machine)
+  refused_event : (e : Event) (r : Refusal) → ¬ (r ≡ Spoilt) → After T n s e (refuse r s.machine)
   unfolding refuse extended
   refused_event e r d = (
     record {
@@ -114,7 +117,7 @@ module _ {T : Operations} {n : ℕ} {s : History} (b : Before T n s) where
 
     started_next : Agrees T (set_task p (started call i k) (fixing s.machine call i k))
         → After T n s (starts p call i k)
-        (record { out = Outs.At (started call i k).line; machine = set_task p (started call i k) (fixing s.machine call i k) })
+        (record { out = Ok (Outs.At (started call i k).line); machine = set_task p (started call i k) (fixing s.machine call i k) })
     unfolding extended note tell set_task with_task with_state operation_of
     started_next agrees =
         let r = start_simulated b.sim p at_rest below call i k ok agrees in (
@@ -192,7 +195,7 @@ module _ {T : Operations} {n : ℕ} {s : History} (b : Before T n s) where
         called q d f (hit e a) = absurd (not_running (sym (ap call_at a) ∙ f))
         called q d f (miss e a) = b.call≡ q d (sym (ap call_at a) ∙ f)
 
-        told : tell n s.last s.ended (steps p) (Outs.End a own) m.machine ≡ (after_end b.configuration p g c (result_of m.machine a)).ended
+        told : tell n s.last s.ended (steps p) (Ok (Outs.End a own)) m.machine ≡ (after_end b.configuration p g c (result_of m.machine a)).ended
         told = rw (b.start≡ p, b.call≡ p c runs≡, b.ended, b.clock)
 
   -- what the line of a running task does
@@ -208,7 +211,7 @@ module _ {T : Operations} {n : ℕ} {s : History} (b : Before T n s) where
 
   -- a step is refused, and not with 8, or its line is done
   pub data StepView (p : ℕ) : Reply → Type 0 where
-    step_refused : (r : ℕ) → ¬ (r ≡ 8) → StepView p (refuse r s.machine)
+    step_refused : (r : Refusal) → ¬ (r ≡ Spoilt) → StepView p (refuse r s.machine)
     line_done : (task_of s.machine p).running ≡ true → all_held s.machine (task_of s.machine p) ≡ false
         → Does b.sim.rep (b.sim.images p).0 (b.configuration.position p) (effect s.machine (task_of s.machine p))
         → StepView p (accept s.machine p (task_of s.machine p).own (effect s.machine (task_of s.machine p)))
@@ -220,10 +223,10 @@ module _ {T : Operations} {n : ℕ} {s : History} (b : Before T n s) where
   unfolding step step_running
   step_view p =
       choose (StepView p) (not (sound s.machine)) _ _ (λ t. absurd (never (sound s.machine) (sound_now b.sim inv.1) t))
-      (λ t. choose (StepView p) (not (ltb p s.machine.state.tasks)) _ _ (λ u. step_refused 4 (λ z. absurd (omega arith)))
-      (λ u. choose (StepView p) (not (task_of s.machine p).running) _ _ (λ v. step_refused 6 (λ z. absurd (omega arith)))
+      (λ t. choose (StepView p) (not (ltb p s.machine.state.tasks)) _ _ (λ u. step_refused NoTask (apart NoTask Spoilt (λ z. omega arith)))
+      (λ u. choose (StepView p) (not (task_of s.machine p).running) _ _ (λ v. step_refused Idle (apart Idle Spoilt (λ z. omega arith)))
       (λ v. choose (StepView p) (unsound_step s.machine (task_of s.machine p)) _ _ (λ x. absurd (tf x (step_sound b.sim inv.1 p)))
-      (λ x. choose (StepView p) (all_held s.machine (task_of s.machine p)) _ _ (λ h. step_refused 7 (λ z. absurd (omega arith)))
+      (λ x. choose (StepView p) (all_held s.machine (task_of s.machine p)) _ _ (λ h. step_refused NoVersion (apart NoVersion Spoilt (λ z. omega arith)))
       (λ h. let r = not-false (task_of s.machine p).running v in line_done r h (line_does p r))))))
 
   step_next : (p : ℕ) → After T n s (steps p) (step s.machine p)
@@ -247,9 +250,9 @@ module _ {T : Operations} {n : ℕ} {s : History} (b : Before T n s) where
   unfolding start
   start_next p call i k =
       choose P (not (sound s.machine)) _ _ (λ t. absurd (never (sound s.machine) (sound_now b.sim inv.1) t))
-      (λ t. choose P (not (ltb p s.machine.state.tasks)) _ _ (λ u. λ a. refused_event (starts p call i k) 4 (λ z. absurd (omega arith)))
+      (λ t. choose P (not (ltb p s.machine.state.tasks)) _ _ (λ u. λ a. refused_event (starts p call i k) NoTask (apart NoTask Spoilt (λ z. omega arith)))
       (λ u. choose P ((task_of s.machine p).running || not (may_start s.machine call i k)) _ _
-      (λ v. λ a. refused_event (starts p call i k) 5 (λ z. absurd (omega arith)))
+      (λ v. λ a. refused_event (starts p call i k) NotStarted (apart NotStarted Spoilt (λ z. omega arith)))
       (λ v. let q = or_none (task_of s.machine p).running (not (may_start s.machine call i k)) v in started_next p call i k q.0
       (ltb-true p s.machine.state.tasks (not-false (ltb p s.machine.state.tasks) u)) (not-false (may_start s.machine call i k) q.1))))
     where

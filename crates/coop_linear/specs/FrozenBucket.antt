@@ -2,7 +2,7 @@
 -- (`frozen_for_good`). A freeze answers with the number of the bucket's version, which is frozen then (`freeze_answers`): so that number means one
 -- set for good. For a line puts an op only into a version that has none, and takes a version only where the bucket's has an operation.
 -- Assumes nothing.
-use Rattle.std.specs.Prelude.{◌*◌, ◌+◌, suc, ℕ, ◌||◌, not, true, List, [], ◌∷◌, ◌++◌, ◌≡◌, eqb, ltb, drop, get_or, set, take}
+use Rattle.std.specs.Prelude.{◌*◌, ◌+◌, suc, ℕ, ◌||◌, not, true, List, [], ◌∷◌, ◌++◌, ◌≡◌, eqb, ltb, drop, get_or, set, take, Ok}
 use Rattle.std.proofs.Common.{inr, ◌∙◌, ap, subst, sym, arith, eq-eqb, length-set, get_or-drop, get_or-set_other, get_or-take}
 use Rattle.std.proofs.Math.Path.{refl}
 use Rattle.laws.specs.Overwrite.{same_part}
@@ -19,7 +19,7 @@ use Rattle.coop_spec.specs.declared.Answer.{Answer}
 use Rattle.coop_spec.specs.declared.Answer.TheVariants.{Version}
 use Rattle.coop_spec.specs.declared.Call.{Call}
 use Rattle.coop_spec.specs.declared.Call.TheVariants.{Freeze, GetResponse, HasMember, InvokeInsert, InvokeRemove}
-use Rattle.coop_spec.specs.declared.Output.TheVariants as Outs
+use Rattle.coop_spec.specs.declared.Progress.TheVariants as Outs
 use Rattle.coop_laws.specs.Fixed.{Agrees, agrees_before, agrees_itself}
 use Rattle.coop_model.specs.Heap.{Heap, bottom, nil}
 use Rattle.coop_model.specs.HeapInvariant.{bottom_not_op, nil_not_bottom}
@@ -96,7 +96,7 @@ unfolding finish set_task with_task with_state
 task_same y p own (on c) = refl
 task_same y p own (ends a) = refl
 
-ended_as : (y : Machine) (p made : ℕ) (x : Next) {a : Answer} {own : ℕ} → (finish y p made x).out ≡ Outs.End a own → x ≡ ends a
+ended_as : (y : Machine) (p made : ℕ) (x : Next) {a : Answer} {own : ℕ} → (finish y p made x).out ≡ Ok (Outs.End a own) → x ≡ ends a
 unfolding finish
 ended_as y p made (on c) e = other cc
 ended_as y p made (ends a) e = cc
@@ -142,11 +142,11 @@ module _ {T : Operations} {n : ℕ} {s : History} (b : Before T n s) where
       let facts = subst (PositionFacts T w.heap w.ended i.0 p (w.start p)) e (i.1.task p) in
       eq-eqb _ 1 (current_word b.sim.rep ∙ ap field_word facts.0)
 
-  answers_version : (p v own : ℕ) → (step s.machine p).out ≡ Outs.End (Version v) own → (current s.machine ≡ v) × (frozen s.machine ≡ true)
+  answers_version : (p v own : ℕ) → (step s.machine p).out ≡ Ok (Outs.End (Version v) own) → (current s.machine ≡ v) × (frozen s.machine ≡ true)
   unfolding refuse accept
   answers_version p v own = go (step_view b p)
     where
-      go : {m : Reply} → StepView b p m → m.out ≡ Outs.End (Version v) own → (current s.machine ≡ v) × (frozen s.machine ≡ true)
+      go : {m : Reply} → StepView b p m → m.out ≡ Ok (Outs.End (Version v) own) → (current s.machine ≡ v) × (frozen s.machine ≡ true)
       go (step_refused r d) e = other cc
       go (line_done r free d) e =
           let f = (line_leaves p d).answers v (ended_as _ p _ (effect s.machine (task_of s.machine p)).next e) in
@@ -199,7 +199,7 @@ module _ (t : ℕ) (ws : List ℕ) (ok : (opening t ws).refusal ≡ 0) where
         rw (runs_from (es ++ fs), run_both y₀ es fs, ← runs_from es, ← here) (run_same T before.0 told before.1 (ap frozen here ∙ shut) fs agrees)
 
   -- "127 return b.node.set": the number that a freeze answers is the bucket's version, which is frozen
-  pub freeze_answers : (es : List Event) (p v own : ℕ) → (step (schedule t ws es).machine p).out ≡ Outs.End (Version v) own
+  pub freeze_answers : (es : List Event) (p v own : ℕ) → (step (schedule t ws es).machine p).out ≡ Ok (Outs.End (Version v) own)
       → (current (schedule t ws es).machine ≡ v) × (frozen (schedule t ws es).machine ≡ true)
   freeze_answers es p v own e =
       rw (← here es []) (answers_version (before es []).1 p v own (ap (λ (y : Machine). (step y p).out) (here es []) ∙ e))

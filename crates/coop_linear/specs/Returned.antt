@@ -1,7 +1,7 @@
 -- "A get response is started only after an invoke of that operation has ended true": the bit that a start of a get response asks for is set exactly if
 -- the history has an ended invoke of the operation that was answered true, in every schedule from an accepted opening on: `returned_iff`;
 -- so its 5 speaks of the run: `early_response_5`. Assumes nothing.
-use Rattle.std.specs.Prelude.{◌<◌, ℕ, Bool, false, true, List, [], ◌∷◌, ◌⊎◌, ◌↔◌, ◌≡◌, refl, length}
+use Rattle.std.specs.Prelude.{◌<◌, ℕ, Bool, false, true, List, [], ◌∷◌, ◌⊎◌, ◌↔◌, ◌≡◌, refl, length, Err}
 use Rattle.std.proofs.Common.{inl, inr, ◌∙◌, ap, subst, sym, arith}
 use Rattle.std.proofs.Math.Decide.{dec_lt}
 use Rattle.std.proofs.Math.ListN.{get_or-eq_default}
@@ -14,7 +14,7 @@ use Rattle.coop_spec.specs.Machine.{Machine, never_invoked, operation_of, task_o
 use Rattle.coop_spec.specs.Schedule.{Event, schedule}
 use Rattle.coop_spec.specs.declared.Call.TheVariants.{GetResponse}
 use Rattle.coop_spec.specs.declared.Operation.{Operation}
-use Rattle.coop_spec.specs.declared.Output.TheVariants as Outs
+use Rattle.coop_spec.specs.declared.Progress.TheVariants as Outs
 use Rattle.coop_laws.specs.Refusals.{StartRefused, is_4, is_5_barred, is_5_running, is_8, start_refused_iff}
 use Rattle.coop_model.specs.Functions.{changed_at}
 use Rattle.coop_model.specs.Heap.{Heap}
@@ -26,6 +26,8 @@ use Rattle.coop_model.specs.Positions.{Position}
 use Rattle.coop_model.specs.Runs.{Configuration, Reachable, Transition, begin, claim, end_call, further, move, opened, refused, seal}
 use Rattle.coop_linear.specs.Schedules.{same_machine, schedule_simulated}
 use Rattle.coop_linear.specs.Theorems.{sound_after}
+use Rattle.coop_spec.specs.declared.Refusal.TheVariants.{NotStarted}
+use Rattle.coop_spec.specs.Numbers.{refusal_number}
 
 -- an invoke of operation n has ended, answered true
 pub record EndedTrue (H : List Ended) (n : ℕ) : Type 0 where
@@ -163,11 +165,11 @@ returned_iff t ws ok es n =
 -- "and otherwise gives 5": of an idle task, the start of a get response gives 5 exactly if no invoke of its operation has ended true
 pub early_response_5 : (t : ℕ) (ws : List ℕ) → (opening t ws).refusal ≡ 0 → (es : List Event) (p n k : ℕ)
     → (let y = (schedule t ws es).machine in
-    p < y.state.tasks → (task_of y p).running ≡ false → ((start y p GetResponse n k).out ≡ Outs.Refuse 5) ↔ (¬ EndedTrue (history t ws es).ended n))
+    p < y.state.tasks → (task_of y p).running ≡ false → ((start y p GetResponse n k).out ≡ Err NotStarted) ↔ (¬ EndedTrue (history t ws es).ended n))
 unfolding operation_of never_invoked
 early_response_5 t ws ok es p n k below idle≡ = (
-  λ e. to ((start_refused_iff y p GetResponse n k 5).0 e),
-  λ none. (start_refused_iff y p GetResponse n k 5).1
+  λ e. to ((start_refused_iff y p GetResponse n k NotStarted).0 e),
+  λ none. (start_refused_iff y p GetResponse n k NotStarted).1
       (is_5_barred refl (sound_after t ws ok es) below idle≡ (λ a. none ((returned_iff t ws ok es n).0 a.1))),
 )
   where
@@ -182,8 +184,8 @@ early_response_5 t ws ok es p n k below idle≡ = (
         ap (λ (z : Machine). length z.state.operation) (sym (same_machine t ws ok es)) ∙ (schedule_simulated t ws ok es).0.1.sim.rep.operations_64 in
         absurd (tf r (ap (λ (o : Operation). o.returned) (get_or-eq_default y.state.operation never_invoked (omega arith))))
 
-    to : StartRefused y p GetResponse n k 5 → ¬ EndedTrue (history t ws es).ended n
-    to (is_8 e s) = absurd (omega arith)
-    to (is_4 e s b) = absurd (omega arith)
+    to : StartRefused y p GetResponse n k NotStarted → ¬ EndedTrue (history t ws es).ended n
+    to (is_8 e s) = absurd (omega (arith, ap refusal_number e))
+    to (is_4 e s b) = absurd (omega (arith, ap refusal_number e))
     to (is_5_running e s b r) = absurd (tf r idle≡)
     to (is_5_barred e s b r a) = λ x. let m = (returned_iff t ws ok es n).1 x in a (low m (dec_lt n 64), m)

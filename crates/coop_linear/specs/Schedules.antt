@@ -2,6 +2,7 @@
 use Rattle.std.specs.Prelude.{suc, ℕ, List, [], ◌∷◌, ◌≡◌, refl}
 use Rattle.std.proofs.Common.{◌∙◌, eq-eqb}
 use Rattle.std.proofs.Math.Path.{ap, subst}
+use Rattle.coop_spec.specs.declared.Refusal.TheVariants.{Spoilt}
 use Rattle.coop_spec.specs.Atomic.{Operations}
 use Rattle.coop_spec.specs.Entries.{opening}
 use Rattle.coop_spec.specs.History.{History, extended, history, history_from, no_history, operations}
@@ -24,7 +25,7 @@ history_machine n s [] = refl
 history_machine n s (e ∷ es) = history_machine (suc n) (extended n s e (event s.machine e)) es
 
 pub run_simulated : (T : Operations) (n : ℕ) (s : History) → Before T n s → (es : List Event) → Agrees T (run s.machine es).machine
-    → ((k : ℕ) × Before T k (history_from n s es)) × Never 8 (run s.machine es).outs
+    → ((k : ℕ) × Before T k (history_from n s es)) × Never Spoilt (run s.machine es).outs
 unfolding run history_from extended
 run_simulated T n s b [] a = ((n, b), tt)
 run_simulated T n s b (e ∷ es) a =
@@ -47,7 +48,7 @@ module _ (t : ℕ) (ws : List ℕ) (ok : (opening t ws).refusal ≡ 0) (es : Lis
   unfolding history
   same_machine = rw schedule_runs (history_machine 0 (no_history (opening t ws).machine) es)
 
-  pub schedule_simulated : ((k : ℕ) × Before types_at_end k (history t ws es)) × Never 8 (schedule t ws es).outs
+  pub schedule_simulated : ((k : ℕ) × Before types_at_end k (history t ws es)) × Never Spoilt (schedule t ws es).outs
   unfolding history
   schedule_simulated =
       rw schedule_runs (run_simulated types_at_end 0 (no_history (opening t ws).machine) (opening_before types_at_end t ws ok) es agrees)

@@ -1,6 +1,6 @@
 -- Line 140 takes a version that nobody names and makes it the bucket's: in the model, the next in order. Assumes nothing.
 use Prim.Native.Nat.{◌+◌, ◌<◌, ◌≤◌, suc, ℕ}
-use Rattle.std.specs.Prelude.{List, ◌⊎◌, ◌≡◌, length}
+use Rattle.std.specs.Prelude.{List, ◌⊎◌, ◌≡◌, length, Ok}
 use Rattle.std.proofs.Common.{inl, ◌∙◌, subst, sym, le_refl, arith}
 use Rattle.std.proofs.Math.Path.{ap, refl}
 use Rattle.spec.specs.Words.{number}
@@ -34,7 +34,7 @@ use Rattle.coop_laws.specs.Taken.{taken_number}
 use Rattle.coop_linear.specs.TaskImages.{task_image}
 use Rattle.coop_laws.specs.VersionWords.{new_first}
 use Rattle.coop_linear.specs.WritesRepresented.{install_represented}
-use Rattle.coop_spec.specs.declared.Output.TheVariants as Outs
+use Rattle.coop_spec.specs.declared.Progress.TheVariants as Outs
 
 module _ {T : Operations} {y : Machine} {w : Configuration} (sim : Simulates T y w.heap w.position) {L : List Occurrence} (i : Invariant T w L) where
   module _ (p : ℕ) (c : AtomicCall) (r : call_at (w.position p) ≡ runs c) (own steps : ℕ) where
@@ -101,7 +101,7 @@ module _ {T : Operations} {y : Machine} {w : Configuration} (sim : Simulates T y
 
       pub case_advances : {l l' : Position} → w.position p ≡ l → Line T w.heap l (advance (change T m (w.heap.set o)) w.heap) l'
           → Stepped T y w p (record {
-            out = Outs.At (task_image T sim.slot own l').line;
+            out = Ok (Outs.At (task_image T sim.slot own l').line);
             machine = set_task p (with_own (one_more steps) (task_image T sim.slot own l')) installed;
           })
       unfolding apply with_node with_versions with_state operation_of

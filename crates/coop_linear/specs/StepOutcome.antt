@@ -1,6 +1,6 @@
 -- What an accepted step comes to: the task goes on, or its call ended; and, given how the words represent the heap after the writes of its
 -- line, that the words go on simulating the model. Assumes nothing.
-use Rattle.std.specs.Prelude.{◌+◌, ◌<◌, ◌≤◌, min, suc, ℕ, true, List, ◌⊎◌, ◌≡◌, length}
+use Rattle.std.specs.Prelude.{◌+◌, ◌<◌, ◌≤◌, min, suc, ℕ, true, List, ◌⊎◌, ◌≡◌, length, Ok}
 use Rattle.std.proofs.Common.{inl, inr, ◌∙◌, ap, subst, sym, arith}
 use Rattle.std.proofs.Math.Path.{refl}
 use Rattle.coop_spec.specs.Atomic.{AtomicCall, FSet, Operations, changed}
@@ -31,14 +31,14 @@ use Rattle.coop_laws.specs.SoundFacts.{MemoryFacts}
 use Rattle.coop_model.specs.Steps.{LineKeeps, own_line}
 use Rattle.coop_linear.specs.TaskImages.{image_own, image_same, named_image, task_image}
 use Rattle.coop_linear.specs.WritesRepresented.{fewer_known, raise_represented}
-use Rattle.coop_spec.specs.declared.Output.TheVariants as Outs
+use Rattle.coop_spec.specs.declared.Progress.TheVariants as Outs
 
 -- what a step came to: the task goes on, or its call ended with an answer
 pub data Stepped (T : Operations) (y : Machine) (w : Configuration) (p : ℕ) (m : Reply) : Type 0 where
-  went_on : (line : ℕ) (g : Heap) (l' : Position) → m.out ≡ Outs.At line → Transition T w (moved w p g l') → call_at l' ≡ call_at (w.position p)
+  went_on : (line : ℕ) (g : Heap) (l' : Position) → m.out ≡ Ok (Outs.At line) → Transition T w (moved w p g l') → call_at l' ≡ call_at (w.position p)
       → Simulates T m.machine g (changed w.position p l')
       → Effects y m.machine w.heap g → Stepped T y w p m
-  call_ended : (a : Answer) (own : ℕ) (g : Heap) (c : AtomicCall) → m.out ≡ Outs.End a own → call_at (w.position p) ≡ runs c
+  call_ended : (a : Answer) (own : ℕ) (g : Heap) (c : AtomicCall) → m.out ≡ Ok (Outs.End a own) → call_at (w.position p) ≡ runs c
       → Transition T w (after_end w p g c (result_of m.machine a))
       → Simulates T m.machine g (changed w.position p no_call) → Effects y m.machine w.heap g → Stepped T y w p m
 
@@ -107,7 +107,7 @@ module _ {T : Operations} {y : Machine} {w : Configuration} (sim : Simulates T y
         (returned : (n : ℕ) → w.heap.returned n ≡ true → g.returned n ≡ true)
         (effects : Effects y (set_task p (with_own (one_more steps) (task_image T sim.slot own l')) z) w.heap g) where
       pub goes_on : Stepped T y w p (record {
-        out = Outs.At (task_image T sim.slot own l').line;
+        out = Ok (Outs.At (task_image T sim.slot own l').line);
         machine = set_task p (with_own (one_more steps) (task_image T sim.slot own l')) z;
       })
       goes_on =
@@ -127,7 +127,7 @@ module _ {T : Operations} {y : Machine} {w : Configuration} (sim : Simulates T y
         (agree : (v : ℕ) → KnownIn w v → slot v ≡ sim.slot v) (still : StillInvoked y z) (returned : (n : ℕ) → w.heap.returned n ≡ true
         → g.returned n ≡ true)
         (effects : Effects y (set_task p idle z) w.heap g) where
-      pub comes_to_end : Stepped T y w p (record { out = Outs.End a (one_more steps); machine = set_task p idle z })
+      pub comes_to_end : Stepped T y w p (record { out = Ok (Outs.End a (one_more steps)); machine = set_task p idle z })
       unfolding idle
       comes_to_end =
           call_ended a (one_more steps) g c' refl r' to
@@ -175,7 +175,7 @@ module _ {T : Operations} {y : Machine} {w : Configuration} (sim : Simulates T y
           → Effects y (set_task p (with_own (one_more steps) (task_image T sim.slot own l')) z) w.heap g
           → Stepped T y w p
           (record {
-            out = Outs.At (task_image T sim.slot own l').line;
+            out = Ok (Outs.At (task_image T sim.slot own l').line);
             machine = set_task p
                 (with_own (one_more steps) (task_image T sim.slot own l')) z;
           })
@@ -193,7 +193,7 @@ module _ {T : Operations} {y : Machine} {w : Configuration} (sim : Simulates T y
 
     pub case_goes : {l l' : Position} → w.position p ≡ l → Line T w.heap l w.heap l'
         → Stepped T y w p
-        (record { out = Outs.At (task_image T sim.slot own l').line; machine = set_task p (with_own (one_more steps) (task_image T sim.slot own l')) y })
+        (record { out = Ok (Outs.At (task_image T sim.slot own l').line); machine = set_task p (with_own (one_more steps) (task_image T sim.slot own l')) y })
     case_goes e t =
         line_on e t y sim.slot (KnownIn w) sim.rep (known_same w.heap.current w.position) sim.memory refl refl (λ v k. refl)
         (λ n d. d) (λ n x. x)
@@ -201,7 +201,7 @@ module _ {T : Operations} {y : Machine} {w : Configuration} (sim : Simulates T y
 
     pub case_raises : {l l' : Position} → w.position p ≡ l → Line T w.heap l (raise w.heap) l'
         → Stepped T y w p (record {
-          out = Outs.At (task_image T sim.slot own l').line;
+          out = Ok (Outs.At (task_image T sim.slot own l').line);
           machine = set_task p (with_own (one_more steps) (task_image T sim.slot own l')) (apply raise_flag y);
         })
     unfolding apply with_flag with_state op_word operation_of

@@ -1,6 +1,6 @@
 -- Lines 102 and 123 put an op into the bucket's version, which has none; lines 138 and 139 write the response and the infinite prio of the
 -- operation that HELPFINISH has found. Assumes nothing.
-use Rattle.std.specs.Prelude.{◌+◌, ◌<◌, ◌≤◌, ℕ, List, ◌≡◌}
+use Rattle.std.specs.Prelude.{◌+◌, ◌<◌, ◌≤◌, ℕ, List, ◌≡◌, Ok}
 use Rattle.std.proofs.Common.{inl, ◌∙◌, subst, sym, arith}
 use Rattle.std.proofs.Math.Path.{ap, refl}
 use Rattle.std.proofs.Math.Nat.{le_refl}
@@ -31,7 +31,7 @@ use Rattle.coop_laws.specs.SoundFacts.{MemoryFacts, OpWordFacts, an_operation, n
 use Rattle.coop_linear.specs.StepOutcome.{Stepped, facts, goes_on, in_table, line_on, line_quiet, named_here, one_more}
 use Rattle.coop_linear.specs.TaskImages.{task_image}
 use Rattle.coop_linear.specs.WritesRepresented.{done_represented, fewer_known, op_represented, resp_represented}
-use Rattle.coop_spec.specs.declared.Output.TheVariants as Outs
+use Rattle.coop_spec.specs.declared.Progress.TheVariants as Outs
 
 module _ {T : Operations} {y : Machine} {w : Configuration} (sim : Simulates T y w.heap w.position) {L : List Occurrence} (i : Invariant T w L) where
   module _ (p : ℕ) (c : AtomicCall) (r : call_at (w.position p) ≡ runs c) (own steps : ℕ) where
@@ -74,7 +74,7 @@ module _ {T : Operations} {y : Machine} {w : Configuration} (sim : Simulates T y
           (shape : Shape l') (nothing : (v : ℕ) → ¬ Names l' v)
           (claimed : Claims y (set_task p (with_own (one_more steps) (task_image T sim.slot own l')) put) w.heap (put_op o x w.heap)) where
         case_put : Stepped T y w p (record {
-          out = Outs.At (task_image T sim.slot own l').line;
+          out = Ok (Outs.At (task_image T sim.slot own l').line);
           machine = set_task p (with_own (one_more steps) (task_image T sim.slot own l')) put;
         })
         unfolding apply with_versions operation_of
@@ -92,7 +92,7 @@ module _ {T : Operations} {y : Machine} {w : Configuration} (sim : Simulates T y
 
     pub case_puts_op : (n o : ℕ) → w.position p ≡ running (invoker n) (at102 n o) → w.heap.op_at o ≡ nil
         → Stepped T y w p (record {
-          out = Outs.At 129;
+          out = Ok (Outs.At 129);
           machine =
               set_task p (with_own (one_more steps) (task_image T sim.slot own (running (invoker n) (at129 (to103 n)))))
               (apply (set_op (sim.slot o) (n + 2)) y);
@@ -115,7 +115,7 @@ module _ {T : Operations} {y : Machine} {w : Configuration} (sim : Simulates T y
 
     pub case_puts_bottom : (j : Role) (o : ℕ) → w.position p ≡ running j (at123 o) → w.heap.op_at o ≡ nil
         → Stepped T y w p (record {
-          out = Outs.At 127;
+          out = Ok (Outs.At 127);
           machine = set_task p (with_own (one_more steps) (task_image T sim.slot own (running j at127))) (apply (set_op (sim.slot o) 1) y);
         })
     case_puts_bottom j o e x =
@@ -144,7 +144,7 @@ module _ {T : Operations} {y : Machine} {w : Configuration} (sim : Simulates T y
 
     pub case_responds : (j : Role) (b : ReturnTo) (o m : ℕ) → w.position p ≡ running j (at138 b o m)
         → Stepped T y w p (record {
-          out = Outs.At 139;
+          out = Ok (Outs.At 139);
           machine = set_task p (with_own (one_more steps) (task_image T sim.slot own (running j (at139 b o m))))
               (apply (set_resp m (reply T m (w.heap.set o))) y);
         })
@@ -162,7 +162,7 @@ module _ {T : Operations} {y : Machine} {w : Configuration} (sim : Simulates T y
 
     pub case_marks_done : (j : Role) (b : ReturnTo) (o m : ℕ) → w.position p ≡ running j (at139 b o m)
         → Stepped T y w p (record {
-          out = Outs.At 140;
+          out = Ok (Outs.At 140);
           machine = set_task p (with_own (one_more steps) (task_image T sim.slot own (running j (at140 b o m)))) (apply (set_done m) y);
         })
     unfolding apply set_operation with_operations with_state as_done op_word

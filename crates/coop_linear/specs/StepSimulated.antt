@@ -1,5 +1,5 @@
 -- An accepted step of the words is one transition of the model, and the words go on simulating it: every outcome of a line. Assumes nothing.
-use Rattle.std.specs.Prelude.{◌<◌, suc, ℕ, false, true, List, ◌≡◌, length}
+use Rattle.std.specs.Prelude.{◌<◌, suc, ℕ, false, true, List, ◌≡◌, length, Ok}
 use Rattle.std.proofs.Common.{inl, ◌∙◌, subst, sym, le_refl, arith}
 use Rattle.std.proofs.Math.Path.{ap, refl}
 use Rattle.spec.specs.Words.{number}
@@ -35,7 +35,7 @@ use Rattle.coop_linear.specs.StepOutcome.{Stepped, case_goes, case_raises, comes
 use Rattle.coop_linear.specs.StepPuts.{case_marks_done, case_puts_bottom, case_puts_op, case_responds}
 use Rattle.coop_linear.specs.TaskImages.{task_image}
 use Rattle.coop_linear.specs.WritesRepresented.{fewer_known, returned_represented}
-use Rattle.coop_spec.specs.declared.Output.TheVariants as Outs
+use Rattle.coop_spec.specs.declared.Progress.TheVariants as Outs
 
 module _ {T : Operations} {y : Machine} {w : Configuration} (sim : Simulates T y w.heap w.position) {L : List Occurrence} (i : Invariant T w L) where
   module _ (p : ℕ) (c : AtomicCall) (r : call_at (w.position p) ≡ runs c) (own steps : ℕ) where
@@ -74,7 +74,7 @@ module _ {T : Operations} {y : Machine} {w : Configuration} (sim : Simulates T y
       returned_stays k e = elim (changed_at w.heap.returned n true k) [ hit q f ↦ f | miss d f ↦ f ∙ e ]
 
     case_returns_only : {l : Position} {n : ℕ} → w.position p ≡ l → End T w.heap l (mark_returned n w.heap) (invoke n) (boolean true)
-        → Stepped T y w p (record { out = Outs.End Yes (one_more steps); machine = set_task p idle (apply (set_returned n) y) })
+        → Stepped T y w p (record { out = Ok (Outs.End Yes (one_more steps)); machine = set_task p idle (apply (set_returned n) y) })
     unfolding apply set_operation with_operations with_state op_word result_of
     case_returns_only {n = n} e t =
         let u = ap call_at e ∙ ends_call t in
@@ -90,7 +90,7 @@ module _ {T : Operations} {y : Machine} {w : Configuration} (sim : Simulates T y
         → ¬ (free_version y ≡ 0)
         → End T w.heap l (mark_returned n (advance (change T m (w.heap.set o)) w.heap)) (invoke n) (boolean true)
         → Stepped T y w p (record {
-          out = Outs.End Yes (one_more steps);
+          out = Ok (Outs.End Yes (one_more steps));
           machine = set_task p idle (apply (set_returned n) (apply (install (number (free_version y)) (change T m (w.heap.set o))) y));
         })
     unfolding apply set_operation with_operations with_node with_versions with_state op_word operation_of result_of
@@ -113,7 +113,7 @@ module _ {T : Operations} {y : Machine} {w : Configuration} (sim : Simulates T y
     -- without a write
     module _ {l : Position} {c' : AtomicCall} {a' : Result} (e : w.position p ≡ l) (t : End T w.heap l w.heap c' a') (a : Answer)
         (is : a' ≡ result_of (set_task p idle y) a) where
-      case_answers : Stepped T y w p (record { out = Outs.End a (one_more steps); machine = set_task p idle y })
+      case_answers : Stepped T y w p (record { out = Ok (Outs.End a (one_more steps)); machine = set_task p idle y })
       case_answers =
           comes_to_end sim i p c r own steps a w.heap c' (ap call_at e ∙ ends_call t) y sim.slot
           (subst (λ (r : Result). Transition T w (after_end w p w.heap c' r)) is (end_call p e t))

@@ -14,6 +14,7 @@
 -- every run of that heap has such an order (Linearization). Assumes nothing.
 use Rattle.std.specs.Prelude.{ℕ, true, List, ◌≡◌}
 use Rattle.std.proofs.Common.{inl, inr, ◌∙◌, ap, subst}
+use Rattle.coop_spec.specs.declared.Refusal.TheVariants.{Spoilt}
 use Rattle.coop_spec.specs.Entries.{opening}
 use Rattle.coop_spec.specs.History.{Occurrence, history}
 use Rattle.coop_spec.specs.Linearizable.{AtMostOnce, Linearizable, Never, No65thTag, StillRuns}
@@ -59,7 +60,7 @@ module _ (t : ℕ) (ws : List ℕ) (ok : (opening t ws).refusal ≡ 0) (es : Lis
   pub at_most_once : AtMostOnce t ws es
   at_most_once = record { claimed = before.claimed.twice_none; installed = before.installed.twice_none }
 
-  pub never_8 : Never 8 (schedule t ws es).outs
+  pub never_8 : Never Spoilt (schedule t ws es).outs
   never_8 = (schedule_simulated t ws ok es).1
 
   pub no_65th_tag : No65thTag (schedule t ws es).machine

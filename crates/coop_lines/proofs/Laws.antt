@@ -9,6 +9,7 @@ use borrow.Author.Tests.{eq-eqb, ne_eqb, eqb-true, eqb-false, not-true}
 use lib.Dec.{ltb, eqb}
 use lib.ListN.{length}
 use Rattle.laws.specs.Tests.{tf, or_none, or_none3, and_left, and_right}
+use Rattle.coop_spec.specs.declared.Refusal.TheVariants.{NoVersion, Spoilt}
 use Rattle.spec.specs.Lists.{member}
 use Rattle.spec.specs.Words.{number, filled}
 use Rattle.coop_spec.specs.declared.Task.{Task}
@@ -33,8 +34,8 @@ module _ (y : Machine) (k : ℕ) (c : Task) where
   step_at n =
       if (member n o_lines && not (filled c.o)) || (member n helped_lines && not (filled c.helped))
       || (eqb n 140 && still_current y c && ltb 64 (length (applied (helped_op y c) (old_set y c))))
-      then refuse 8 y
-      else if eqb n 140 && still_current y c && not (filled (free_version y)) then refuse 7 y
+      then refuse Spoilt y
+      else if eqb n 140 && still_current y c && not (filled (free_version y)) then refuse NoVersion y
       else accept y k c.own (find_line n all_lines y c)
 
   at_line : (n : ℕ) → c.line ≡ n → step_running y k c ≡ step_at n
@@ -59,7 +60,7 @@ module _ (y : Machine) (k : ℕ) (c : Task) where
       go true p = let q = or_none (member n helped_lines) (eqb n 140) f in at_line n e ∙ rw (t, q.0, q.1, p)
       go false p = let q = or_none (member n helped_lines) (eqb n 140) f in at_line n e ∙ rw (t, q.0, q.1, p)
 
-  pub empty_o : (r : Reply) → c.o ≡ 0 → through_o y c r ≡ refuse 8 y
+  pub empty_o : (r : Reply) → c.o ≡ 0 → through_o y c r ≡ refuse Spoilt y
   unfolding through_o
   empty_o r z = rw (eq-eqb c.o 0 z)
 
@@ -86,7 +87,7 @@ module _ (y : Machine) (k : ℕ) (c : Task) where
       go false true p q = at_line n e ∙ rw (l, r, f, p, q)
       go false false p q = at_line n e ∙ rw (l, r, f, p, q)
 
-  pub empty_both : (r : Reply) → (filled c.o && filled c.helped) ≡ false → through_both y c r ≡ refuse 8 y
+  pub empty_both : (r : Reply) → (filled c.o && filled c.helped) ≡ false → through_both y c r ≡ refuse Spoilt y
   unfolding through_both
   empty_both r z = rw z
 
@@ -97,7 +98,7 @@ module _ (y : Machine) (k : ℕ) (c : Task) where
   -- ---- one that goes through the helped operation alone
 
   module _ (n : ℕ) (e : c.line ≡ n) (o : (member n o_lines || eqb n 140) ≡ false) (t : member n helped_lines ≡ true) where
-    pub empty_helped : c.helped ≡ 0 → step_running y k c ≡ refuse 8 y
+    pub empty_helped : c.helped ≡ 0 → step_running y k c ≡ refuse Spoilt y
     unfolding step_at
     empty_helped z = let q = or_none (member n o_lines) (eqb n 140) o in at_line n e ∙ rw (q.0, q.1, t, eq-eqb c.helped 0 z)
 
@@ -111,11 +112,11 @@ module _ (y : Machine) (k : ℕ) (c : Task) where
     abbrev Both : Bool → Type 0
     Both b = (filled c.o && filled c.helped) ≡ b
 
-    pub empty_140 : Both false → step_running y k c ≡ refuse 8 y
+    pub empty_140 : Both false → step_running y k c ≡ refuse Spoilt y
     unfolding step_at member
     empty_140 z = go (eqb c.o 0) (eqb c.helped 0) refl refl z
       where
-        go : (a b : Bool) → eqb c.o 0 ≡ a → eqb c.helped 0 ≡ b → (not a && not b) ≡ false → step_running y k c ≡ refuse 8 y
+        go : (a b : Bool) → eqb c.o 0 ≡ a → eqb c.helped 0 ≡ b → (not a && not b) ≡ false → step_running y k c ≡ refuse Spoilt y
         go true b p q r = at_line 140 e ∙ rw p
         go false true p q r = at_line 140 e ∙ rw (p, q)
         go false false p q r = absurd (tf refl r)
@@ -132,12 +133,12 @@ module _ (y : Machine) (k : ℕ) (c : Task) where
       passed_140 n = at_line 140 e ∙ rw (o_there, helped_there, n)
 
       module _ (n : still_current y c ≡ true) where
-        pub full_140 : ltb 64 (length (applied (helped_op y c) (old_set y c))) ≡ true → step_running y k c ≡ refuse 8 y
+        pub full_140 : ltb 64 (length (applied (helped_op y c) (old_set y c))) ≡ true → step_running y k c ≡ refuse Spoilt y
         unfolding step_at member
         full_140 f = at_line 140 e ∙ rw (o_there, helped_there, n, f)
 
         module _ (f : ltb 64 (length (applied (helped_op y c) (old_set y c))) ≡ false) where
-          pub held_140 : free_version y ≡ 0 → step_running y k c ≡ refuse 7 y
+          pub held_140 : free_version y ≡ 0 → step_running y k c ≡ refuse NoVersion y
           unfolding step_at member
           held_140 g = at_line 140 e ∙ rw (o_there, helped_there, n, f, eq-eqb (free_version y) 0 g)
 

@@ -1,6 +1,7 @@
 -- What a line gives back, as the definitions' reply; what the lines ask of a sound machine and a running task; and the lines of one
 -- shape. Assumes nothing.
 use Rattle.std.specs.Prelude.{ℕ, ◌*◌, ◌≤◌, ◌<◌, ◌≡◌, List, ◌&&◌, length, if◌then◌else◌}
+use Rattle.coop_spec.specs.declared.Refusal.TheVariants.{Spoilt}
 use Rattle.spec.specs.Words.{number, filled}
 use Rattle.coop_spec.specs.declared.State.{State}
 use Rattle.coop_spec.specs.declared.Task.{Task}
@@ -25,11 +26,11 @@ pub record Ready (s : State) (vs : List ℕ) (c : Task) : Type 0 where
 
 -- a line that goes through o: 8 where o is empty
 unfoldable pub through_o : Machine → Task → Reply → Reply
-through_o y c r = if filled c.o then r else refuse 8 y
+through_o y c r = if filled c.o then r else refuse Spoilt y
 
 -- and one that goes through the helped operation too
 unfoldable pub through_both : Machine → Task → Reply → Reply
-through_both y c r = if filled c.o && filled c.helped then r else refuse 8 y
+through_both y c r = if filled c.o && filled c.helped then r else refuse Spoilt y
 
 -- if o.op = nil on to the line next, else into HELPFINISH, which is to return to back
 abbrev pub tested : Machine → ℕ → Task → ℕ → ℕ → Reply

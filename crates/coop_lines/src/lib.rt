@@ -10,7 +10,7 @@ ghost use Rattle.coop_spec.specs.Lines.{yes_no, frozen, no_op, own_done, moves, 
 ghost use Rattle.coop_spec.specs.Entries.{refuse, accept};
 ghost use Rattle.coop_lines.specs.Reply.{reply_of, tested};
 
-use coop_spec::{Answer, Output, State, Task};
+use coop_spec::{Answer, Output, Progress, Refusal, State, Task};
 
 // What a step or a start answers, and the state after it.
 #[derive(Clone, Copy)]
@@ -22,28 +22,27 @@ pub struct Stepped {
 // ---- tests
 
 // b.node.op = ⊥
+#[tactic(auto, unfolding(coop_spec::specs::Lines::frozen))]
 pub fn frozen(s: State, vs: &[u32]) -> bool
     ensures { result ≡ frozen (machine_of s vs.now) }
 {
-    let m = coop_pool::op_word(vs, s.node);
-    m == 1
+    coop_pool::op_word(vs, s.node) == 1
 }
 
 // o.op = nil
+#[tactic(auto, unfolding(coop_spec::specs::Lines::no_op))]
 fn no_op(c: Task, vs: &[u32]) -> bool
     ensures { (s : State) → result ≡ no_op (machine_of s vs.now) c }
 {
-    let k = pool::number_of(c.o);
-    let m = coop_pool::op_word(vs, k);
-    m == 0
+    coop_pool::op_word(vs, pool::number_of(c.o)) == 0
 }
 
 // The prio of the task's own operation is infinite.
+#[tactic(auto, unfolding(coop_spec::specs::Lines::own_done))]
 pub fn own_done(s: State, c: Task) -> bool
     ensures { (vs : List ℕ) → result ≡ own_done (machine_of s vs) c }
 {
-    let op = coop_state::operation(s, c.op);
-    op.done
+    coop_state::operation(s, c.op).done
 }
 
 // CAS(&o.op, nil, m): whether o had no operation.
@@ -54,8 +53,7 @@ pub fn cas_op(c: Task, vs: &mut [u32], m: u32) -> bool
     if !no_op(c, vs) {
         return false;
     }
-    let k = pool::number_of(c.o);
-    coop_pool::set_op_word(vs, k, m);
+    coop_pool::set_op_word(vs, pool::number_of(c.o), m);
     true
 }
 
@@ -63,9 +61,7 @@ pub fn cas_op(c: Task, vs: &mut [u32], m: u32) -> bool
 pub fn both_filled(c: Task) -> bool
     ensures { result ≡ (filled c.o && filled c.helped) }
 {
-    let o = c.o != 0;
-    let h = c.helped != 0;
-    o & h
+    c.o != 0 && c.helped != 0
 }
 
 pub fn yes_no(b: bool) -> Answer
@@ -76,88 +72,99 @@ pub fn yes_no(b: bool) -> Answer
 
 // ---- the three ways in which a line ends: it is refused, the task goes on, its call ends
 
-pub fn refused(s: State, why: u32) -> Stepped
+#[tactic(auto, unfolding(coop_spec::specs::Entries::refuse))]
+pub fn refused(s: State, why: Refusal) -> Stepped
     ensures { (vs : List ℕ) → reply_of result vs ≡ refuse why (machine_of s vs) }
 {
     Stepped {
-        out: Output::Refuse(why),
+        out: Err(why),
         state: s,
     }
 }
 
-// One own step more, staying at 65535.
+// One own step more, staying at 65535. (As line_moves has it, which the cooperative bucket does not rest on.)
 fn one_more_own_step(n: u16) -> u16
     ensures { result ≡ min (n + 1) 65535 }
 {
-    if n < 65535 { n + 1 } else { 65535 }
+    n.saturating_add(1)
 }
 
 // The task goes on with the record x.
+#[tactic(auto, unfolding(coop_spec::specs::Entries::accept, coop_spec::specs::Entries::finish, coop_spec::specs::Words::apply_all, coop_spec::specs::Machine::with_own))]
 pub fn go(s: State, k: u32, x: Task) -> Stepped
     ensures { (vs : List ℕ) → reply_of result vs ≡ accept (machine_of s vs) k x.own (moves x) }
 {
-    let mut w = x;
-    w.own = one_more_own_step(x.own);
-    let t = coop_state::with_task(s, k, w);
+    let w = Task {
+        own: one_more_own_step(x.own),
+        ..x
+    };
     Stepped {
-        out: Output::At(x.line),
-        state: t,
+        out: Ok(Progress::At(x.line)),
+        state: coop_state::with_task(s, k, w),
     }
 }
 
 // On to a line of INVOKE, FREEZE or DOFREEZE that uses no o.
+#[tactic(auto, unfolding(coop_spec::specs::Machine::to_line))]
 pub fn go_line(s: State, k: u32, c: Task, line: u32) -> Stepped
     ensures { (vs : List ℕ) → reply_of result vs ≡ accept (machine_of s vs) k c.own (moves (to_line line c)) }
 {
-    let mut x = c;
-    x.line = line;
-    x.back = 0;
-    x.o = 0;
-    x.helped = 0;
-    go(s, k, x)
+    go(
+        s,
+        k,
+        Task {
+            line,
+            back: 0,
+            o: 0,
+            helped: 0,
+            ..c
+        },
+    )
 }
 
 // On to a line that uses o.
+#[tactic(auto, unfolding(coop_spec::specs::Machine::to_line_with))]
 pub fn go_with(s: State, k: u32, c: Task, line: u32, o: u32) -> Stepped
     ensures { (vs : List ℕ) → reply_of result vs ≡ accept (machine_of s vs) k c.own (moves (to_line_with line o c)) }
 {
-    let mut x = c;
-    x.line = line;
-    x.o = o;
-    go(s, k, x)
+    go(s, k, Task { line, o, ..c })
 }
 
 // Into HELPFINISH, which is to return to this line.
+#[tactic(auto, unfolding(coop_spec::specs::Machine::to_help))]
 pub fn go_help(s: State, k: u32, c: Task, back: u32) -> Stepped
     ensures { (vs : List ℕ) → reply_of result vs ≡ accept (machine_of s vs) k c.own (moves (to_help back c)) }
 {
-    let mut x = c;
-    x.line = 129;
-    x.back = back;
-    x.o = 0;
-    x.helped = 0;
-    go(s, k, x)
+    go(
+        s,
+        k,
+        Task {
+            line: 129,
+            back,
+            o: 0,
+            helped: 0,
+            ..c
+        },
+    )
 }
 
 // The call ends.
+#[tactic(auto, unfolding(coop_spec::specs::Entries::accept, coop_spec::specs::Entries::finish, coop_spec::specs::Words::apply_all))]
 pub fn end(s: State, k: u32, c: Task, a: Answer) -> Stepped
     ensures { (vs : List ℕ) → reply_of result vs ≡ accept (machine_of s vs) k c.own (answers a) }
 {
-    let n = one_more_own_step(c.own);
-    let w = coop_state::idle();
-    let t = coop_state::with_task(s, k, w);
     Stepped {
-        out: Output::End(a, n),
-        state: t,
+        out: Ok(Progress::End(a, one_more_own_step(c.own))),
+        state: coop_state::with_task(s, k, coop_state::idle()),
     }
 }
 
 // An invoke ends with yes: its operation's response may be read from now on.
+#[tactic(auto, unfolding(coop_spec::specs::Entries::accept, coop_spec::specs::Words::apply_all))]
 pub fn end_true(s: State, k: u32, c: Task) -> Stepped
     ensures { (vs : List ℕ) → reply_of result vs ≡ accept (machine_of s vs) k c.own (returns_true c []) }
 {
-    let t = coop_state::set_returned(s, c.op);
-    end(t, k, c, Answer::Yes)
+    end(coop_state::set_returned(s, c.op), k, c, Answer::Yes)
 }
 
 // ---- lines of one shape
@@ -167,9 +174,10 @@ pub fn choose(s: State, k: u32, c: Task, b: bool, x: u32, y: u32) -> Stepped
     ensures { (vs : List ℕ) → reply_of result vs ≡ accept (machine_of s vs) k c.own (moves (to_line (if b then x else y) c)) }
 {
     if b {
-        return go_line(s, k, c, x);
+        go_line(s, k, c, x)
+    } else {
+        go_line(s, k, c, y)
     }
-    go_line(s, k, c, y)
 }
 
 // o <- b.node: 99, 112, 121, 129.
@@ -181,11 +189,12 @@ pub fn read_node(s: State, k: u32, c: Task, next: u32) -> Stepped
 }
 
 // if o.op = nil on to the next line, else HELPFINISH(b): 100, 122.
+#[tactic(auto, unfolding(crate::specs::Reply::through_o))]
 pub fn test_op(s: State, k: u32, c: Task, vs: &[u32], next: u32, back: u32) -> Stepped
     ensures { reply_of result vs.now ≡ tested (machine_of s vs.now) k c next back }
 {
     if c.o == 0 {
-        return refused(s, 8);
+        return refused(s, Refusal::Spoilt);
     }
     if no_op(c, vs) {
         return go_with(s, k, c, next, c.o);
@@ -194,12 +203,12 @@ pub fn test_op(s: State, k: u32, c: Task, vs: &[u32], next: u32, back: u32) -> S
 }
 
 // HELPFINISH returns to its caller: 130, 140.
+#[tactic(auto, unfolding(coop_spec::specs::Lines::returns))]
 pub fn return_to(s: State, k: u32, c: Task) -> Stepped
     ensures { (vs : List ℕ) → reply_of result vs ≡ accept (machine_of s vs) k c.own (returns c []) }
 {
     if c.back == 103 {
         return end_true(s, k, c);
     }
-    let b = c.back == 106;
-    choose(s, k, c, b, 95, 120)
+    choose(s, k, c, c.back == 106, 95, 120)
 }

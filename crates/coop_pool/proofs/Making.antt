@@ -3,7 +3,7 @@ use Rattle.std.specs.Prelude.{if◌then◌else◌}
 use mathlib.Core.Path.{◌≡◌, refl, sym, ap, ◌∙◌}
 use mathlib.Core.List.{List, [], ◌∷◌}
 use mathlib.Core.Bool.{Bool, true, false}
-use Prim.Native.Nat.{ℕ, ◌≤◌}
+use Prim.Native.Nat.{ℕ, ◌≤◌, ◌<◌}
 use native.Mathlib.Omega.{arith}
 use borrow.Author.Tests.{leb-true, leb-false, lt-ltb, le-ltb}
 use lib.Dec.{leb, ltb, eqb}
@@ -21,8 +21,7 @@ use Rattle.bucket.proofs.Fill.{length_put}
 use Rattle.bucket.proofs.Pad.{tags_of_bucket}
 use Rattle.coop_spec.specs.declared.Operation.{Operation}
 use Rattle.coop_spec.specs.Words.{applied}
-use Rattle.coop_pool.specs.declared.Made.{Made}
-use Rattle.coop_pool.specs.Versions.{is_full, version_of, made}
+use Rattle.coop_pool.specs.Versions.{has_room, made}
 
 pub remove_absent : (x : ℕ) (ts : List ℕ) → member x ts ≡ false → remove_tag x ts ≡ ts
 unfolding member remove_tag
@@ -32,12 +31,12 @@ remove_absent x (y ∷ ys) e =
     rw n.0 (ap (λ (l : List ℕ). y ∷ l) (remove_absent x ys n.1))
 
 -- what is kept of a changed bucket
-abbrev pub made_from : Changed → Made
-made_from d = record { full = is_full d.answer; version = frozen_of d.bucket }
+abbrev pub made_from : Changed → Bucket
+made_from d = frozen_of d.bucket
 
 -- the version made where the operation leaves these tags
-abbrev leaving : List ℕ → List ℕ → Made
-leaving ts us = if ltb 64 (length us) then version_of true ts else version_of false us
+abbrev leaving : List ℕ → List ℕ → Bucket
+leaving ts us = record { words = bucket_of 0 (if ltb 64 (length us) then ts else us) }
 
 module _ (ts : List ℕ) (x : ℕ) (h : length ts ≤ 64) where
   abbrev adding : List ℕ → Changed
@@ -54,7 +53,7 @@ module _ (ts : List ℕ) (x : ℕ) (h : length ts ≤ 64) where
       ≡ leaving ts (add_tag x ts)
 
   adds : (m f : Bool) → found x ts ≡ m → leb 64 (length ts) ≡ f → Adds m f
-  unfolding is_full bucket_of
+  unfolding bucket_of
   adds true f em ef = rw (add_present x ts em, le-ltb 64 (length ts) h)
   adds false true em ef =
       let l = leb-true 64 (length ts) ef in
@@ -65,7 +64,7 @@ module _ (ts : List ℕ) (x : ℕ) (h : length ts ≤ 64) where
 
   removes : (m : Bool) → found x ts ≡ m → ascending ts ≡ true
       → made_from (if m then changed (bucket_of 1 (remove_tag x ts)) Yes else changed (bucket_of 1 ts) No) ≡ leaving ts (remove_tag x ts)
-  unfolding is_full bucket_of
+  unfolding bucket_of
   removes true em u = rw (le-ltb 64 (length (remove_tag x ts)) (omega (arith, length_remove x ts)))
   removes false em u = rw (remove_absent x ts (sym (found_member x ts u) ∙ em), le-ltb 64 (length ts) h)
 
@@ -93,3 +92,38 @@ module _ (q : Operation) (ts : List ℕ) (h : length ts ≤ 64) (u : ascending t
 
   pub makes : (p : Bucket) → p.words ≡ bucket_of 1 ts → made_from (by p) ≡ made q ts
   makes p e = ap (λ (w : List ℕ). made_from (by (record { words = w }))) e ∙ at_words
+
+-- ---- whether it has room
+
+module _ (q : Operation) (ts : List ℕ) (h : length ts ≤ 64) where
+  pub removing_fits : eqb q.kind 1 ≡ false → true ≡ has_room q ts
+  unfolding has_room applied
+  removing_fits e = rw (e, le-ltb 64 (length (remove_tag q.tag ts)) (omega (arith, length_remove q.tag ts)))
+
+  present_fits : eqb q.kind 1 ≡ true → found q.tag ts ≡ true → true ≡ has_room q ts
+  unfolding has_room applied
+  present_fits e em = rw (e, add_present q.tag ts em, le-ltb 64 (length ts) h)
+
+  -- an absent tag makes one more
+  few_fit : eqb q.kind 1 ≡ true → found q.tag ts ≡ false → length ts < 64 → true ≡ has_room q ts
+  unfolding has_room applied
+  few_fit e em l = rw (e, le-ltb 64 (length (add_tag q.tag ts)) (omega (arith, length_put q.tag ts em)))
+
+  full_has_none : eqb q.kind 1 ≡ true → found q.tag ts ≡ false → 64 ≤ length ts → false ≡ has_room q ts
+  unfolding has_room applied
+  full_has_none e em n = rw (e, lt-ltb 64 (length (add_tag q.tag ts)) (omega (arith, n, length_put q.tag ts em)))
+
+  pub adding_fits : eqb q.kind 1 ≡ true → length ts < 64 → true ≡ has_room q ts
+  adding_fits e l = go (found q.tag ts) refl
+    where
+      go : (m : Bool) → found q.tag ts ≡ m → true ≡ has_room q ts
+      go true em = present_fits e em
+      go false em = few_fit e em l
+
+  -- a full set has room for a tag that is there
+  pub full_fits : eqb q.kind 1 ≡ true → 64 ≤ length ts → found q.tag ts ≡ has_room q ts
+  full_fits e n = go (found q.tag ts) refl
+    where
+      go : (m : Bool) → found q.tag ts ≡ m → found q.tag ts ≡ has_room q ts
+      go true em = em ∙ present_fits e em
+      go false em = em ∙ full_has_none e em n

@@ -10,9 +10,9 @@ ghost use Rattle.spec.specs.Words.{tags, bucket_of};
 ghost use Rattle.bucket.specs.Bucket.{tags_in, added, removed};
 ghost use Rattle.coop_spec.specs.Machine.{machine_of};
 ghost use Rattle.coop_spec.specs.Words.{op_word, response, install, apply};
-ghost use Rattle.coop_pool.specs.Versions.{Tagged, is_full, made};
+ghost use Rattle.coop_pool.specs.Versions.{Tagged, has_room, made};
 
-use bucket::{Bucket, Changed, Response};
+use bucket::{Bucket, Changed};
 use coop_spec::{Operation, State};
 
 // A version's words, and the most versions.
@@ -22,21 +22,17 @@ pub const MOST_VERSIONS: usize = 1024;
 
 // ---- a version's first word
 
+#[tactic(auto, unfolding(coop_spec::specs::Words::op_word))]
 pub fn op_word(vs: &[u32], k: u32) -> u32
     ensures { (s : State) → result ≡ op_word (machine_of s vs.now) k }
 {
     pool::word(vs, VERSION_WORDS * (k as usize))
 }
 
-// Written through the part of the pool that begins at the version's first word.
 pub fn set_op_word(vs: &mut [u32], k: u32, m: u32)
     ensures { vs.new ≡ set vs.old (66 * k) m }
 {
-    let at = VERSION_WORDS * (k as usize);
-    if vs.len() <= at {
-        return;
-    }
-    pool::put(&mut vs[at..], 0, m)
+    pool::put(vs, VERSION_WORDS * (k as usize), m)
 }
 
 // ---- a version's set
@@ -49,70 +45,58 @@ pub fn has(vs: &[u32], k: u32, tag: u32) -> bool
 }
 
 // What an operation responds to version k's set: lines 132 to 137.
+#[tactic(auto, unfolding(coop_spec::specs::Words::response))]
 pub fn responds(op: Operation, vs: &[u32], k: u32) -> bool
     requires { Tagged vs.now k }
     ensures { result ≡ response op (tags vs.now k) }
 {
     let h = has(vs, k, op.tag);
     if op.kind == coop_state::INVOKE_INSERT {
-        return !h;
+        !h
+    } else {
+        h
     }
-    h
 }
 
 // ---- the version that an operation makes
-
-// That version, or that there is no room for a 65th tag.
-#[derive(Clone, Copy)]
-pub struct Made {
-    pub full: bool,
-    pub version: Bucket,
-}
-
-fn full(a: Response) -> bool
-    ensures { result ≡ is_full a }
-{
-    match a {
-        Response::Yes => false,
-        Response::No => false,
-        Response::Frozen => false,
-        Response::Full => true,
-    }
-}
 
 fn changed_by(op: Operation, b: Bucket) -> Changed
     ensures { result ≡ (if eqb op.kind 1 then added b op.tag else removed b op.tag) }
 {
     if op.kind == coop_state::INVOKE_INSERT {
-        return b.add(op.tag);
+        b.add(op.tag)
+    } else {
+        b.remove(op.tag)
     }
-    b.remove(op.tag)
 }
 
-fn made_by(op: Operation, b: Bucket) -> Made
+fn made_by(op: Operation, b: Bucket) -> Bucket
     requires { (length (tags_in b.words) ≤ 64) × (ascending (tags_in b.words) ≡ true) }
     ensures { result ≡ made op (tags_in b.words) }
 {
-    let p = bucket::opened(b);
-    let d = changed_by(op, p);
-    let a = d.answer;
-    let n = d.bucket;
-    let f = full(a);
     // a first word of 0: frozen for a bucket, for a version that no operation is being applied to it
-    let v = n.freeze();
-    Made {
-        full: f,
-        version: v,
+    changed_by(op, bucket::opened(b)).bucket.freeze()
+}
+
+// Whether the version that an operation makes of version k has at most 64 tags.
+pub fn has_room(op: Operation, vs: &[u32], k: u32) -> bool
+    requires { Tagged vs.now k }
+    ensures { result ≡ has_room op (tags vs.now k) }
+{
+    if op.kind == coop_state::INVOKE_INSERT {
+        let b = pool::buckets::load(vs, k as usize);
+        b.count() < bucket::MOST_TAGS || b.has(op.tag)
+    } else {
+        true
     }
 }
 
-// The version that an operation makes of version k.
-pub fn made_of(op: Operation, vs: &[u32], k: u32) -> Made
+// The version that an operation makes of version k; where there is no room it has that version's tags.
+pub fn made_of(op: Operation, vs: &[u32], k: u32) -> Bucket
     requires { Tagged vs.now k }
     ensures { result ≡ made op (tags vs.now k) }
 {
-    let b = pool::buckets::load(vs, k as usize);
-    made_by(op, b)
+    made_by(op, pool::buckets::load(vs, k as usize))
 }
 
 // Version k gets these words, and the bucket has it.

@@ -1,5 +1,5 @@
 // Which versions are held, as marks, and which one is taken next.
-ghost use Rattle.std.specs.Prelude.{◌≡◌, List, ℕ, ◌≤◌, ◌<◌};
+ghost use Rattle.std.specs.Prelude.{◌≡◌, List, ℕ, ◌≤◌, ◌<◌, ◌-◌, SomeIff};
 ghost use Rattle.spec.specs.Lists.{concat_map};
 ghost use Rattle.held_marks.specs.Marks.{Marks};
 ghost use Rattle.coop_spec.specs.Held.{task_versions, free_version};
@@ -7,11 +7,11 @@ ghost use Rattle.coop_spec.specs.Machine.{machine_of};
 
 use coop_spec::{State, Task};
 
+#[tactic(auto, using(held_marks::proofs::Laws::same), unfolding(coop_spec::specs::Held::task_versions))]
 fn mark_task(m: &mut [bool], c: Task)
     ensures { Marks m.old m.new (task_versions c) }
 {
-    let running = c.running;
-    if running {
+    if c.running {
         held_marks::mark(m, c.o);
     }
 }
@@ -19,19 +19,17 @@ fn mark_task(m: &mut [bool], c: Task)
 fn mark_tasks(s: State, m: &mut [bool])
     ensures { Marks m.old m.new (concat_map task_versions s.task) }
 {
-    let ts = s.task;
-    let mut k: usize = 0;
-    while k < 8 {
-        let c = ts[k];
+    for c in s.task {
         mark_task(m, c);
-        k += 1;
     }
 }
 
-// The link of the version to be taken, 0 if all are held.
-pub fn free_version(s: State) -> u32
+// The number of the version to be taken, None if all are held. (Compiled by itself: in its caller the eight tasks, looked at one by one, would have the
+// whole state copied in pieces, and `coop_c` would be larger than a Cortex-M3 may have it.)
+#[inline(never)]
+pub fn free_version(s: State) -> Option<u32>
     requires { (s.versions ≤ 1024) × (s.node < s.versions) × (s.last < s.versions) }
-    ensures { (vs : List ℕ) → result ≡ free_version (machine_of s vs) }
+    ensures { (vs : List ℕ) → SomeIff result (1 ≤ free_version (machine_of s vs)) (free_version (machine_of s vs) - 1) }
 {
     let mut m = [false; crate::MOST_VERSIONS];
     held_marks::mark(&mut m, s.node + 1);

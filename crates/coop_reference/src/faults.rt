@@ -78,12 +78,10 @@ fn bad_word(w: &[u32], at: usize) -> bool {
 }
 
 fn bad_among(w: &[u32], from: usize, end: usize) -> bool {
-    let mut at = from;
-    while at < end {
+    for at in from..end {
         if bad_word(w, at) {
             return true;
         }
-        at += 1;
     }
     false
 }

@@ -278,11 +278,9 @@ fn changed(w: &[u32], at: usize, x: u32, place: u32) -> u32 {
 }
 
 fn fill(w: &mut [u32], why: u32, place: u32, end: usize) {
-    let mut at: usize = 0;
-    while at < end {
+    for at in 0..end {
         let x = word_after(w, at, why, place);
         put(w, NEXT + at % SPAN, x);
-        at += 1;
     }
 }
 

@@ -5,12 +5,10 @@ use reference_words::words::{either, less_1, plus, rest};
 
 // "it is held while the bucket or a running task names it": memory is sound here, so an idle task names none.
 fn is_held(w: &[u32], place: u32) -> bool {
-    let mut at: usize = TASKS + 7;
-    while at < TASKS + 72 {
-        if get(w, at) == place {
+    for k in 0..8 {
+        if get(w, TASKS + 7 + 9 * k) == place {
             return true;
         }
-        at += 9;
     }
     node(w) == place
 }
@@ -24,14 +22,11 @@ pub fn still_has(w: &[u32]) -> bool {
 // held.
 pub fn free_version(w: &[u32], all: u32) -> u32 {
     let mut k = get(w, LAST);
-    let mut tried: u32 = 0;
-    while tried < all {
-        let next = rest(plus(k, 1), all);
-        k = next;
+    for _ in 0..all {
+        k = rest(plus(k, 1), all);
         if !is_held(w, plus(k, 1)) {
             return plus(k, 1);
         }
-        tried += 1;
     }
     0
 }
@@ -41,12 +36,9 @@ pub fn below(w: &[u32], x: u64) -> u32 {
     let o = mine(w, O);
     let count = version(w, o, 1);
     let mut n: u32 = 0;
-    let mut j: u32 = 0;
-    while j < count {
+    for j in 0..count {
         let tag = version(w, o, plus(j, 2)) as u64;
-        let more = plus(n, either(tag < x, 1, 0));
-        n = more;
-        j += 1;
+        n = plus(n, either(tag < x, 1, 0));
     }
     n
 }

@@ -1,4 +1,5 @@
 -- What is left to run of a schedule, a turn of the loop that runs it, and the whole. Assumes nothing.
+use Rattle.std.specs.Prelude.{Ok, Err}
 use Prim.Native.Nat.{ℕ, zero, suc, ◌+◌, ◌*◌, ◌-◌, ◌/◌, ◌≤◌, ◌<◌, min}
 use mathlib.Core.Path.{◌≡◌, refl, sym, ap, ◌∙◌, subst}
 use mathlib.Core.List.{List, [], ◌∷◌}
@@ -13,8 +14,8 @@ use Rattle.spec.specs.Words.{overwrite}
 use Rattle.spec.specs.Sound.{within}
 use Rattle.spec.specs.Entries.{pool_fits}
 use Rattle.schedule_words.proofs.Laws.{over_none, over_then}
-use Rattle.coop_spec.specs.declared.Output.{Output}
-use Rattle.coop_spec.specs.declared.Output.TheVariants.{At, End, Refuse}
+use Rattle.coop_spec.specs.Outputs.{Output}
+use Rattle.coop_spec.specs.declared.Progress.TheVariants.{At, End}
 use Rattle.coop_spec.specs.Numbers.{output_words}
 use Rattle.coop_spec.specs.Machine.{Machine}
 use Rattle.coop_spec.specs.Entries.{opening, Reply}
@@ -24,9 +25,9 @@ use Rattle.coop_words.specs.Events.{event_of, events_of}
 use Rattle.coop_schedule.specs.Encoding.{decoded, run_words}
 
 output_length : (o : Output) → length (output_words o) ≡ 4
-output_length (At line) = refl
-output_length (End a own) = refl
-output_length (Refuse r) = refl
+output_length (Ok (At line)) = refl
+output_length (Ok (End a own)) = refl
+output_length (Err r) = refl
 
 -- ---- what is left: the machine and the outputs of a run are those of the events es from the machine y on, whose words go to
 -- word i and after

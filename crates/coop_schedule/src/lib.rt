@@ -7,6 +7,7 @@ ghost use Rattle.spec.specs.Words.{overwrite};
 ghost use Rattle.coop_spec.specs.Numbers.{output_words};
 ghost use Rattle.coop_spec.specs.Machine.{machine_of};
 ghost use Rattle.coop_spec.specs.Schedule.{event, run, schedule};
+ghost use Rattle.coop_spec.specs.declared.Refusal.TheVariants.{Spoilt};
 ghost use Rattle.coop_spec.specs.Linearizable.{Linearizable, AtMostOnce, Never};
 ghost use Rattle.coop_lines.specs.Reply.{reply_of};
 ghost use Rattle.coop_words.specs.Events.{event_of, events_of};
@@ -14,7 +15,6 @@ ghost use Rattle.coop_schedule.specs.Encoding.{decoded, run_words, result_of, c_
 
 use coop_lines::Stepped;
 use coop_spec::State;
-use coop_words::Asked;
 
 // What a run gives: the opening's refusal, or 0; the number of events run; the state.
 #[derive(Clone, Copy)]
@@ -25,12 +25,13 @@ pub struct Outcome {
 }
 
 // Runs one event, given by its words.
+#[tactic(auto, unfolding(coop_spec::specs::Schedule::event, coop_words::specs::Events::event_asked))]
 fn run_event(s: State, kind: u32, task: u32, n: u32, tag: u32, vs: &mut [u32]) -> Stepped
     ensures { reply_of result vs.new ≡ event (machine_of s vs.old) (event_of kind task n tag) }
 {
     match coop_words::asked_by(kind) {
-        Asked::Start(call) => coop::start(s, task, call, n, tag, vs),
-        Asked::Step => coop::step(s, task, vs),
+        Some(call) => coop::start(s, task, call, n, tag, vs),
+        None => coop::step(s, task, vs),
     }
 }
 
@@ -42,9 +43,7 @@ fn run_events(s: State, n: usize, events: &[u32], vs: &mut [u32], outs: &mut [u3
         (run (machine_of s vs.old) (events_of n events.now)).outs)) }
 {
     let mut t = s;
-    let mut i = 0;
-    while i < n {
-        let next = i + 1;
+    for i in 0..n {
         let at = 4 * i;
         let r = run_event(
             t,
@@ -54,12 +53,9 @@ fn run_events(s: State, n: usize, events: &[u32], vs: &mut [u32], outs: &mut [u3
             events[at + 3],
             vs,
         );
-        let out = r.out;
-        let w = coop_words::output_words(out);
-        schedule_words::write_words(outs, i, w);
+        schedule_words::write_words(outs, i, coop_words::output_words(r.out));
         let after = r.state;
         t = after;
-        i = next;
     }
     t
 }
@@ -69,24 +65,23 @@ pub fn run(t: u32, vs: &mut [u32], events: &[u32], outs: &mut [u32]) -> Outcome
     ensures words { result_of result vs.new outs.new ≡ run_words t vs.old events.now outs.old }
     ensures linearizable { result.refusal ≡ 0 → Linearizable t vs.old (decoded events.now outs.old) }
     ensures once { result.refusal ≡ 0 → AtMostOnce t vs.old (decoded events.now outs.old) }
-    ensures never_8 { result.refusal ≡ 0 → Never 8 (schedule t vs.old (decoded events.now outs.old)).outs }
+    ensures never_8 { result.refusal ≡ 0 → Never Spoilt (schedule t vs.old (decoded events.now outs.old)).outs }
 {
     let o = coop_opening::open(t, vs);
-    let refusal = o.refusal;
     let s = o.state;
-    if refusal != 0 {
+    if let Some(why) = o.refusal {
         return Outcome {
-            refusal,
+            refusal: why.number(),
             ran: 0,
             state: s,
         };
     }
-    let n = schedule_events::number_of_events(events.len(), outs.len());
-    let z = run_events(s, n, events, vs, outs);
+    let ran = schedule_events::number_of_events(events.len(), outs.len());
+    let state = run_events(s, ran, events, vs, outs);
     Outcome {
         refusal: 0,
-        ran: n,
-        state: z,
+        ran,
+        state,
     }
 }
 
@@ -97,8 +92,8 @@ pub fn coop_schedule_run(tasks: u32, vs: &mut [u32], events: &[u32], outs: &mut 
 {
     let o = run(tasks, vs, events, outs);
     if o.refusal != 0 {
-        return 1024 + o.refusal;
+        1024 + o.refusal
+    } else {
+        o.state.node
     }
-    let s = o.state;
-    s.node
 }

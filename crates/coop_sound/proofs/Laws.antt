@@ -3,7 +3,7 @@
 use mathlib.Core.Path.{◌≡◌, refl, sym}
 use mathlib.Core.List.{List, [], ◌∷◌}
 use mathlib.Core.Bool.{Bool, true, false, not, ◌&&◌, ◌||◌}
-use Prim.Native.Nat.{ℕ, zero, suc, ◌+◌, ◌-◌, ◌*◌, ◌<◌, ◌≤◌}
+use Prim.Native.Nat.{ℕ, suc, ◌+◌, ◌-◌, ◌*◌, ◌<◌, ◌≤◌}
 use native.Mathlib.Numerals.{add-one}
 use native.Mathlib.Omega.{arith}
 use native.Mathlib.Decide.{dec_lt}
@@ -99,7 +99,7 @@ module _ (y : Machine) where
     unfolding sound_tasks
     tasks_end h = rw (drop_of_length-le ts h)
 
--- ---- the lines of a call
+-- ---- the lines of a call, written out
 
 abbrev pub invoke_call : List ℕ
 invoke_call = 95 ∷ 96 ∷ 99 ∷ 100 ∷ 101 ∷ 102 ∷ 107 ∷ 120 ∷ 121 ∷ 122 ∷ 123 ∷ 127 ∷ 129 ∷ 130 ∷ 138 ∷ 139 ∷ 140 ∷ []
@@ -113,32 +113,9 @@ member_call = 112 ∷ 113 ∷ []
 abbrev pub response_call : List ℕ
 response_call = 117 ∷ []
 
-pub lines_none : (n : ℕ) → n < 1 → lines_of n ≡ []
+pub lines : (n : ℕ) → lines_of n ≡ get_or ([] ∷ invoke_call ∷ invoke_call ∷ freeze_call ∷ member_call ∷ response_call ∷ []) n []
 unfolding lines_of invoke_lines member_lines help_lines freeze_lines
-lines_none n h = let e : n ≡ 0 = omega arith in rw e
-
-pub lines_invoke : (n : ℕ) → 1 ≤ n → n < 3 → lines_of n ≡ invoke_call
-unfolding lines_of invoke_lines member_lines help_lines freeze_lines
-lines_invoke zero h l = absurd (omega arith)
-lines_invoke (suc zero) h l = refl
-lines_invoke (suc (suc zero)) h l = refl
-lines_invoke (suc (suc (suc n))) h l = absurd (omega arith)
-
-pub lines_freeze : (n : ℕ) → 3 ≤ n → n < 4 → lines_of n ≡ freeze_call
-unfolding lines_of invoke_lines member_lines help_lines freeze_lines
-lines_freeze n h l = let e : n ≡ 3 = omega arith in rw e
-
-pub lines_member : (n : ℕ) → 4 ≤ n → n < 5 → lines_of n ≡ member_call
-unfolding lines_of invoke_lines member_lines help_lines freeze_lines
-lines_member n h l = let e : n ≡ 4 = omega arith in rw e
-
-pub lines_response : (n : ℕ) → 5 ≤ n → n < 6 → lines_of n ≡ response_call
-unfolding lines_of invoke_lines member_lines help_lines freeze_lines
-lines_response n h l = let e : n ≡ 5 = omega arith in rw e
-
-pub lines_past : (n : ℕ) → 6 ≤ n → lines_of n ≡ []
-unfolding lines_of invoke_lines member_lines help_lines freeze_lines
-lines_past n h = get_or-eq_default ([] ∷ invoke_call ∷ invoke_call ∷ freeze_call ∷ member_call ∷ response_call ∷ []) [] h
+lines n = refl
 
 -- ---- the numbers of a sound state
 

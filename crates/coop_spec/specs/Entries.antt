@@ -1,14 +1,16 @@
 -- The entries: opening, start and step, each with its refusals in order, then the work. "A refusal gives only its number; state and
 -- slices keep every word." Assumes nothing.
-use Rattle.std.specs.Prelude.{ℕ, ◌+◌, ◌*◌, ◌/◌, min, List, Bool, true, not, ◌&&◌, ◌||◌, ltb, eqb, length, replicate, if◌then◌else◌}
+use Rattle.std.specs.Prelude.{ℕ, ◌+◌, ◌*◌, ◌/◌, min, List, Bool, true, not, ◌&&◌, ◌||◌, ltb, eqb, length, replicate, if◌then◌else◌, Ok, Err}
+use Rattle.coop_spec.specs.declared.Refusal.{Refusal}
+use Rattle.coop_spec.specs.declared.Refusal.TheVariants.{NoTask, NotStarted, Idle, NoVersion, Spoilt}
 use Rattle.spec.specs.Sound.{within}
 use Rattle.spec.specs.Entries.{pool_fits}
 use Rattle.coop_spec.specs.declared.Operation.{Operation}
 use Rattle.coop_spec.specs.declared.Task.{Task}
 use Rattle.coop_spec.specs.declared.Call.{Call}
 use Rattle.coop_spec.specs.declared.Call.TheVariants.{InvokeInsert, InvokeRemove, Freeze, HasMember, GetResponse}
-use Rattle.coop_spec.specs.declared.Output.{Output}
-use Rattle.coop_spec.specs.declared.Output.TheVariants.{At, End, Refuse}
+use Rattle.coop_spec.specs.Outputs.{Output}
+use Rattle.coop_spec.specs.declared.Progress.TheVariants.{At, End}
 use Rattle.coop_spec.specs.Numbers.{call_number}
 use Rattle.coop_spec.specs.Machine.{Machine, with_type, operation_of, set_operation, idle, fresh_task, with_own, state_of, task_of, set_task}
 use Rattle.coop_spec.specs.Words.{apply_all}
@@ -45,8 +47,8 @@ pub record Reply : Type 0 where
   pub out : Output
   pub machine : Machine
 
-unfoldable pub refuse : ℕ → Machine → Reply
-refuse r y = record { out = Refuse r; machine = y }
+unfoldable pub refuse : Refusal → Machine → Reply
+refuse r y = record { out = Err r; machine = y }
 
 -- "the first invoke of a number fixes its type and tag, and an invoke with others, or of a number past 63, gives 5"
 unfoldable pub fits_type : Operation → ℕ → ℕ → Bool
@@ -79,17 +81,17 @@ fixing y GetResponse n k = y
 -- paper 01: "Start: 8, 4, 5."
 unfoldable pub start : Machine → ℕ → Call → ℕ → ℕ → Reply
 start y t call n k =
-    if not (sound y) then refuse 8 y
-    else if not (ltb t y.state.tasks) then refuse 4 y
-    else if (task_of y t).running || not (may_start y call n k) then refuse 5 y
-    else record { out = At (started call n k).line; machine = set_task t (started call n k) (fixing y call n k) }
+    if not (sound y) then refuse Spoilt y
+    else if not (ltb t y.state.tasks) then refuse NoTask y
+    else if (task_of y t).running || not (may_start y call n k) then refuse NotStarted y
+    else record { out = Ok (At (started call n k).line); machine = set_task t (started call n k) (fixing y call n k) }
 
 -- ---- step
 
 -- the task's next record with its own steps, or an idle record, and what is answered
 unfoldable pub finish : Machine → ℕ → ℕ → Next → Reply
-finish y t own (on c) = record { out = At c.line; machine = set_task t (with_own own c) y }
-finish y t own (ends a) = record { out = End a own; machine = set_task t idle y }
+finish y t own (on c) = record { out = Ok (At c.line); machine = set_task t (with_own own c) y }
+finish y t own (ends a) = record { out = Ok (End a own); machine = set_task t idle y }
 
 -- "Own steps count accepted steps of the call, staying at 65,535."
 unfoldable pub accept : Machine → ℕ → ℕ → Effect → Reply
@@ -98,14 +100,14 @@ accept y t own e = finish (apply_all e.writes y) t (min (own + 1) 65535) e.next
 -- 8 of the step, 7, then the line
 unfoldable pub step_running : Machine → ℕ → Task → Reply
 step_running y t c =
-    if unsound_step y c then refuse 8 y
-    else if all_held y c then refuse 7 y
+    if unsound_step y c then refuse Spoilt y
+    else if all_held y c then refuse NoVersion y
     else accept y t c.own (effect y c)
 
 -- paper 01: "Step: 8, 4, 6, 8 of the step, 7."
 unfoldable pub step : Machine → ℕ → Reply
 step y t =
-    if not (sound y) then refuse 8 y
-    else if not (ltb t y.state.tasks) then refuse 4 y
-    else if not (task_of y t).running then refuse 6 y
+    if not (sound y) then refuse Spoilt y
+    else if not (ltb t y.state.tasks) then refuse NoTask y
+    else if not (task_of y t).running then refuse Idle y
     else step_running y t (task_of y t)

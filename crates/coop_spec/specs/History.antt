@@ -1,12 +1,12 @@
 -- What is told of a schedule, event by event: its ended calls with their answers, each task's last accepted start, and the operations
 -- that took effect. Assumes nothing.
-use Rattle.std.specs.Prelude.{ℕ, suc, ◌-◌, List, [], ◌∷◌, true, false, not, ◌&&◌, eqb, leb, if◌then◌else◌}
+use Rattle.std.specs.Prelude.{ℕ, suc, ◌-◌, List, [], ◌∷◌, true, false, not, ◌&&◌, eqb, leb, if◌then◌else◌, Ok, Err}
 use Rattle.coop_spec.specs.declared.Answer.{Answer}
 use Rattle.coop_spec.specs.declared.Answer.TheVariants.{Yes, No, Version}
 use Rattle.coop_spec.specs.declared.Call.{Call}
 use Rattle.coop_spec.specs.declared.Call.TheVariants.{InvokeInsert, InvokeRemove, Freeze, HasMember, GetResponse}
-use Rattle.coop_spec.specs.declared.Output.{Output}
-use Rattle.coop_spec.specs.declared.Output.TheVariants.{At, End, Refuse}
+use Rattle.coop_spec.specs.Outputs.{Output}
+use Rattle.coop_spec.specs.declared.Progress.TheVariants.{At, End}
 use Rattle.coop_spec.specs.Machine.{Machine, operation_of}
 use Rattle.coop_spec.specs.Words.{current, op_word, tags_of}
 use Rattle.coop_spec.specs.Entries.{Reply, opening}
@@ -51,18 +51,18 @@ pub record Started : Type 0 where
 
 -- each task's last accepted start, after event n
 unfoldable pub note : ℕ → (ℕ → Started) → Event → Output → ℕ → Started
-note n last (starts p call i k) (At l) q = if eqb q p then record { call = atomic_call call i k; start = n } else last q
-note n last (starts p call i k) (End a own) q = last q
-note n last (starts p call i k) (Refuse r) q = last q
+note n last (starts p call i k) (Ok (At l)) q = if eqb q p then record { call = atomic_call call i k; start = n } else last q
+note n last (starts p call i k) (Ok (End a own)) q = last q
+note n last (starts p call i k) (Err r) q = last q
 note n last (steps p) o q = last q
 
 -- the ended calls after event n, the last first; y is what the event left
 unfoldable pub tell : ℕ → (ℕ → Started) → List Ended → Event → Output → Machine → List Ended
 tell n last H (starts p call i k) o y = H
-tell n last H (steps p) (At l) y = H
-tell n last H (steps p) (End a own) y =
+tell n last H (steps p) (Ok (At l)) y = H
+tell n last H (steps p) (Ok (End a own)) y =
     record { occurrence = record { task = p; start = (last p).start; call = (last p).call; result = result_of y a }; end = n } ∷ H
-tell n last H (steps p) (Refuse r) y = H
+tell n last H (steps p) (Err r) y = H
 
 -- ---- operations that took effect, the last first, from the machine before and after each event
 

@@ -1,3 +1,4 @@
+pub mod Outputs
 pub mod Numbers
 pub mod Machine
 pub mod Words

@@ -2,9 +2,10 @@
 -- if they like, lets its ended calls, and where needed some still running, be put in an order, a call that ended before another started
 -- first, in which the atomic bucket of Figure 1 gives the same answers. Each operation takes effect at most once." "No version needs a
 -- 65th tag; 8 .. never arises from an opening onward." Proved in the crate coop_linear. Assumes nothing.
-use Rattle.std.specs.Prelude.{ℕ, ◌+◌, ◌/◌, ◌≤◌, ◌≡◌, ◌⊎◌, true, false, List, [], ◌∷◌, length}
-use Rattle.coop_spec.specs.declared.Output.{Output}
-use Rattle.coop_spec.specs.declared.Output.TheVariants.{Refuse}
+use Rattle.std.specs.Prelude.{ℕ, ◌+◌, ◌/◌, ◌≤◌, ◌≡◌, ◌⊎◌, true, false, List, [], ◌∷◌, length, Err}
+use Rattle.coop_spec.specs.declared.Refusal.{Refusal}
+use Rattle.coop_spec.specs.declared.Refusal.TheVariants.{NoVersion}
+use Rattle.coop_spec.specs.Outputs.{Output}
 use Rattle.coop_spec.specs.Machine.{Machine, task_of}
 use Rattle.coop_spec.specs.StepRefusals.{needs_65th_tag}
 use Rattle.coop_spec.specs.Schedule.{Event, schedule}
@@ -80,13 +81,13 @@ pub record AtMostOnce (t : ℕ) (ws : List ℕ) (es : List Event) : Type 0 where
   pub installed : NoneTwice (history t ws es).installed
 
 -- no refusal of this number among the outputs: "8 .. never arises from an opening onward"; and 7, with versions enough
-abbrev pub Never : ℕ → List Output → Type 0
+abbrev pub Never : Refusal → List Output → Type 0
 Never r [] = Unit {0}
-Never r (o ∷ os) = (¬ (o ≡ Refuse r)) × Never r os
+Never r (o ∷ os) = (¬ (o ≡ Err r)) × Never r os
 
 -- v versions always suffice for T tasks: opened with at least so many, no schedule meets refusal 7
 abbrev pub Suffices : ℕ → ℕ → Type 0
-Suffices t v = (ws : List ℕ) (es : List Event) → v ≤ length ws / 66 → Never 7 (schedule t ws es).outs
+Suffices t v = (ws : List ℕ) (es : List Event) → v ≤ length ws / 66 → Never NoVersion (schedule t ws es).outs
 
 -- the least number that does
 abbrev pub enough_versions : ℕ → ℕ

@@ -1,10 +1,13 @@
 // The types of the cooperative bucket of Figure 6: an operation, a task's record, the state, and what a start or a step answers.
-// specs/ has every definition of what they mean; no code is here.
+// specs/ has every definition of what they mean; no code is here but a refusal's number.
 #![tactic(auto)]
+
+ghost use Rattle.std.specs.Prelude.{◌≡◌};
+ghost use Rattle.coop_spec.specs.Numbers.{refusal_number};
 
 // The calls: an invoke of an operation that inserts or that removes, a freeze, a member test, a get response. `call_number` in
 // specs/Numbers gives the number that a task's record keeps.
-#[derive(Clone, Copy)]
+#[derive(Clone, Copy, PartialEq, Eq)]
 pub enum Call {
     InvokeInsert,
     InvokeRemove,
@@ -14,24 +17,54 @@ pub enum Call {
 }
 
 // How a call ends: a freeze with the number of the version that has the frozen set, every other call with yes or no.
-#[derive(Clone, Copy)]
+#[derive(Clone, Copy, PartialEq, Eq)]
 pub enum Answer {
     Yes,
     No,
     Version(u32),
 }
 
-// What a start or a step answers: the line at which the task now stands, the ended call's answer and own steps, or a refusal's
-// number.
-#[derive(Clone, Copy)]
-pub enum Output {
+// What an accepted start or step answers: the line at which the task now stands, or the ended call's answer and own steps.
+#[derive(Clone, Copy, PartialEq, Eq)]
+pub enum Progress {
     At(u32),
     End(Answer, u16),
-    Refuse(u32),
 }
 
+// Why an opening, a start or a step is refused, in the order of the paper's numbers, which `refusal_number` in specs/Numbers gives.
+#[derive(Clone, Copy, PartialEq, Eq)]
+pub enum Refusal {
+    BadTasks,
+    BadVersions,
+    NoTask,
+    NotStarted,
+    Idle,
+    NoVersion,
+    Spoilt,
+}
+
+impl Refusal {
+    // Its number in the papers.
+    pub fn number(self) -> u32
+        ensures { result ≡ refusal_number self }
+    {
+        match self {
+            Refusal::BadTasks => 1,
+            Refusal::BadVersions => 3,
+            Refusal::NoTask => 4,
+            Refusal::NotStarted => 5,
+            Refusal::Idle => 6,
+            Refusal::NoVersion => 7,
+            Refusal::Spoilt => 8,
+        }
+    }
+}
+
+// What a start or a step answers.
+pub type Output = Result<Progress, Refusal>;
+
 // An operation (FSETOP). One never invoked is zeros.
-#[derive(Clone, Copy)]
+#[derive(Clone, Copy, PartialEq, Eq)]
 pub struct Operation {
     // 0 never invoked, 1 insert, 2 remove
     pub kind: u32,
@@ -44,7 +77,7 @@ pub struct Operation {
 }
 
 // One task's record. A task that runs nothing has a record of zeros.
-#[derive(Clone, Copy)]
+#[derive(Clone, Copy, PartialEq, Eq)]
 pub struct Task {
     pub running: bool,
     // 0 none, else the call's number

@@ -16,6 +16,7 @@ use coop_spec::{Operation, State, Task};
 const OPERATIONS: u32 = 64;
 
 // An operation never invoked.
+#[tactic(auto, unfolding(coop_spec::specs::Machine::never_invoked))]
 fn never() -> Operation
     ensures { result ≡ never_invoked }
 {
@@ -28,60 +29,70 @@ fn never() -> Operation
     }
 }
 
+#[tactic(auto, unfolding(coop_spec::specs::Machine::operation_of))]
 pub fn operation(s: State, n: u32) -> Operation
     ensures { (vs : List ℕ) → result ≡ operation_of (machine_of s vs) n }
 {
     if OPERATIONS <= n {
         return never();
     }
-    let i = n as usize;
-    let op = s.operation[i];
-    op
+    s.operation[n as usize]
 }
 
+#[tactic(auto, unfolding(coop_spec::specs::Machine::set_operation, coop_spec::specs::Machine::with_operations, coop_spec::specs::Machine::with_state))]
 fn with_operation(s: State, n: u32, op: Operation) -> State
     ensures { (vs : List ℕ) → machine_of result vs ≡ set_operation n op (machine_of s vs) }
 {
-    if OPERATIONS <= n {
-        return s;
-    }
-    let i = n as usize;
     let mut t = s;
-    t.operation[i] = op;
+    if n < OPERATIONS {
+        t.operation[n as usize] = op;
+    }
     t
 }
 
 // Operation n gets its type and tag.
+#[tactic(auto, unfolding(coop_spec::specs::Machine::with_type))]
 pub fn set_type(s: State, n: u32, kind: u32, tag: u32) -> State
     ensures { (vs : List ℕ) → machine_of result vs ≡ set_operation n (with_type kind tag (operation_of (machine_of s vs) n)) (machine_of s vs) }
 {
-    let mut op = operation(s, n);
-    op.kind = kind;
-    op.tag = tag;
+    let op = Operation {
+        kind,
+        tag,
+        ..operation(s, n)
+    };
     with_operation(s, n, op)
 }
 
+#[tactic(auto, unfolding(coop_spec::specs::Words::apply, coop_spec::specs::Machine::with_resp))]
 pub fn set_resp(s: State, n: u32, b: bool) -> State
     ensures { (vs : List ℕ) → machine_of result vs ≡ apply (set_resp n b) (machine_of s vs) }
 {
-    let mut op = operation(s, n);
-    op.resp = b;
+    let op = Operation {
+        resp: b,
+        ..operation(s, n)
+    };
     with_operation(s, n, op)
 }
 
+#[tactic(auto, unfolding(coop_spec::specs::Words::apply, coop_spec::specs::Machine::as_done))]
 pub fn set_done(s: State, n: u32) -> State
     ensures { (vs : List ℕ) → machine_of result vs ≡ apply (set_done n) (machine_of s vs) }
 {
-    let mut op = operation(s, n);
-    op.done = true;
+    let op = Operation {
+        done: true,
+        ..operation(s, n)
+    };
     with_operation(s, n, op)
 }
 
+#[tactic(auto, unfolding(coop_spec::specs::Words::apply, coop_spec::specs::Machine::as_returned))]
 pub fn set_returned(s: State, n: u32) -> State
     ensures { (vs : List ℕ) → machine_of result vs ≡ apply (set_returned n) (machine_of s vs) }
 {
-    let mut op = operation(s, n);
-    op.returned = true;
+    let op = Operation {
+        returned: true,
+        ..operation(s, n)
+    };
     with_operation(s, n, op)
 }
 
@@ -101,6 +112,7 @@ pub const HAS_MEMBER: u32 = 4;
 pub const GET_RESPONSE: u32 = 5;
 
 // A task that runs nothing.
+#[tactic(auto, unfolding(coop_spec::specs::Machine::idle))]
 pub fn idle() -> Task
     ensures { result ≡ idle }
 {
@@ -118,6 +130,7 @@ pub fn idle() -> Task
 }
 
 // A running task: a call's number, its operation, its tag and its first line.
+#[tactic(auto, unfolding(coop_spec::specs::Machine::idle, coop_spec::specs::Machine::fresh_task))]
 pub fn fresh_task(call: u32, op: u32, tag: u32, line: u32) -> Task
     ensures { result ≡ fresh_task call op tag line }
 {
@@ -127,10 +140,7 @@ pub fn fresh_task(call: u32, op: u32, tag: u32, line: u32) -> Task
         op,
         tag,
         line,
-        back: 0,
-        own: 0,
-        o: 0,
-        helped: 0,
+        ..idle()
     }
 }
 
@@ -138,68 +148,64 @@ pub fn fresh_task(call: u32, op: u32, tag: u32, line: u32) -> Task
 pub fn is_invoke(call: u32) -> bool
     ensures { result ≡ invokes call }
 {
-    let inserts = call == INVOKE_INSERT;
-    let removes = call == INVOKE_REMOVE;
-    inserts | removes
+    matches!(call, INVOKE_INSERT | INVOKE_REMOVE)
 }
 
+#[tactic(auto, unfolding(coop_spec::specs::Machine::task_of))]
 pub fn task(s: State, k: u32) -> Task
     ensures { (vs : List ℕ) → result ≡ task_of (machine_of s vs) k }
 {
     if TASKS <= k {
         return idle();
     }
-    let j = k as usize;
-    let c = s.task[j];
-    c
+    s.task[k as usize]
 }
 
+#[tactic(auto, unfolding(coop_spec::specs::Machine::set_task, coop_spec::specs::Machine::with_task, coop_spec::specs::Machine::with_state))]
 pub fn with_task(s: State, k: u32, c: Task) -> State
     ensures { (vs : List ℕ) → machine_of result vs ≡ set_task k c (machine_of s vs) }
 {
-    if TASKS <= k {
-        return s;
-    }
-    let j = k as usize;
     let mut t = s;
-    t.task[j] = c;
+    if k < TASKS {
+        t.task[k as usize] = c;
+    }
     t
 }
 
 // ---- the state
 
 // As an opening leaves it, with v versions; of zeros with no task and no version.
+#[tactic(auto, unfolding(coop_spec::specs::Machine::state_of))]
 pub fn fresh_state(t: u32, v: u32) -> State
     ensures { result ≡ state_of t v }
 {
-    let op = never();
-    let c = idle();
     State {
         tasks: t,
         versions: v,
         node: 0,
         last: 0,
         flag: false,
-        operation: [op; 64],
-        task: [c; 8],
+        operation: [never(); 64],
+        task: [idle(); 8],
     }
 }
 
 // The bucket's flag is raised.
+#[tactic(auto, unfolding(coop_spec::specs::Machine::with_flag, coop_spec::specs::Machine::with_state))]
 pub fn with_flag(s: State) -> State
     ensures { (vs : List ℕ) → machine_of result vs ≡ with_flag true (machine_of s vs) }
 {
-    let mut t = s;
-    t.flag = true;
-    t
+    State { flag: true, ..s }
 }
 
 // The bucket has version k, which is the last taken.
+#[tactic(auto, unfolding(coop_spec::specs::Machine::with_node, coop_spec::specs::Machine::with_state))]
 pub fn with_node(s: State, k: u32) -> State
     ensures { (vs : List ℕ) → machine_of result vs ≡ with_node k (machine_of s vs) }
 {
-    let mut t = s;
-    t.node = k;
-    t.last = k;
-    t
+    State {
+        node: k,
+        last: k,
+        ..s
+    }
 }

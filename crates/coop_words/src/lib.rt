@@ -2,58 +2,35 @@
 #![tactic(auto)]
 
 ghost use Rattle.std.specs.Prelude.{◌≡◌, ℕ};
-ghost use Rattle.coop_spec.specs.Numbers.{answer_number, answer_version, output_words};
+ghost use Rattle.coop_spec.specs.Numbers.{output_words};
 ghost use Rattle.coop_words.specs.Events.{event_of, event_asked};
 
-use coop_spec::{Answer, Call, Output};
+use coop_spec::{Answer, Call, Output, Progress};
 
-// What an event asks for, whichever task, operation and tag it names.
-#[derive(Clone, Copy)]
-pub enum Asked {
-    Start(Call),
-    Step,
-}
-
-// By the event's first word.
-pub fn asked_by(kind: u32) -> Asked
+// The call of the start that an event asks for, by the event's first word; None where it asks for a step.
+#[tactic(auto, unfolding(crate::specs::Events::event_of, crate::specs::Events::event_asked))]
+pub fn asked_by(kind: u32) -> Option<Call>
     ensures { (task n tag : ℕ) → event_of kind task n tag ≡ event_asked result task n tag }
 {
     match kind {
-        1 => Asked::Start(Call::InvokeInsert),
-        2 => Asked::Start(Call::InvokeRemove),
-        3 => Asked::Start(Call::Freeze),
-        4 => Asked::Start(Call::HasMember),
-        5 => Asked::Start(Call::GetResponse),
-        _ => Asked::Step,
+        1 => Some(Call::InvokeInsert),
+        2 => Some(Call::InvokeRemove),
+        3 => Some(Call::Freeze),
+        4 => Some(Call::HasMember),
+        5 => Some(Call::GetResponse),
+        _ => None,
     }
 }
 
-fn answer_number(a: Answer) -> u32
-    ensures { result ≡ answer_number a }
-{
-    match a {
-        Answer::Yes => 1,
-        Answer::No => 2,
-        Answer::Version(_) => 3,
-    }
-}
-
-fn answer_version(a: Answer) -> u32
-    ensures { result ≡ answer_version a }
-{
-    match a {
-        Answer::Yes => 0,
-        Answer::No => 0,
-        Answer::Version(v) => v,
-    }
-}
-
+// An output's words: which of the three it is; an ended call's answer and own steps, and the version that a freeze answers.
 pub fn output_words(out: Output) -> [u32; 4]
     ensures { result ≡ output_words out }
 {
     match out {
-        Output::At(line) => [0, line, 0, 0],
-        Output::End(a, own) => [1, answer_number(a), own as u32, answer_version(a)],
-        Output::Refuse(why) => [2, why, 0, 0],
+        Ok(Progress::At(line)) => [0, line, 0, 0],
+        Ok(Progress::End(Answer::Yes, own)) => [1, 1, u32::from(own), 0],
+        Ok(Progress::End(Answer::No, own)) => [1, 2, u32::from(own), 0],
+        Ok(Progress::End(Answer::Version(v), own)) => [1, 3, u32::from(own), v],
+        Err(why) => [2, why.number(), 0, 0],
     }
 }

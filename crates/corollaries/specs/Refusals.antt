@@ -1,16 +1,16 @@
 -- Each of the refusals 1 to 9, 11 and 14 is given exactly under its condition: one theorem for each, read off the tables. In the other rows of
 -- a table the numbers differ. Assumes nothing.
-use Rattle.std.specs.Prelude.{ℕ, ◌≤◌, ◌<◌, ◌≡◌, refl, ◌↔◌, ◌⊎◌, true, false, List, length}
-use Rattle.std.proofs.Common.{inl, inr, arith}
+use Rattle.std.specs.Prelude.{ℕ, ◌≤◌, ◌<◌, ◌≡◌, refl, ◌↔◌, ◌⊎◌, true, false, List, length, Err}
+use Rattle.std.proofs.Common.{ap, inl, inr, arith}
+use Rattle.spec.specs.declared.Refusal.TheVariants.{NoTask, Running, Idle, NoRecord, Spoilt, ShortList, Withdrawn}
 use Rattle.spec.specs.declared.Task.{Task}
 use Rattle.spec.specs.declared.Call.{Call}
-use Rattle.spec.specs.declared.Output.TheVariants.{Refuse}
-use Rattle.spec.specs.declared.Listing.TheVariants.{Refused}
 use Rattle.spec.specs.Machine.{Machine, task_of}
 use Rattle.spec.specs.declared.Config.{Config}
 use Rattle.spec.specs.Sound.{node_count, bucket_count}
 use Rattle.spec.specs.Listed.{listed}
 use Rattle.spec.specs.Entries.{opening, start, step, list}
+use Rattle.spec.specs.Numbers.{refusal_number}
 use Rattle.laws.specs.SoundFacts.{SoundFacts}
 use Rattle.laws.specs.Withdrawn.{InsertOfZero}
 use Rattle.laws.specs.StepRefusals.{StepSound}
@@ -67,47 +67,47 @@ module _ (g : Config) (ns bs : List ℕ) where
 
 module _ (y : Machine) (k : ℕ) (call : Call) (tag : ℕ) where
   -- 4 of a start: memory is sound, and the task's number is T or more
-  pub refusal_4_start : (start y k call tag).out ≡ Refuse 4 ↔ (SoundFacts y × (y.state.config.tasks ≤ k))
-  refusal_4_start = ((λ e. go ((start_refused y k 4 call tag).0 e)), (λ h. (start_refused y k 4 call tag).1 (is_4 refl h.0 h.1)))
+  pub refusal_4_start : (start y k call tag).out ≡ Err NoTask ↔ (SoundFacts y × (y.state.config.tasks ≤ k))
+  refusal_4_start = ((λ e. go ((start_refused y k NoTask call tag).0 e)), (λ h. (start_refused y k NoTask call tag).1 (is_4 refl h.0 h.1)))
     where
-      go : StartRefused y k call tag 4 → SoundFacts y × (y.state.config.tasks ≤ k)
-      go (is_8 e n) = absurd (omega arith)
+      go : StartRefused y k call tag NoTask → SoundFacts y × (y.state.config.tasks ≤ k)
+      go (is_8 e n) = absurd (omega (arith, ap refusal_number e))
       go (is_4 e f h) = (f, h)
-      go (is_5 e f h s) = absurd (omega arith)
-      go (is_14 e f h s z) = absurd (omega arith)
+      go (is_5 e f h s) = absurd (omega (arith, ap refusal_number e))
+      go (is_14 e f h s z) = absurd (omega (arith, ap refusal_number e))
 
   -- 5: memory is sound, and the task is there and runs a call
-  pub refusal_5 : (start y k call tag).out ≡ Refuse 5 ↔ (SoundFacts y × (k < y.state.config.tasks) × ((task_of y k).running ≡ true))
-  refusal_5 = ((λ e. go ((start_refused y k 5 call tag).0 e)), (λ h. (start_refused y k 5 call tag).1 (is_5 refl h.0 h.1 h.2)))
+  pub refusal_5 : (start y k call tag).out ≡ Err Running ↔ (SoundFacts y × (k < y.state.config.tasks) × ((task_of y k).running ≡ true))
+  refusal_5 = ((λ e. go ((start_refused y k Running call tag).0 e)), (λ h. (start_refused y k Running call tag).1 (is_5 refl h.0 h.1 h.2)))
     where
-      go : StartRefused y k call tag 5 → SoundFacts y × (k < y.state.config.tasks) × ((task_of y k).running ≡ true)
-      go (is_8 e n) = absurd (omega arith)
-      go (is_4 e f h) = absurd (omega arith)
+      go : StartRefused y k call tag Running → SoundFacts y × (k < y.state.config.tasks) × ((task_of y k).running ≡ true)
+      go (is_8 e n) = absurd (omega (arith, ap refusal_number e))
+      go (is_4 e f h) = absurd (omega (arith, ap refusal_number e))
       go (is_5 e f h s) = (f, h, s)
-      go (is_14 e f h s z) = absurd (omega arith)
+      go (is_14 e f h s z) = absurd (omega (arith, ap refusal_number e))
 
   -- 14: memory is sound, the task is there and idle, and an insert of tag 0 is started where tag 0 is withdrawn
-  pub refusal_14 : (start y k call tag).out ≡ Refuse 14
+  pub refusal_14 : (start y k call tag).out ≡ Err Withdrawn
       ↔ (SoundFacts y × (k < y.state.config.tasks) × ((task_of y k).running ≡ false) × InsertOfZero y.state.config call tag)
   refusal_14 =
-      ((λ e. go ((start_refused y k 14 call tag).0 e)), (λ h. (start_refused y k 14 call tag).1 (is_14 refl h.0 h.1 h.2 h.3)))
+      ((λ e. go ((start_refused y k Withdrawn call tag).0 e)), (λ h. (start_refused y k Withdrawn call tag).1 (is_14 refl h.0 h.1 h.2 h.3)))
     where
-      go : StartRefused y k call tag 14
+      go : StartRefused y k call tag Withdrawn
           → SoundFacts y × (k < y.state.config.tasks) × ((task_of y k).running ≡ false) × InsertOfZero y.state.config call tag
-      go (is_8 e n) = absurd (omega arith)
-      go (is_4 e f h) = absurd (omega arith)
-      go (is_5 e f h s) = absurd (omega arith)
+      go (is_8 e n) = absurd (omega (arith, ap refusal_number e))
+      go (is_4 e f h) = absurd (omega (arith, ap refusal_number e))
+      go (is_5 e f h s) = absurd (omega (arith, ap refusal_number e))
       go (is_14 e f h s z) = (f, h, s, z)
 
   -- 8 of a start: memory is spoilt
-  pub refusal_8_start : (start y k call tag).out ≡ Refuse 8 ↔ ¬ SoundFacts y
-  refusal_8_start = ((λ e. go ((start_refused y k 8 call tag).0 e)), (λ n. (start_refused y k 8 call tag).1 (is_8 refl n)))
+  pub refusal_8_start : (start y k call tag).out ≡ Err Spoilt ↔ ¬ SoundFacts y
+  refusal_8_start = ((λ e. go ((start_refused y k Spoilt call tag).0 e)), (λ n. (start_refused y k Spoilt call tag).1 (is_8 refl n)))
     where
-      go : StartRefused y k call tag 8 → ¬ SoundFacts y
+      go : StartRefused y k call tag Spoilt → ¬ SoundFacts y
       go (is_8 e n) = n
-      go (is_4 e f h) = absurd (omega arith)
-      go (is_5 e f h s) = absurd (omega arith)
-      go (is_14 e f h s z) = absurd (omega arith)
+      go (is_4 e f h) = absurd (omega (arith, ap refusal_number e))
+      go (is_5 e f h s) = absurd (omega (arith, ap refusal_number e))
+      go (is_14 e f h s z) = absurd (omega (arith, ap refusal_number e))
 
 module _ (y : Machine) (k : ℕ) where
   -- memory is sound, and the task is there and runs a call
@@ -115,49 +115,49 @@ module _ (y : Machine) (k : ℕ) where
   Steps = SoundFacts y × (k < y.state.config.tasks) × ((task_of y k).running ≡ true)
 
   -- 4 of a step: as of a start
-  pub refusal_4_step : (step y k).out ≡ Refuse 4 ↔ (SoundFacts y × (y.state.config.tasks ≤ k))
-  refusal_4_step = ((λ e. go ((step_refused y k 4).0 e)), (λ h. (step_refused y k 4).1 (is_4 refl h.0 h.1)))
+  pub refusal_4_step : (step y k).out ≡ Err NoTask ↔ (SoundFacts y × (y.state.config.tasks ≤ k))
+  refusal_4_step = ((λ e. go ((step_refused y k NoTask).0 e)), (λ h. (step_refused y k NoTask).1 (is_4 refl h.0 h.1)))
     where
-      go : StepRefused y k 4 → SoundFacts y × (y.state.config.tasks ≤ k)
-      go (is_8 e n) = absurd (omega arith)
+      go : StepRefused y k NoTask → SoundFacts y × (y.state.config.tasks ≤ k)
+      go (is_8 e n) = absurd (omega (arith, ap refusal_number e))
       go (is_4 e f h) = (f, h)
-      go (is_6 e f h s) = absurd (omega arith)
-      go (is_8_step e f h g n) = absurd (omega arith)
-      go (is_7 e f h g b v) = absurd (omega arith)
+      go (is_6 e f h s) = absurd (omega (arith, ap refusal_number e))
+      go (is_8_step e f h g n) = absurd (omega (arith, ap refusal_number e))
+      go (is_7 e f h g b v) = absurd (omega (arith, ap refusal_number e))
 
   -- 6: memory is sound, and the task is there and runs nothing
-  pub refusal_6 : (step y k).out ≡ Refuse 6 ↔ (SoundFacts y × (k < y.state.config.tasks) × ((task_of y k).running ≡ false))
-  refusal_6 = ((λ e. go ((step_refused y k 6).0 e)), (λ h. (step_refused y k 6).1 (is_6 refl h.0 h.1 h.2)))
+  pub refusal_6 : (step y k).out ≡ Err Idle ↔ (SoundFacts y × (k < y.state.config.tasks) × ((task_of y k).running ≡ false))
+  refusal_6 = ((λ e. go ((step_refused y k Idle).0 e)), (λ h. (step_refused y k Idle).1 (is_6 refl h.0 h.1 h.2)))
     where
-      go : StepRefused y k 6 → SoundFacts y × (k < y.state.config.tasks) × ((task_of y k).running ≡ false)
-      go (is_8 e n) = absurd (omega arith)
-      go (is_4 e f h) = absurd (omega arith)
+      go : StepRefused y k Idle → SoundFacts y × (k < y.state.config.tasks) × ((task_of y k).running ≡ false)
+      go (is_8 e n) = absurd (omega (arith, ap refusal_number e))
+      go (is_4 e f h) = absurd (omega (arith, ap refusal_number e))
       go (is_6 e f h s) = (f, h, s)
-      go (is_8_step e f h g n) = absurd (omega arith)
-      go (is_7 e f h g b v) = absurd (omega arith)
+      go (is_8_step e f h g n) = absurd (omega (arith, ap refusal_number e))
+      go (is_7 e f h g b v) = absurd (omega (arith, ap refusal_number e))
 
   -- 8 of a step: memory is spoilt, or the task runs and its line is not sound
-  pub refusal_8_step : (step y k).out ≡ Refuse 8 ↔ ((¬ SoundFacts y) ⊎ (Steps × (¬ StepSound y (task_of y k))))
-  refusal_8_step = ((λ e. go ((step_refused y k 8).0 e)), back)
+  pub refusal_8_step : (step y k).out ≡ Err Spoilt ↔ ((¬ SoundFacts y) ⊎ (Steps × (¬ StepSound y (task_of y k))))
+  refusal_8_step = ((λ e. go ((step_refused y k Spoilt).0 e)), back)
     where
-      go : StepRefused y k 8 → (¬ SoundFacts y) ⊎ (Steps × (¬ StepSound y (task_of y k)))
+      go : StepRefused y k Spoilt → (¬ SoundFacts y) ⊎ (Steps × (¬ StepSound y (task_of y k)))
       go (is_8 e n) = inl n
-      go (is_4 e f h) = absurd (omega arith)
-      go (is_6 e f h s) = absurd (omega arith)
+      go (is_4 e f h) = absurd (omega (arith, ap refusal_number e))
+      go (is_6 e f h s) = absurd (omega (arith, ap refusal_number e))
       go (is_8_step e f h g n) = inr ((f, h, g), n)
-      go (is_7 e f h g b v) = absurd (omega arith)
+      go (is_7 e f h g b v) = absurd (omega (arith, ap refusal_number e))
 
-      back : (¬ SoundFacts y) ⊎ (Steps × (¬ StepSound y (task_of y k))) → (step y k).out ≡ Refuse 8
-      back (inl n) = (step_refused y k 8).1 (is_8 refl n)
-      back (inr h) = (step_refused y k 8).1 (is_8_step refl h.0.0 h.0.1 h.0.2 h.1)
+      back : (¬ SoundFacts y) ⊎ (Steps × (¬ StepSound y (task_of y k))) → (step y k).out ≡ Err Spoilt
+      back (inl n) = (step_refused y k Spoilt).1 (is_8 refl n)
+      back (inr h) = (step_refused y k Spoilt).1 (is_8_step refl h.0.0 h.0.1 h.0.2 h.1)
 
   -- "7 line 27 or 49 finds every node or every bucket held": at a task's record
   abbrev pub NoneFree : Task → Type 0
   NoneFree c = ((c.line ≡ 27) × ((j : ℕ) → j < node_count y → HeldNode y j)) ⊎ ((c.line ≡ 49) × ((j : ℕ) → j < bucket_count y → HeldBucket y j))
 
   -- 7: the task runs, its line is sound, and it is line 27 with every node held or line 49 with every bucket held
-  pub refusal_7 : (step y k).out ≡ Refuse 7 ↔ (Steps × StepSound y (task_of y k) × NoneFree (task_of y k))
-  refusal_7 = ((λ e. go ((step_refused y k 7).0 e)), (λ h. (step_refused y k 7).1 (is_7 refl h.0.0 h.0.1 h.0.2 h.1 (held h.2))))
+  pub refusal_7 : (step y k).out ≡ Err NoRecord ↔ (Steps × StepSound y (task_of y k) × NoneFree (task_of y k))
+  refusal_7 = ((λ e. go ((step_refused y k NoRecord).0 e)), (λ h. (step_refused y k NoRecord).1 (is_7 refl h.0.0 h.0.1 h.0.2 h.1 (held h.2))))
     where
       free : AllHeld y (task_of y k) → NoneFree (task_of y k)
       free (all_nodes e h) = inl (e, h)
@@ -167,32 +167,32 @@ module _ (y : Machine) (k : ℕ) where
       held (inl h) = all_nodes h.0 h.1
       held (inr h) = all_buckets h.0 h.1
 
-      go : StepRefused y k 7 → Steps × StepSound y (task_of y k) × NoneFree (task_of y k)
-      go (is_8 e n) = absurd (omega arith)
-      go (is_4 e f h) = absurd (omega arith)
-      go (is_6 e f h s) = absurd (omega arith)
-      go (is_8_step e f h g n) = absurd (omega arith)
+      go : StepRefused y k NoRecord → Steps × StepSound y (task_of y k) × NoneFree (task_of y k)
+      go (is_8 e n) = absurd (omega (arith, ap refusal_number e))
+      go (is_4 e f h) = absurd (omega (arith, ap refusal_number e))
+      go (is_6 e f h s) = absurd (omega (arith, ap refusal_number e))
+      go (is_8_step e f h g n) = absurd (omega (arith, ap refusal_number e))
       go (is_7 e f h g b v) = ((f, h, g), b, free v)
 
 module _ (y : Machine) (w : List ℕ) where
   -- 8 of a list: memory is spoilt, or more than 64 tags are listed
-  pub refusal_8_list : (list y w).says ≡ Refused 8 ↔ ((¬ SoundFacts y) ⊎ (SoundFacts y × (64 < length (listed y))))
-  refusal_8_list = ((λ e. go ((list_refused y w 8).0 e)), back)
+  pub refusal_8_list : (list y w).says ≡ Err Spoilt ↔ ((¬ SoundFacts y) ⊎ (SoundFacts y × (64 < length (listed y))))
+  refusal_8_list = ((λ e. go ((list_refused y w Spoilt).0 e)), back)
     where
-      go : ListRefused y w 8 → (¬ SoundFacts y) ⊎ (SoundFacts y × (64 < length (listed y)))
+      go : ListRefused y w Spoilt → (¬ SoundFacts y) ⊎ (SoundFacts y × (64 < length (listed y)))
       go (is_8 e n) = inl n
       go (is_8_list e f h) = inr (f, h)
-      go (is_9 e f h l) = absurd (omega arith)
+      go (is_9 e f h l) = absurd (omega (arith, ap refusal_number e))
 
-      back : (¬ SoundFacts y) ⊎ (SoundFacts y × (64 < length (listed y))) → (list y w).says ≡ Refused 8
-      back (inl n) = (list_refused y w 8).1 (is_8 refl n)
-      back (inr h) = (list_refused y w 8).1 (is_8_list refl h.0 h.1)
+      back : (¬ SoundFacts y) ⊎ (SoundFacts y × (64 < length (listed y))) → (list y w).says ≡ Err Spoilt
+      back (inl n) = (list_refused y w Spoilt).1 (is_8 refl n)
+      back (inr h) = (list_refused y w Spoilt).1 (is_8_list refl h.0 h.1)
 
   -- 9: memory is sound, at most 64 tags are listed, and the slice has fewer than 64 words
-  pub refusal_9 : (list y w).says ≡ Refused 9 ↔ (SoundFacts y × (length (listed y) ≤ 64) × (length w < 64))
-  refusal_9 = ((λ e. go ((list_refused y w 9).0 e)), (λ h. (list_refused y w 9).1 (is_9 refl h.0 h.1 h.2)))
+  pub refusal_9 : (list y w).says ≡ Err ShortList ↔ (SoundFacts y × (length (listed y) ≤ 64) × (length w < 64))
+  refusal_9 = ((λ e. go ((list_refused y w ShortList).0 e)), (λ h. (list_refused y w ShortList).1 (is_9 refl h.0 h.1 h.2)))
     where
-      go : ListRefused y w 9 → SoundFacts y × (length (listed y) ≤ 64) × (length w < 64)
-      go (is_8 e n) = absurd (omega arith)
-      go (is_8_list e f h) = absurd (omega arith)
+      go : ListRefused y w ShortList → SoundFacts y × (length (listed y) ≤ 64) × (length w < 64)
+      go (is_8 e n) = absurd (omega (arith, ap refusal_number e))
+      go (is_8_list e f h) = absurd (omega (arith, ap refusal_number e))
       go (is_9 e f h l) = (f, h, l)

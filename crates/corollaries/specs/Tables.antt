@@ -2,7 +2,7 @@
 -- plain propositions, and that the entry refuses with a number exactly if the table has it: so with no other number.
 -- Soundness of memory is laws' SoundFacts, of a step's own line laws' StepSound, and held is laws' inductive HeldNode and HeldBucket.
 -- Assumes nothing.
-use Rattle.std.specs.Prelude.{ℕ, ◌*◌, ◌%◌, ◌/◌, ◌≤◌, ◌<◌, refl, ◌↔◌, ◌⊎◌, Bool, false, ◌||◌, List, leb, eqb, if◌then◌else◌}
+use Rattle.std.specs.Prelude.{ℕ, ◌*◌, ◌%◌, ◌/◌, ◌≤◌, ◌<◌, refl, ◌↔◌, ◌⊎◌, Bool, false, ◌||◌, List, leb, eqb, if◌then◌else◌, Err}
 use Rattle.std.proofs.Math.Path.{◌≡◌, ap}
 use Rattle.std.proofs.Common.{sym, ◌∙◌}
 use Rattle.std.proofs.Math.Logic.{inl, inr}
@@ -12,10 +12,10 @@ use native.Mathlib.Omega.{arith}
 use borrow.Author.Tests.{eqb-true, eq-eqb, leb-true, leb-false, le-leb, lt-leb, ltb-true, ltb-false, lt-ltb, le-ltb, not-true, not-false}
 use Rattle.std.proofs.Math.Dec.{ltb}
 use Rattle.std.proofs.Math.ListN.{length}
+use Rattle.spec.specs.declared.Refusal.{Refusal}
+use Rattle.spec.specs.declared.Refusal.TheVariants.{NoTask, Running, Idle, NoRecord, Spoilt, ShortList, Withdrawn}
 use Rattle.spec.specs.declared.Task.{Task}
 use Rattle.spec.specs.declared.Call.{Call}
-use Rattle.spec.specs.declared.Output.TheVariants.{Refuse}
-use Rattle.spec.specs.declared.Listing.TheVariants.{Refused}
 use Rattle.spec.specs.Machine.{Machine, task_of}
 use Rattle.spec.specs.declared.Config.{Config}
 use Rattle.spec.specs.Sound.{within, version_known, sound}
@@ -23,6 +23,7 @@ use Rattle.spec.specs.Listed.{listed}
 use Rattle.spec.specs.Lines.{effect}
 use Rattle.spec.specs.StepRefusals.{unsound_step, all_held}
 use Rattle.spec.specs.Entries.{Opened, opening, not_opened, pool_fits, Reply, refuse, withdrawn, start, step_running, step, Written, list}
+use Rattle.spec.specs.Outputs.{Output, Listing}
 use Rattle.laws.specs.Tests.{tf, bool?, and_left, and_right, and_i, or_none, choose, if_true, if_false}
 use Rattle.laws.specs.SoundFacts.{SoundFacts}
 use Rattle.laws.specs.Withdrawn.{InsertOfZero, withdrawn_means, means_withdrawn}
@@ -129,7 +130,7 @@ module _ (g : Config) (ns bs : List ℕ) (r : ℕ) where
 -- ---- starts and steps
 
 -- two refusals that are the same have one number
-same : {m n : ℕ} → Refuse m ≡ Refuse n → n ≡ m
+same : {m n : Refusal} → ◌≡◌ {A = Output} (Err m) (Err n) → n ≡ m
 same e = cc
 
 unsound : {y : Machine} → ¬ SoundFacts y → sound y ≡ false
@@ -139,19 +140,19 @@ spoilt : {y : Machine} → sound y ≡ false → ¬ SoundFacts y
 spoilt {y} e = never (sound y) (facts_sound y) e
 
 -- "Start: 8, 4, 5.", and paper 02's 14 after 5
-pub data StartRefused (y : Machine) (k : ℕ) (call : Call) (tag r : ℕ) : Type 0 where
+pub data StartRefused (y : Machine) (k : ℕ) (call : Call) (tag : ℕ) (r : Refusal) : Type 0 where
   -- "Spoilt memory"
-  is_8 : r ≡ 8 → ¬ SoundFacts y → StartRefused y k call tag r
+  is_8 : r ≡ Spoilt → ¬ SoundFacts y → StartRefused y k call tag r
   -- "no such task"
-  is_4 : r ≡ 4 → SoundFacts y → y.state.config.tasks ≤ k → StartRefused y k call tag r
+  is_4 : r ≡ NoTask → SoundFacts y → y.state.config.tasks ≤ k → StartRefused y k call tag r
   -- "start while its call runs"
-  is_5 : r ≡ 5 → SoundFacts y → k < y.state.config.tasks → (task_of y k).running ≡ true → StartRefused y k call tag r
+  is_5 : r ≡ Running → SoundFacts y → k < y.state.config.tasks → (task_of y k).running ≡ true → StartRefused y k call tag r
   -- paper 02, U9: "14, starting an insert of tag 0 under the new rule, after 5"
-  is_14 : r ≡ 14 → SoundFacts y → k < y.state.config.tasks → (task_of y k).running ≡ false → InsertOfZero y.state.config call tag
+  is_14 : r ≡ Withdrawn → SoundFacts y → k < y.state.config.tasks → (task_of y k).running ≡ false → InsertOfZero y.state.config call tag
       → StartRefused y k call tag r
 
-module _ (y : Machine) (k r : ℕ) (call : Call) (tag : ℕ) where
-  why_start : (start y k call tag).out ≡ Refuse r → StartRefused y k call tag r
+module _ (y : Machine) (k : ℕ) (r : Refusal) (call : Call) (tag : ℕ) where
+  why_start : (start y k call tag).out ≡ Err r → StartRefused y k call tag r
   unfolding start refuse
   why_start =
       choose Why (not (sound y)) _ _ (λ p e. is_8 (same e) (spoilt (not-true _ p))) (λ p.
@@ -162,41 +163,41 @@ module _ (y : Machine) (k r : ℕ) (call : Call) (tag : ℕ) where
       choose Why (withdrawn y.state.config call tag) _ _ (λ w e. is_14 (same e) f h s (withdrawn_means _ call tag w)) (λ w e. absurd (at_refused e)))))
     where
       Why : Reply → Type 0
-      Why x = x.out ≡ Refuse r → StartRefused y k call tag r
+      Why x = x.out ≡ Err r → StartRefused y k call tag r
 
-  start_why : StartRefused y k call tag r → (start y k call tag).out ≡ Refuse r
+  start_why : StartRefused y k call tag r → (start y k call tag).out ≡ Err r
   unfolding start refuse
   start_why (is_8 e n) = rw (e, unsound n)
   start_why (is_4 e f h) = rw (e, facts_sound y f, le-ltb _ _ h)
-  start_why (is_5 e f h s) = rw (e, facts_sound y f, lt-ltb _ _ h) (ap (λ (x : Reply). x.out) (if_true (task_of y k).running (refuse 5 y) _ s))
+  start_why (is_5 e f h s) = rw (e, facts_sound y f, lt-ltb _ _ h) (ap (λ (x : Reply). x.out) (if_true (task_of y k).running (refuse Running y) _ s))
   start_why (is_14 e f h s z) =
       rw (e, facts_sound y f, lt-ltb _ _ h)
       (ap (λ (x : Reply). x.out)
-      (if_false (task_of y k).running (refuse 5 y) _ s ∙ if_true (withdrawn y.state.config call tag) (refuse 14 y) _ (means_withdrawn _ call tag z)))
+      (if_false (task_of y k).running (refuse Running y) _ s ∙ if_true (withdrawn y.state.config call tag) (refuse Withdrawn y) _ (means_withdrawn _ call tag z)))
 
   -- a start is refused with a number exactly if the table has it
-  pub start_refused : (start y k call tag).out ≡ Refuse r ↔ StartRefused y k call tag r
+  pub start_refused : (start y k call tag).out ≡ Err r ↔ StartRefused y k call tag r
   start_refused = (why_start, start_why)
 
 -- "Step: 8, 4, 6, 8 of the step, 7."
-pub data StepRefused (y : Machine) (k r : ℕ) : Type 0 where
+pub data StepRefused (y : Machine) (k : ℕ) (r : Refusal) : Type 0 where
   -- "Spoilt memory"
-  is_8 : r ≡ 8 → ¬ SoundFacts y → StepRefused y k r
+  is_8 : r ≡ Spoilt → ¬ SoundFacts y → StepRefused y k r
   -- "no such task"
-  is_4 : r ≡ 4 → SoundFacts y → y.state.config.tasks ≤ k → StepRefused y k r
+  is_4 : r ≡ NoTask → SoundFacts y → y.state.config.tasks ≤ k → StepRefused y k r
   -- "step while none runs"
-  is_6 : r ≡ 6 → SoundFacts y → k < y.state.config.tasks → (task_of y k).running ≡ false → StepRefused y k r
+  is_6 : r ≡ Idle → SoundFacts y → k < y.state.config.tasks → (task_of y k).running ≡ false → StepRefused y k r
   -- "In a step, before 7, also if its line goes through an empty place, .."
-  is_8_step : r ≡ 8 → SoundFacts y → k < y.state.config.tasks → (task_of y k).running ≡ true → ¬ StepSound y (task_of y k) → StepRefused y k r
+  is_8_step : r ≡ Spoilt → SoundFacts y → k < y.state.config.tasks → (task_of y k).running ≡ true → ¬ StepSound y (task_of y k) → StepRefused y k r
   -- "line 27 or 49 finds every node or every bucket held"
-  is_7 : r ≡ 7 → SoundFacts y → k < y.state.config.tasks → (task_of y k).running ≡ true → StepSound y (task_of y k) → AllHeld y (task_of y k)
+  is_7 : r ≡ NoRecord → SoundFacts y → k < y.state.config.tasks → (task_of y k).running ≡ true → StepSound y (task_of y k) → AllHeld y (task_of y k)
       → StepRefused y k r
 
-module _ (y : Machine) (k r : ℕ) where
+module _ (y : Machine) (k : ℕ) (r : Refusal) where
   abbrev c : Task
   c = task_of y k
 
-  why_step : (step y k).out ≡ Refuse r → StepRefused y k r
+  why_step : (step y k).out ≡ Err r → StepRefused y k r
   unfolding step step_running refuse
   why_step =
       choose Why (not (sound y)) _ _ (λ p e. is_8 (same e) (spoilt (not-true _ p))) (λ p.
@@ -210,45 +211,45 @@ module _ (y : Machine) (k r : ℕ) where
       absurd (accept_refused y k c.own (effect y c) e))))))
     where
       Why : Reply → Type 0
-      Why x = x.out ≡ Refuse r → StepRefused y k r
+      Why x = x.out ≡ Err r → StepRefused y k r
 
   running : SoundFacts y → k < y.state.config.tasks → c.running ≡ true → step y k ≡ step_running y k c
   unfolding step
-  running f h g = rw (facts_sound y f, lt-ltb _ _ h) (ap (λ (b : Bool). if not b then refuse 6 y else step_running y k c) g)
+  running f h g = rw (facts_sound y f, lt-ltb _ _ h) (ap (λ (b : Bool). if not b then refuse Idle y else step_running y k c) g)
 
-  step_why : StepRefused y k r → (step y k).out ≡ Refuse r
+  step_why : StepRefused y k r → (step y k).out ≡ Err r
   unfolding step step_running refuse
   step_why (is_8 e n) = rw (e, unsound n)
   step_why (is_4 e f h) = rw (e, facts_sound y f, le-ltb _ _ h)
-  step_why (is_6 e f h s) = rw (e, facts_sound y f, lt-ltb _ _ h) (ap (λ (b : Bool). (if not b then refuse 6 y else step_running y k c).out) s)
+  step_why (is_6 e f h s) = rw (e, facts_sound y f, lt-ltb _ _ h) (ap (λ (b : Bool). (if not b then refuse Idle y else step_running y k c).out) s)
   step_why (is_8_step e f h g n) =
       let u : unsound_step y c ≡ true = elim (bool? (unsound_step y c)) [ inl t ↦ t | inr t ↦ absurd (n (step_sound_facts y c t)) ] in
       rw (e, running f h g, u)
   step_why (is_7 e f h g b v) = rw (e, running f h g, facts_step_sound y c b, means_all_held y f c v)
 
   -- a step is refused with a number exactly if the table has it
-  pub step_refused : (step y k).out ≡ Refuse r ↔ StepRefused y k r
+  pub step_refused : (step y k).out ≡ Err r ↔ StepRefused y k r
   step_refused = (why_step, step_why)
 
 -- ---- the list
 
 -- "List: 8, 9"
-pub data ListRefused (y : Machine) (w : List ℕ) (r : ℕ) : Type 0 where
+pub data ListRefused (y : Machine) (w : List ℕ) (r : Refusal) : Type 0 where
   -- "Spoilt memory"
-  is_8 : r ≡ 8 → ¬ SoundFacts y → ListRefused y w r
+  is_8 : r ≡ Spoilt → ¬ SoundFacts y → ListRefused y w r
   -- "In a list also if more than 64 tags are listed."
-  is_8_list : r ≡ 8 → SoundFacts y → 64 < length (listed y) → ListRefused y w r
+  is_8_list : r ≡ Spoilt → SoundFacts y → 64 < length (listed y) → ListRefused y w r
   -- "list slice under 64 words"
-  is_9 : r ≡ 9 → SoundFacts y → length (listed y) ≤ 64 → length w < 64 → ListRefused y w r
+  is_9 : r ≡ ShortList → SoundFacts y → length (listed y) ≤ 64 → length w < 64 → ListRefused y w r
 
-module _ (y : Machine) (w : List ℕ) (r : ℕ) where
+module _ (y : Machine) (w : List ℕ) (r : Refusal) where
   abbrev n : ℕ
   n = length (listed y)
 
-  same_list : {m : ℕ} → Refused m ≡ Refused r → r ≡ m
+  same_list : {m : Refusal} → ◌≡◌ {A = Listing} (Err m) (Err r) → r ≡ m
   same_list e = cc
 
-  why_list : (list y w).says ≡ Refused r → ListRefused y w r
+  why_list : (list y w).says ≡ Err r → ListRefused y w r
   unfolding list
   why_list =
       choose Why (not (sound y) || ltb 64 n) _ _ (λ p e. spoilt_list e (bool? (sound y)) p) (λ p.
@@ -258,18 +259,18 @@ module _ (y : Machine) (w : List ℕ) (r : ℕ) where
       absurd (let z : ◌≡◌ {A = ℕ} 0 1 = cc in omega arith)))
     where
       Why : Written → Type 0
-      Why x = x.says ≡ Refused r → ListRefused y w r
+      Why x = x.says ≡ Err r → ListRefused y w r
 
-      spoilt_list : Refused 8 ≡ Refused r → (sound y ≡ true) ⊎ (sound y ≡ false) → (not (sound y) || ltb 64 n) ≡ true → ListRefused y w r
+      spoilt_list : ◌≡◌ {A = Listing} (Err Spoilt) (Err r) → (sound y ≡ true) ⊎ (sound y ≡ false) → (not (sound y) || ltb 64 n) ≡ true → ListRefused y w r
       spoilt_list e (inl s) p = let q : ltb 64 n ≡ true = rw s at p in is_8_list (same_list e) (sound_facts y s) (ltb-true 64 n q)
       spoilt_list e (inr s) p = is_8 (same_list e) (spoilt s)
 
-  list_why : ListRefused y w r → (list y w).says ≡ Refused r
+  list_why : ListRefused y w r → (list y w).says ≡ Err r
   unfolding list
   list_why (is_8 e s) = rw (e, unsound s)
   list_why (is_8_list e f h) = rw (e, facts_sound y f, lt-ltb _ _ h)
   list_why (is_9 e f h l) = rw (e, facts_sound y f, le-ltb _ _ h, lt-leb _ _ l)
 
   -- a list is refused with a number exactly if the table has it
-  pub list_refused : (list y w).says ≡ Refused r ↔ ListRefused y w r
+  pub list_refused : (list y w).says ≡ Err r ↔ ListRefused y w r
   list_refused = (why_list, list_why)

@@ -1,18 +1,21 @@
 -- A turn of the dispatcher by its outcome, and whom it goes to: the first running task after the last one chosen, going round. Assumes
 -- nothing.
-use Rattle.std.specs.Prelude.{ℕ, ◌<◌, ◌⊎◌, Bool, ◌&&◌, eqb}
+use Rattle.std.specs.Prelude.{ℕ, ◌<◌, ◌⊎◌, Bool, ◌&&◌, eqb, Ok, Err}
 use Rattle.std.proofs.Math.Path.{◌≡◌, refl, sym, ap}
 use Rattle.std.proofs.Common.{◌∙◌, inl, inr}
 use Rattle.std.proofs.Math.Bool.{true, false, not}
 use native.Mathlib.Omega.{arith}
 use borrow.Author.Tests.{eqb-true, eqb-false, not-true, not-false}
-use Rattle.spec.specs.declared.Output.{Output}
-use Rattle.spec.specs.declared.Output.TheVariants.{At, End, Refuse}
+use Rattle.spec.specs.declared.Refusal.{Refusal}
+use Rattle.spec.specs.declared.Refusal.TheVariants.{NoRecord, Spoilt}
+use Rattle.spec.specs.Outputs.{Output}
+use Rattle.spec.specs.declared.Progress.TheVariants.{At, End}
 use Rattle.spec.specs.Lists.{member, range}
 use Rattle.spec.specs.Machine.{Machine, with_chosen, task_of}
 use Rattle.spec.specs.Words.{link, number}
 use Rattle.spec.specs.Sound.{task_count, sound}
 use Rattle.spec.specs.Entries.{Reply, step}
+use Rattle.spec.specs.Numbers.{refusal_number}
 use Rattle.turns.specs.declared.Turn.TheVariants.{Idle, Of, Refused}
 use Rattle.turns.specs.Turn.{idle_tasks, next_task, Turned, gives, after_step, turn_to, turn}
 use Rattle.laws.specs.Tests.{bool?, tf, and2, choose}
@@ -21,6 +24,7 @@ use Rattle.laws.specs.Ascending.{member_filter}
 use Rattle.laws.specs.Links.{true_filled}
 use Rattle.laws.specs.Soundness.{sound_facts}
 use Rattle.laws.specs.Taking.{FirstFree, Taking, none_free, takes, taking}
+use Rattle.laws.specs.RefusalNumbers.{same_refusal}
 use Rattle.corollaries.specs.Unchanged.{refused_step_changes_nothing}
 use Rattle.corollaries.specs.Tables.{StepRefused, step_refused, is_4, is_6, is_7, is_8, is_8_step}
 
@@ -74,23 +78,23 @@ module _ (y : Machine) where
 -- ---- a turn, by its outcome
 
 pub data TurnOutcome (y : Machine) : Turned → Type 0 where
-  spoilt : sound y ≡ false → TurnOutcome y (gives (Refused 8) y)
+  spoilt : sound y ≡ false → TurnOutcome y (gives (Refused Spoilt) y)
   nothing_runs : sound y ≡ true → ((k : ℕ) → k < task_count y → IdleTask y k) → TurnOutcome y (gives Idle y)
   -- the turn is the step of the task that is next, accepted or refused with 7
   goes : (k : ℕ) (o : Output) (z : Machine) → sound y ≡ true → Next y k → (step y k).out ≡ o → (step y k).machine ≡ z
-      → ((r : ℕ) → o ≡ Refuse r → r ≡ 7) → TurnOutcome y (gives (Of k o) (with_chosen k z))
+      → ((r : Refusal) → o ≡ Err r → r ≡ NoRecord) → TurnOutcome y (gives (Of k o) (with_chosen k z))
   -- its step is refused with 8
-  step_spoilt : (k : ℕ) → sound y ≡ true → Next y k → (step y k).out ≡ Refuse 8 → TurnOutcome y (gives (Of k (Refuse 8)) y)
+  step_spoilt : (k : ℕ) → sound y ≡ true → Next y k → (step y k).out ≡ Err Spoilt → TurnOutcome y (gives (Of k (Err Spoilt)) y)
 
 module _ (y : Machine) (ok : sound y ≡ true) (k : ℕ) (n : Next y k) where
   abbrev reply : Reply
   reply = step y k
 
   -- a running task's step is refused with 7 or 8 only
-  only_8 : (r : ℕ) → reply.out ≡ Refuse r → ¬ (r ≡ 7) → r ≡ 8
+  only_8 : (r : Refusal) → reply.out ≡ Err r → ¬ (r ≡ NoRecord) → r ≡ Spoilt
   only_8 r e d = go ((step_refused y k r).0 e)
     where
-      go : StepRefused y k r → r ≡ 8
+      go : StepRefused y k r → r ≡ Spoilt
       go (is_8 q a) = q
       go (is_4 q f h) = absurd (let b = n.below in omega arith)
       go (is_6 q f h s) = absurd (tf n.runs s)
@@ -99,12 +103,12 @@ module _ (y : Machine) (ok : sound y ≡ true) (k : ℕ) (n : Next y k) where
 
   after_outcome : (o : Output) → reply.out ≡ o → TurnOutcome y (after_step y k o reply.machine)
   unfolding after_step
-  after_outcome (At line) e = goes k (At line) reply.machine ok n e refl (λ r q. absurd (let z : ◌≡◌ {A = ℕ} 0 1 = cc in omega arith))
-  after_outcome (End a own full) e = goes k (End a own full) reply.machine ok n e refl (λ r q. absurd (let z : ◌≡◌ {A = ℕ} 0 1 = cc in omega arith))
-  after_outcome (Refuse r) e =
-      choose (λ (m : Machine). TurnOutcome y (gives (Of k (Refuse r)) m)) (eqb r 7) _ _
-      (λ q. goes k (Refuse r) y ok n e (refused_step_changes_nothing y k r e) (λ s p. let same : r ≡ s = cc in sym same ∙ eqb-true r 7 q))
-      (λ q. let eight = only_8 r e (eqb-false r 7 q) in rw eight (step_spoilt k ok n (rw eight at e)))
+  after_outcome (Ok (At line)) e = goes k (Ok (At line)) reply.machine ok n e refl (λ r q. absurd (let z : ◌≡◌ {A = ℕ} 0 1 = cc in omega arith))
+  after_outcome (Ok (End a own full)) e = goes k (Ok (End a own full)) reply.machine ok n e refl (λ r q. absurd (let z : ◌≡◌ {A = ℕ} 0 1 = cc in omega arith))
+  after_outcome (Err r) e =
+      choose (λ (m : Machine). TurnOutcome y (gives (Of k (Err r)) m)) (eqb (refusal_number r) 7) _ _
+      (λ q. goes k (Err r) y ok n e (refused_step_changes_nothing y k r e) (λ s p. let same : r ≡ s = cc in sym same ∙ same_refusal r NoRecord (eqb-true (refusal_number r) 7 q)))
+      (λ q. let eight = only_8 r e (λ s. eqb-false (refusal_number r) 7 q (ap refusal_number s)) in rw eight (step_spoilt k ok n (rw eight at e)))
 
 pub turn_outcome : (y : Machine) → TurnOutcome y (turn y)
 unfolding turn turn_to

@@ -2,14 +2,16 @@
 -- exception to the mission's first demand, by which a refusal changes no word: it holds for the dispatcher's 7 alone, and a 7 from a step
 -- called directly still changes nothing." A turn names a task, is idle, refused with 7 and refused with 8 exactly under its condition, and is
 -- refused with no other number. Assumes nothing.
-use Rattle.std.specs.Prelude.{ℕ, zero, suc, ◌+◌, ◌-◌, ◌%◌, ◌≤◌, ◌<◌, ◌≡◌, refl, ◌↔◌, ◌⊎◌, false, map}
+use Rattle.std.specs.Prelude.{ℕ, zero, suc, ◌+◌, ◌-◌, ◌%◌, ◌≤◌, ◌<◌, ◌≡◌, refl, ◌↔◌, ◌⊎◌, false, map, Ok, Err}
 use Rattle.std.proofs.Common.{sym, ◌∙◌, mod-eq_of_lt, arith}
 use Rattle.std.proofs.Math.Path.{ap}
 use Rattle.std.proofs.Math.Logic.{inl, inr}
 use Rattle.std.proofs.Math.Nat.{add-mod_left}
 use Rattle.std.proofs.Math.Decide.{dec_lt}
-use Rattle.spec.specs.declared.Output.{Output}
-use Rattle.spec.specs.declared.Output.TheVariants.{At, End, Refuse}
+use Rattle.spec.specs.declared.Refusal.{Refusal}
+use Rattle.spec.specs.declared.Refusal.TheVariants.{NoRecord, Spoilt}
+use Rattle.spec.specs.Outputs.{Output}
+use Rattle.spec.specs.declared.Progress.TheVariants.{At, End}
 use Rattle.spec.specs.Lists.{range}
 use Rattle.spec.specs.Machine.{Machine, with_chosen, task_of}
 use Rattle.spec.specs.Words.{link}
@@ -17,12 +19,14 @@ use Rattle.spec.specs.Held.{cyclic_order}
 use Rattle.spec.specs.Sound.{task_count}
 use Rattle.spec.specs.Entries.{step}
 use Rattle.spec.specs.Schedule.{Event, event}
+use Rattle.spec.specs.Numbers.{refusal_number}
 use Rattle.turns.specs.declared.Turn.TheVariants.{Idle, Of, Refused}
 use Rattle.turns.specs.Turn.{Turned, turn, refusal_of}
 use Rattle.laws.specs.Tests.{tf}
 use Rattle.laws.specs.SoundFacts.{SoundFacts}
 use Rattle.laws.specs.Soundness.{sound_facts, facts_sound}
 use Rattle.laws.specs.LastChosen.{Fixed, event_same}
+use Rattle.laws.specs.RefusalNumbers.{same_refusal, from_1_to_14}
 use Rattle.corollaries.specs.Unchanged.{refused_step_changes_nothing}
 use Rattle.corollaries.specs.TurnOutcome.{Next, TurnOutcome, spoilt, nothing_runs, goes, step_spoilt, turn_outcome}
 
@@ -31,8 +35,8 @@ pub only_the_dispatcher : (y : Machine) (e : Event) → (event y e).machine.stat
 only_the_dispatcher y e = ap (λ (p : Fixed). p.chosen) (event_same y e)
 
 -- "a 7 from a step called directly still changes nothing", as every refusal of an entry
-pub direct_seven_changes_nothing : (y : Machine) (k : ℕ) → (step y k).out ≡ Refuse 7 → (step y k).machine ≡ y
-direct_seven_changes_nothing y k e = refused_step_changes_nothing y k 7 e
+pub direct_seven_changes_nothing : (y : Machine) (k : ℕ) → (step y k).out ≡ Err NoRecord → (step y k).machine ≡ y
+direct_seven_changes_nothing y k e = refused_step_changes_nothing y k NoRecord e
 
 -- "task 0 first after an opening", which sets T − 1: the tasks are tried from 0 on
 from_zero : (t i n : ℕ) → i + n ≤ t → map (λ j. link ((t - 1 + j) % t)) (range (suc i) n) ≡ map link (range i n)
@@ -49,11 +53,17 @@ unfolding cyclic_order
 zero_first t = from_zero t 0 t (omega arith)
 
 -- the number of what a step answers
-refused_by : (k : ℕ) (o : Output) (r : ℕ) → ¬ (r ≡ 0) → refusal_of (Of k o) ≡ r → o ≡ Refuse r
+refused_by : (k : ℕ) (o : Output) (r : Refusal) → refusal_of (Of k o) ≡ refusal_number r → o ≡ Err r
 unfolding refusal_of
-refused_by k (At line) r d e = absurd (d (sym e))
-refused_by k (End a own full) r d e = absurd (d (sym e))
-refused_by k (Refuse s) r d e = ap Refuse e
+refused_by k (Ok (At line)) r e = absurd (omega (arith, from_1_to_14 r))
+refused_by k (Ok (End a own full)) r e = absurd (omega (arith, from_1_to_14 r))
+refused_by k (Err s) r e = ap Err (same_refusal s r e)
+
+refused_so : (k : ℕ) (o : Output) (r : ℕ) → ¬ (r ≡ 0) → refusal_of (Of k o) ≡ r → (s : Refusal) × (o ≡ Err s) × (refusal_number s ≡ r)
+unfolding refusal_of
+refused_so k (Ok (At line)) r d e = absurd (d (sym e))
+refused_so k (Ok (End a own full)) r d e = absurd (d (sym e))
+refused_so k (Err s) r d e = (s, refl, e)
 
 module _ (y : Machine) where
   -- at most one task is next
@@ -91,21 +101,23 @@ module _ (y : Machine) where
       go (spoilt s) e = refl
       go (nothing_runs s n) e = refl
       go (step_spoilt k s n f) e = refl
-      go (goes k o z s n f x only) e = absurd (d7 (only r (refused_by k o r d e)))
+      go (goes k o z s n f x only) e =
+          let t = refused_so k o r d e in
+          absurd (d7 (sym t.2 ∙ ap refusal_number (only t.0 t.1)))
 
   -- "the last one chosen, kept in the state, moves and no other word does": to the task whose turn it was
   pub seven_moves_the_last_chosen : refusal_of (turn y).says ≡ 7
-      → (k : ℕ) × Next y k × ((turn y).says ≡ Of k (Refuse 7)) × ((turn y).machine ≡ with_chosen k y)
+      → (k : ℕ) × Next y k × ((turn y).says ≡ Of k (Err NoRecord)) × ((turn y).machine ≡ with_chosen k y)
   unfolding refusal_of
   seven_moves_the_last_chosen = go (turn_outcome y)
     where
-      go : {m : Turned} → TurnOutcome y m → refusal_of m.says ≡ 7 → (k : ℕ) × Next y k × (m.says ≡ Of k (Refuse 7)) × (m.machine ≡ with_chosen k y)
+      go : {m : Turned} → TurnOutcome y m → refusal_of m.says ≡ 7 → (k : ℕ) × Next y k × (m.says ≡ Of k (Err NoRecord)) × (m.machine ≡ with_chosen k y)
       go (spoilt s) e = absurd (omega arith)
       go (nothing_runs s n) e = absurd (omega arith)
       go (step_spoilt k s n f) e = absurd (omega arith)
       go (goes k o z s n f x only) e =
-          let seven = refused_by k o 7 (λ u. omega arith) e in
-          (k, n, ap (Of k) seven, ap (with_chosen k) (sym x ∙ refused_step_changes_nothing y k 7 (f ∙ seven)))
+          let seven = refused_by k o NoRecord e in
+          (k, n, ap (Of k) seven, ap (with_chosen k) (sym x ∙ refused_step_changes_nothing y k NoRecord (f ∙ seven)))
 
   -- ---- when a turn is refused, and when it is idle
 
@@ -134,7 +146,7 @@ module _ (y : Machine) where
       to (nothing_runs s n) e = absurd (let q : ◌≡◌ {A = ℕ} 0 1 = cc in omega arith)
       to (step_spoilt j s n f) e =
           let same : j ≡ k = cc in
-          let out : Refuse 8 ≡ o = cc in
+          let out : Err Spoilt ≡ o = cc in
           (sound_facts y s, rw same at n, (rw same at f) ∙ out)
       to (goes j p z s n f x only) e =
           let same : j ≡ k = cc in
@@ -144,20 +156,20 @@ module _ (y : Machine) where
       from : {m : Turned} → TurnOutcome y m → SoundFacts y → Next y k → (step y k).out ≡ o → m.says ≡ Of k o
       from (spoilt s) g n e = absurd (tf (facts_sound y g) s)
       from (nothing_runs s i) g n e = absurd (tf n.runs (i k n.below).1)
-      from (step_spoilt j s i f) g n e = let same = next_one j k i n in let p : (step y k).out ≡ Refuse 8 = rw same at f in rw (same, sym p ∙ e)
+      from (step_spoilt j s i f) g n e = let same = next_one j k i n in let p : (step y k).out ≡ Err Spoilt = rw same at f in rw (same, sym p ∙ e)
       from (goes j p z s i f x only) g n e = let same = next_one j k i n in let q : (step y k).out ≡ p = rw same at f in rw (same, sym q ∙ e)
 
   -- a number and no task: 8, in spoilt memory
-  pub turn_names_none : (r : ℕ) → ((turn y).says ≡ Refused r) ↔ ((r ≡ 8) × (¬ SoundFacts y))
+  pub turn_names_none : (r : Refusal) → ((turn y).says ≡ Refused r) ↔ ((r ≡ Spoilt) × (¬ SoundFacts y))
   turn_names_none r = (to (turn_outcome y), λ h. from (turn_outcome y) h.0 h.1)
     where
-      to : {m : Turned} → TurnOutcome y m → m.says ≡ Refused r → (r ≡ 8) × (¬ SoundFacts y)
-      to (spoilt s) e = let same : 8 ≡ r = cc in (sym same, λ g. tf (facts_sound y g) s)
+      to : {m : Turned} → TurnOutcome y m → m.says ≡ Refused r → (r ≡ Spoilt) × (¬ SoundFacts y)
+      to (spoilt s) e = let same : Spoilt ≡ r = cc in (sym same, λ g. tf (facts_sound y g) s)
       to (nothing_runs s n) e = absurd (let q : ◌≡◌ {A = ℕ} 0 1 = cc in omega arith)
       to (step_spoilt k s n f) e = absurd (let q : ◌≡◌ {A = ℕ} 0 1 = cc in omega arith)
       to (goes k o z s n f x only) e = absurd (let q : ◌≡◌ {A = ℕ} 0 1 = cc in omega arith)
 
-      from : {m : Turned} → TurnOutcome y m → r ≡ 8 → ¬ SoundFacts y → m.says ≡ Refused r
+      from : {m : Turned} → TurnOutcome y m → r ≡ Spoilt → ¬ SoundFacts y → m.says ≡ Refused r
       from (spoilt s) e g = ap Refused (sym e)
       from (nothing_runs s n) e g = absurd (g (sound_facts y s))
       from (step_spoilt k s n f) e g = absurd (g (sound_facts y s))
@@ -168,30 +180,30 @@ module _ (y : Machine) where
   NextStep o = SoundFacts y × ((k : ℕ) × Next y k × ((step y k).out ≡ o))
 
   -- 7: the step of the task that is next is refused with 7
-  pub refusal_7_turn : (refusal_of (turn y).says ≡ 7) ↔ NextStep (Refuse 7)
+  pub refusal_7_turn : (refusal_of (turn y).says ≡ 7) ↔ NextStep (Err NoRecord)
   unfolding refusal_of
-  refusal_7_turn = (to (turn_outcome y), λ h. ap refusal_of ((turn_names h.1.0 (Refuse 7)).1 (h.0, h.1.1, h.1.2)))
+  refusal_7_turn = (to (turn_outcome y), λ h. ap refusal_of ((turn_names h.1.0 (Err NoRecord)).1 (h.0, h.1.1, h.1.2)))
     where
-      to : {m : Turned} → TurnOutcome y m → refusal_of m.says ≡ 7 → NextStep (Refuse 7)
+      to : {m : Turned} → TurnOutcome y m → refusal_of m.says ≡ 7 → NextStep (Err NoRecord)
       to (spoilt s) e = absurd (omega arith)
       to (nothing_runs s n) e = absurd (omega arith)
       to (step_spoilt k s n f) e = absurd (omega arith)
-      to (goes k o z s n f x only) e = (sound_facts y s, (k, n, f ∙ refused_by k o 7 (λ u. omega arith) e))
+      to (goes k o z s n f x only) e = (sound_facts y s, (k, n, f ∙ refused_by k o NoRecord e))
 
   -- 8: memory is spoilt, or the step of the task that is next is refused with 8
-  pub refusal_8_turn : (refusal_of (turn y).says ≡ 8) ↔ ((¬ SoundFacts y) ⊎ NextStep (Refuse 8))
+  pub refusal_8_turn : (refusal_of (turn y).says ≡ 8) ↔ ((¬ SoundFacts y) ⊎ NextStep (Err Spoilt))
   unfolding refusal_of
   refusal_8_turn = (to (turn_outcome y), from)
     where
-      to : {m : Turned} → TurnOutcome y m → refusal_of m.says ≡ 8 → (¬ SoundFacts y) ⊎ NextStep (Refuse 8)
+      to : {m : Turned} → TurnOutcome y m → refusal_of m.says ≡ 8 → (¬ SoundFacts y) ⊎ NextStep (Err Spoilt)
       to (spoilt s) e = inl (λ g. tf (facts_sound y g) s)
       to (nothing_runs s n) e = absurd (omega arith)
       to (step_spoilt k s n f) e = inr (sound_facts y s, (k, n, f))
-      to (goes k o z s n f x only) e = absurd (let q = only 8 (refused_by k o 8 (λ u. omega arith) e) in omega arith)
+      to (goes k o z s n f x only) e = absurd (let q = ap refusal_number (only Spoilt (refused_by k o Spoilt e)) in omega arith)
 
-      from : (¬ SoundFacts y) ⊎ NextStep (Refuse 8) → refusal_of (turn y).says ≡ 8
-      from (inl g) = ap refusal_of ((turn_names_none 8).1 (refl, g))
-      from (inr h) = ap refusal_of ((turn_names h.1.0 (Refuse 8)).1 (h.0, h.1.1, h.1.2))
+      from : (¬ SoundFacts y) ⊎ NextStep (Err Spoilt) → refusal_of (turn y).says ≡ 8
+      from (inl g) = ap refusal_of ((turn_names_none Spoilt).1 (refl, g))
+      from (inr h) = ap refusal_of ((turn_names h.1.0 (Err Spoilt)).1 (h.0, h.1.1, h.1.2))
 
   -- no other number
   pub turn_refusals : (r : ℕ) → refusal_of (turn y).says ≡ r → ¬ (r ≡ 0) → (r ≡ 7) ⊎ (r ≡ 8)
@@ -202,4 +214,4 @@ module _ (y : Machine) where
       go (spoilt s) e d = inr (sym e)
       go (nothing_runs s n) e d = absurd (d (sym e))
       go (step_spoilt k s n f) e d = inr (sym e)
-      go (goes k o z s n f x only) e d = inl (only r (refused_by k o r d e))
+      go (goes k o z s n f x only) e d = let t = refused_so k o r d e in inl (sym t.2 ∙ ap refusal_number (only t.0 t.1))

@@ -1,7 +1,7 @@
 -- A turn by the tests that the code makes. The code steps the task that is next whether or not memory is spoilt: in spoilt memory the step's 8
 -- is the turn's own, which names no task. Assumes nothing.
-use Rattle.std.specs.Prelude.{if◌then◌else◌}
-use Prim.Native.Nat.{ℕ, ◌-◌, ◌≤◌, ◌<◌}
+use Rattle.std.specs.Prelude.{if◌then◌else◌, Ok, Err}
+use Prim.Native.Nat.{ℕ, ◌≤◌, ◌<◌}
 use native.Mathlib.Omega.{arith}
 use mathlib.Core.Path.{◌≡◌, refl, sym, ap, ◌∙◌}
 use mathlib.Core.Logic.{◌⊎◌, inl, inr}
@@ -10,15 +10,20 @@ use mathlib.Core.Bool.{Bool, true, false, not, ◌&&◌}
 use borrow.Author.Tests.{le-leb, lt-leb, lt-ltb, le-ltb}
 use lib.Dec.{leb, eqb}
 use lib.ListN.{get_or}
+use Rattle.spec.specs.declared.Refusal.{Refusal}
+use Rattle.spec.specs.declared.Refusal.TheVariants.{Spoilt}
+use Rattle.spec.specs.declared.State.{State}
 use Rattle.spec.specs.declared.Task.{Task}
-use Rattle.spec.specs.declared.Output.{Output}
-use Rattle.spec.specs.declared.Output.TheVariants.{At, End, Refuse}
+use Rattle.spec.specs.Outputs.{Output}
+use Rattle.spec.specs.declared.Progress.TheVariants.{At, End}
 use Rattle.spec.specs.Lists.{member}
 use Rattle.spec.specs.Machine.{Machine, machine_of, idle, task_of, with_chosen, with_state, state_chosen}
 use Rattle.spec.specs.Words.{link, number}
 use Rattle.spec.specs.Sound.{task_count, sound}
 use Rattle.spec.specs.Held.{cyclic_order, first_free}
 use Rattle.spec.specs.Entries.{Reply, refuse, step}
+use Rattle.spec.specs.Numbers.{refusal_number}
+use Rattle.spec.specs.declared.Progress.{Progress}
 use Rattle.laws.specs.Tests.{bool?}
 use Rattle.laws.specs.Links.{true_filled}
 use Rattle.laws.specs.Soundness.{sound_facts}
@@ -33,6 +38,30 @@ use Rattle.dispatch.specs.Turned.{turned_of, next_to_step, uses_turn, chosen_aft
 -- the links ls are those of the idle tasks among the first t of ts
 abbrev pub IdleLinks : List Task → ℕ → List ℕ → Type 0
 IdleLinks ts t ls = (k : ℕ) → k < t → member (link k) ls ≡ not (get_or ts k idle).running
+
+-- ---- an accepted step uses up its turn
+
+pub used_if_accepted : (p : Progress) → uses_turn (Ok p) ≡ true
+unfolding uses_turn
+used_if_accepted (At line) = refl
+used_if_accepted (End a own full) = refl
+
+-- ---- what the code makes of a step, by whether it uses up its turn
+
+module _ (k : ℕ) (z : State) where
+  pub used_out : (ok : Bool) (o : Output) → uses_turn o ≡ true → record { says = Of k o; state = state_chosen k z } ≡ by_output k z ok o
+  unfolding uses_turn by_output
+  used_out ok (Ok (At line)) e = refl
+  used_out ok (Ok (End a own full)) e = refl
+  used_out ok (Err w) e = rw e
+
+  pub unused_named : (w : Refusal) → uses_turn (Err w) ≡ false → record { says = Of k (Err w); state = z } ≡ by_output k z true (Err w)
+  unfolding uses_turn by_output
+  unused_named w e = rw e
+
+  pub unused_spoilt : (w : Refusal) → uses_turn (Err w) ≡ false → record { says = Refused w; state = z } ≡ by_output k z false (Err w)
+  unfolding uses_turn by_output
+  unused_spoilt w e = rw e
 
 module _ (y : Machine) where
   -- ---- who is next
@@ -65,7 +94,7 @@ module _ (y : Machine) where
 
   -- ---- no task is stepped
 
-  pub spoilt : sound y ≡ false → gives (Refused 8) y ≡ turn y
+  pub spoilt : sound y ≡ false → gives (Refused Spoilt) y ≡ turn y
   unfolding turn
   spoilt e = rw e
 
@@ -83,19 +112,19 @@ module _ (y : Machine) where
         rw (s, sym (sound_next s) ∙ e, true_filled (link k) (λ z. omega arith), same)
 
     -- by what its step answers and leaves
-    after_each : (o : Output) (z : Machine) → ((w : ℕ) → o ≡ Refuse w → z ≡ y)
+    after_each : (o : Output) (z : Machine) → ((w : Refusal) → o ≡ Err w → z ≡ y)
         → gives (Of k o) (with_chosen (chosen_after o k z.state.chosen) z) ≡ after_step y k o z
     unfolding uses_turn after_step with_chosen with_state state_chosen
-    after_each (At line) z same = refl
-    after_each (End a own full) z same = refl
-    after_each (Refuse w) z same = rw (same w refl) (go (eqb w 7))
+    after_each (Ok (At line)) z same = refl
+    after_each (Ok (End a own full)) z same = refl
+    after_each (Err w) z same = rw (same w refl) (go (eqb (refusal_number w) 7))
       where
-        go : (b : Bool) → gives (Of k (Refuse w)) (with_chosen (if b then k else y.state.chosen) y) ≡ gives (Of k (Refuse w)) (if b then with_chosen k y else y)
+        go : (b : Bool) → gives (Of k (Err w)) (with_chosen (if b then k else y.state.chosen) y) ≡ gives (Of k (Err w)) (if b then with_chosen k y else y)
         go true = refl
         go false = refl
 
     module _ (o : Output) (z : Machine) (d : record { out = o; machine = z } ≡ step y k) where
-      refused_kept : (w : ℕ) → o ≡ Refuse w → z ≡ y
+      refused_kept : (w : Refusal) → o ≡ Err w → z ≡ y
       refused_kept w f = ap (λ (q : Reply). q.machine) d ∙ refused_step_changes_nothing y k w (sym (ap (λ (q : Reply). q.out) d) ∙ f)
 
       -- in sound memory the turn names the task
@@ -108,9 +137,9 @@ module _ (y : Machine) where
       unused_kept e = go o refl e
         where
           go : (a : Output) → o ≡ a → uses_turn a ≡ false → z ≡ y
-          go (At line) f e = absurd (let u : ◌≡◌ {A = ℕ} 0 1 = cc in omega arith)
-          go (End a own full) f e = absurd (let u : ◌≡◌ {A = ℕ} 0 1 = cc in omega arith)
-          go (Refuse w) f e = refused_kept w f
+          go (Ok (At line)) f e = absurd (let u : ◌≡◌ {A = ℕ} 0 1 = cc in omega arith)
+          go (Ok (End a own full)) f e = absurd (let u : ◌≡◌ {A = ℕ} 0 1 = cc in omega arith)
+          go (Err w) f e = refused_kept w f
 
       pub used_sound : uses_turn o ≡ true → sound y ≡ true
       unfolding uses_turn step refuse
@@ -119,8 +148,8 @@ module _ (y : Machine) where
           go : (sound y ≡ true) ⊎ (sound y ≡ false) → sound y ≡ true
           go (inl s) = s
           go (inr s) =
-              let eight : o ≡ Refuse 8 = ap (λ (q : Reply). q.out) d ∙ rw s in
-              absurd (let v : uses_turn (Refuse 8) ≡ true = rw eight at e in let u : ◌≡◌ {A = ℕ} 0 1 = cc in omega arith)
+              let eight : o ≡ Err Spoilt = ap (λ (q : Reply). q.out) d ∙ rw s in
+              absurd (let v : uses_turn (Err Spoilt) ≡ true = rw eight at e in let u : ◌≡◌ {A = ℕ} 0 1 = cc in omega arith)
 
       -- so a turn that is used up names its task, and one that is not does so in sound memory
       pub used : uses_turn o ≡ true → gives (Of k o) (with_chosen k z) ≡ turn y
@@ -132,7 +161,7 @@ module _ (y : Machine) where
 
     module _ (r : Stepped) (ns bs : List ℕ) (d : reply_of r ns bs ≡ step y k) where
       -- a refused step leaves the machine as it was
-      refused_same : (w : ℕ) → r.out ≡ Refuse w → machine_of r.state ns bs ≡ y
+      refused_same : (w : Refusal) → r.out ≡ Err w → machine_of r.state ns bs ≡ y
       refused_same w o =
           ap (λ (q : Reply). q.machine) d ∙ refused_step_changes_nothing y k w (sym (ap (λ (q : Reply). q.out) d) ∙ o)
 
@@ -142,20 +171,20 @@ module _ (y : Machine) where
       by_each : sound y ≡ true → (o : Output) → r.out ≡ o
           → turned_of (by_output k r.state sound_after o) ns bs ≡ after_step y k o (machine_of r.state ns bs)
       unfolding by_output after_step with_chosen with_state
-      by_each s (At line) f = refl
-      by_each s (End a own full) f = refl
-      by_each s (Refuse w) f = rw (ap sound (refused_same w f) ∙ s) (go (eqb w 7))
+      by_each s (Ok (At line)) f = refl
+      by_each s (Ok (End a own full)) f = refl
+      by_each s (Err w) f = rw (ap sound (refused_same w f) ∙ s) (go (eqb (refusal_number w) 7))
         where
           go : (b : Bool)
               → turned_of (
-              if b then record { says = Of k (Refuse w); state = state_chosen k r.state } else record { says = Of k (Refuse w); state = r.state }
+              if b then record { says = Of k (Err w); state = state_chosen k r.state } else record { says = Of k (Err w); state = r.state }
               ) ns bs
-              ≡ gives (Of k (Refuse w)) (if b then with_chosen k y else y)
-          go true = ap (λ (m : Machine). gives (Of k (Refuse w)) (with_chosen k m)) (refused_same w f)
-          go false = ap (gives (Of k (Refuse w))) (refused_same w f)
+              ≡ gives (Of k (Err w)) (if b then with_chosen k y else y)
+          go true = ap (λ (m : Machine). gives (Of k (Err w)) (with_chosen k m)) (refused_same w f)
+          go false = ap (gives (Of k (Err w))) (refused_same w f)
 
       -- in spoilt memory the step is refused with 8, which is the turn's own
-      spoilt_step : sound y ≡ false → r.out ≡ Refuse 8
+      spoilt_step : sound y ≡ false → r.out ≡ Err Spoilt
       unfolding step refuse
       spoilt_step s = ap (λ (q : Reply). q.out) d ∙ rw s
 
@@ -163,8 +192,8 @@ module _ (y : Machine) where
       unfolding by_output
       own_eight s =
           let eight = spoilt_step s in
-          let same = refused_same 8 eight in
-          rw (eight, ap sound same ∙ s) (ap (gives (Refused 8)) same ∙ spoilt s)
+          let same = refused_same Spoilt eight in
+          rw (eight, ap sound same ∙ s) (ap (gives (Refused Spoilt)) same ∙ spoilt s)
 
       -- what the code makes of the step is what the turn gives
       pub turn_goes : turned_of (stepped_turn k r ns bs) ns bs ≡ turn y

@@ -43,14 +43,12 @@ fn turn_taken(
             state: t,
         };
     }
-    let l = dispatch::next_task(t);
-    if l == 0 {
+    let Some(k) = dispatch::next_task(t) else {
         return Taken {
             named: false,
             state: t,
         };
-    }
-    let k = l - 1;
+    };
     let c = t.task[(k % 8) as usize];
     let d = schedule::known_sound(c, k);
     let m = checked_step::step(t, d, k, ns, bs);
@@ -72,7 +70,7 @@ fn turn_taken(
     }
 }
 
-// The parts of what `turn_taken` gives, and what `run_turns` gives: what is lent is taken apart here alone.
+// The parts of what `turn_taken` gives, and what `run_turns` gives: what is lent is taken apart here alone, so that the answers of the loop speak of no place.
 fn named_of(d: Taken) -> bool
     ensures { result ≡ d.named }
 {

@@ -4,6 +4,7 @@ use Rattle.std.specs.Prelude.{ℕ, ◌<◌, ◌≡◌, true}
 use native.Mathlib.Omega.{arith}
 use Rattle.std.proofs.Math.Path.{refl}
 use mathlib.Core.List.{List, [], ◌∷◌}
+use Rattle.spec.specs.declared.Refusal.TheVariants.{Spoilt}
 use Rattle.spec.specs.Machine.{Machine, with_chosen, with_state, state_chosen}
 use Rattle.spec.specs.Sound.{task_count, sound}
 use Rattle.spec.specs.Entries.{step}
@@ -57,5 +58,5 @@ module _ (l : ℕ) where
           ≡ stood_for (record { says = turned m.says ∷ (moves m.machine ms).says; machine = (moves m.machine ms).machine })
       go (spoilt s) ih = ih y b
       go (nothing_runs s n) ih = ih y b
-      go (step_spoilt k s n f) ih = rw (same_step y b k, f, refused_step_changes_nothing y k 8 f, ih y b)
+      go (step_spoilt k s n f) ih = rw (same_step y b k, f, refused_step_changes_nothing y k Spoilt f, ih y b)
       go (goes k o z s n f x only) ih = rw (same_step y b k, f, x, ih (with_chosen k z) (beside_turn y b k z n x))

@@ -1,9 +1,9 @@
 -- From an opening on no start, step or turn is refused with 8, and a turn with nothing but 7: memory stays sound, and the step of the task
 -- that is next would be one of the schedule that the run stands for. Assumes nothing.
-use Rattle.std.specs.Prelude.{ℕ, suc, ◌≡◌}
+use Rattle.std.specs.Prelude.{ℕ, suc, ◌≡◌, Err}
 use Rattle.std.proofs.Common.{ap, ◌∙◌}
 use mathlib.Core.List.{List, [], ◌∷◌}
-use Rattle.spec.specs.declared.Output.TheVariants.{Refuse}
+use Rattle.spec.specs.declared.Refusal.TheVariants.{Spoilt}
 use Rattle.spec.specs.Machine.{Machine, with_chosen, with_state, state_chosen}
 use Rattle.spec.specs.Entries.{Reply}
 use Rattle.spec.specs.Schedule.{Event, steps, event}
@@ -27,7 +27,7 @@ pub record InSchedule (y : Machine) : Type 0 where
 module _ (l : ℕ) where
   -- so does what a start or a step leaves, and it is not refused with 8
   goes_on : (y : Machine) → Beside l y → InSchedule (with_chosen l y) → (e : Event)
-      → InSchedule (with_chosen l (event y e).machine) × (¬ ((event y e).out ≡ Refuse 8))
+      → InSchedule (with_chosen l (event y e).machine) × (¬ ((event y e).out ≡ Err Spoilt))
   goes_on y b s e =
       let a = event_next s.place s.last s.ended (with_chosen l y) s.before e in
       let same = same_event l y b e in (

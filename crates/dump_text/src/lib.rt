@@ -8,17 +8,22 @@ mod holders;
 mod print;
 mod records;
 mod tasks;
+mod words;
 
 ghost use Rattle.std.specs.Prelude.{◌≡◌, ◌≤◌, length, replicate};
 ghost use Rattle.spec.specs.Machine.{machine_of};
 ghost use Rattle.spec.specs.Entries.{list};
 ghost use Rattle.dump_text.specs.Decides.{deciding};
 
+use print::{field, record_field};
+use session_bytes::Page;
 use spec::{Config, Listing, State};
+use words::{Kind, Set};
 
 // ---- the listed tags, with the bucket that decides each
 
 // The link of the bucket that decides whether the tag is in the set (`deciding_decides`), 0 if there is none.
+#[tactic(auto, unfolding(crate::specs::Decides::deciding))]
 fn deciding(g: Config, ns: &[u32], head: u32, tag: u32) -> u32
     ensures { result ≡ deciding g ns.now head tag }
 {
@@ -33,36 +38,6 @@ fn deciding(g: Config, ns: &[u32], head: u32, tag: u32) -> u32
     pool::place_for(ns, q, g, tag)
 }
 
-// Tag i of these, if it is one of the first n.
-fn decided(out: &mut [u8], at: usize, s: State, ns: &[u32], ts: &[u32], n: u32, i: u32) -> usize
-    requires { at ≤ length out.old }
-    ensures { result ≤ length out.old }
-{
-    if n <= i {
-        return at;
-    }
-    let g = s.config;
-    let t = pool::word(ts, i as usize);
-    let l = deciding(g, ns, s.head, t);
-    let a = print::field(out, at, b"tag ", t);
-    let b = print::record(out, a, b": bucket ", l);
-    print::text(out, b, b"\n")
-}
-
-// The first n of these tags.
-fn all_decided(out: &mut [u8], at: usize, s: State, ns: &[u32], ts: &[u32], n: u32) -> usize
-    requires { at ≤ length out.old }
-    ensures { result ≤ length out.old }
-{
-    let mut to = at;
-    let mut i: u32 = 0;
-    while i < 64 {
-        to = decided(out, to, s, ns, ts, n, i);
-        i += 1;
-    }
-    to
-}
-
 // A dump: what a list of the set gives, which is how many tags the dump ends with, or the refusal for which it has none; and how many bytes were printed.
 #[derive(Clone, Copy)]
 pub struct Dumped {
@@ -70,66 +45,46 @@ pub struct Dumped {
     pub printed: usize,
 }
 
-fn tag_count(listed: Listing) -> u32 {
-    match listed {
-        Listing::Count(n) => n,
-        Listing::Refused(_) => 0,
-    }
-}
-
 // The listed tags, none where a list is refused.
-fn listed_tags(out: &mut [u8], at: usize, s: State, ns: &[u32], bs: &[u32]) -> Dumped
-    requires { at ≤ length out.old }
-    ensures { (result.listing ≡ (list (machine_of s ns.now bs.now) (replicate 64 0)).says)
-        × (result.printed ≤ length out.old) }
+fn listed_tags(page: &mut Page<'_>, s: State, ns: &[u32], bs: &[u32]) -> Listing
+    ensures { result ≡ (list (machine_of s ns.now bs.now) (replicate 64 0)).says }
 {
     let mut ts = [0u32; 64];
     let listed = queries::list(s, ns, bs, &mut ts);
-    let n = tag_count(listed);
-    let e = all_decided(out, at, s, ns, &ts, n);
-    Dumped {
-        listing: listed,
-        printed: e,
+    if let Ok(n) = listed {
+        for tag in ts.iter().take(n as usize) {
+            field(page, "tag ", *tag);
+            record_field(page, ": bucket ", deciding(s.config, ns, s.head, *tag));
+            page.bytes(b"\n");
+        }
     }
+    listed
 }
 
 // ---- the whole
-
-const WORDS: usize = 1201;
-
-// The words that a dump is made from. The `ensures` gives the length, which lending the array needs.
-fn dump_words() -> [u32; WORDS]
-    ensures { 1201 ≡ length result }
-{
-    [0; WORDS]
-}
-
-fn gather(s: State, ns: &[u32], w: &mut [u32])
-    requires { 1201 ≡ length w.old }
-{
-    holders::search_all(s, ns, w);
-    yard_words::put_state(&mut w[0..113], s);
-}
-
-fn all_records(out: &mut [u8], at: usize, w: &[u32], ns: &[u32], bs: &[u32]) -> usize
-    requires { at ≤ length out.old }
-    ensures { result ≤ length out.old }
-{
-    let a = records::chain(out, at, w, ns, bs);
-    let b = records::others(out, a, w, ns, bs, holders::NODE);
-    let d = records::others(out, b, w, ns, bs, holders::BUCKET);
-    records::free(out, d, w)
-}
 
 // The memory of a set, from the buffer's first byte on, within it. A buffer that is full then may lack some of it.
 pub fn dump(s: State, ns: &[u32], bs: &[u32], out: &mut [u8]) -> Dumped
     ensures { (result.listing ≡ (list (machine_of s ns.now bs.now) (replicate 64 0)).says)
         × (result.printed ≤ length out.old) }
 {
-    let mut w = dump_words();
-    gather(s, ns, &mut w);
-    let a = tasks::numbers(out, 0, &w);
-    let b = tasks::tasks(out, a, &w);
-    let d = all_records(out, b, &w, ns, bs);
-    listed_tags(out, d, s, ns, bs)
+    let mut w = [0; words::WORDS];
+    words::gather(s, ns, &mut w);
+    let set = Set {
+        words: &w,
+        nodes: ns,
+        buckets: bs,
+    };
+    let room = out.len();
+    let mut page = Page::new(out);
+    tasks::numbers(&mut page, set);
+    tasks::tasks(&mut page, set);
+    records::chain(&mut page, set);
+    records::others(&mut page, set, Kind::Node);
+    records::others(&mut page, set, Kind::Bucket);
+    records::free(&mut page, set);
+    let listing = listed_tags(&mut page, s, ns, bs);
+    // the functions that print here say nothing of the room of their page, so the bound is taken once more
+    let printed = page.printed().min(room);
+    Dumped { listing, printed }
 }

@@ -1,276 +1,152 @@
 // The nodes and buckets: first the chain, the head and its predecessor with their places, then the other held ones, then the numbers of those that are free.
-ghost use Rattle.std.specs.Prelude.{◌≤◌, length};
+use crate::holders::holders;
+use crate::print::{field, record_field};
+use crate::words::{Kind, Set};
+use session_bytes::Page;
 
 // Node k: its size and predecessor.
-fn node(out: &mut [u8], at: usize, ns: &[u32], k: u32) -> usize
-    requires { at ≤ length out.old }
-    ensures { result ≤ length out.old }
-{
-    let size = pool::size_at(ns, k);
-    let pred = pool::pred_at(ns, k);
-    let a = crate::print::field(out, at, b"node ", k);
-    let b = crate::print::field(out, a, b": size=", size);
-    crate::print::record(out, b, b" predecessor=node ", pred)
+fn node(page: &mut Page<'_>, nodes: &[u32], k: u32) {
+    field(page, "node ", k);
+    field(page, ": size=", pool::size_at(nodes, k));
+    record_field(page, " predecessor=node ", pool::pred_at(nodes, k));
 }
 
-fn tag(out: &mut [u8], at: usize, c: &[u32], i: u32) -> usize
-    requires { at ≤ length out.old }
-    ensures { result ≤ length out.old }
-{
-    if (i < 64) & (i < pool::word(c, 1)) {
-        let v = pool::word(c, 2 + i as usize);
-        return crate::print::field(out, at, b" tag=", v);
+// The words of a bucket, from its first on.
+fn words_of(page: &mut Page<'_>, words: &[u32]) {
+    match pool::word(words, 0) {
+        0 => page.bytes(b": frozen"),
+        1 => page.bytes(b": may change"),
+        _ => {}
     }
-    at
-}
-
-fn tags(out: &mut [u8], at: usize, c: &[u32]) -> usize
-    requires { at ≤ length out.old }
-    ensures { result ≤ length out.old }
-{
-    let mut to = at;
-    let mut i: u32 = 0;
-    while i < 64 {
-        to = tag(out, to, c, i);
-        i += 1;
+    let count = pool::word(words, 1);
+    field(page, " count=", count);
+    for i in 0..count.min(pool::MOST_TAGS as u32) {
+        field(page, " tag=", pool::word(words, 2 + i as usize));
     }
-    to
 }
 
-// Bucket k, whose words these are.
-fn words_of(out: &mut [u8], at: usize, c: &[u32], k: u32) -> usize
-    requires { at ≤ length out.old }
-    ensures { result ≤ length out.old }
-{
-    let first = pool::word(c, 0);
-    let n = pool::word(c, 1);
-    let a = crate::print::field(out, at, b"bucket ", k);
-    let b = crate::print::nth(out, a, b": frozen,: may change,", first as usize);
-    let d = crate::print::field(out, b, b" count=", n);
-    tags(out, d, c)
-}
-
-fn bucket(out: &mut [u8], at: usize, bs: &[u32], k: u32) -> usize
-    requires { at ≤ length out.old }
-    ensures { result ≤ length out.old }
-{
-    let a = pool::BUCKET_WORDS * (k as usize);
-    if a < bs.len() {
-        return words_of(out, at, &bs[a..], k);
+// Bucket k.
+fn bucket(page: &mut Page<'_>, buckets: &[u32], k: u32) {
+    field(page, "bucket ", k);
+    let at = pool::BUCKET_WORDS * (k as usize);
+    if at < buckets.len() {
+        words_of(page, &buckets[at..]);
     }
-    crate::print::field(out, at, b"bucket ", k)
 }
 
 // ---- the chain
 
 // Place i of node k, on a line of its own, with its bucket.
-fn place(out: &mut [u8], at: usize, w: &[u32], ns: &[u32], bs: &[u32], k: u32, i: u32) -> usize
-    requires { at ≤ length out.old }
-    ensures { result ≤ length out.old }
-{
-    let a = crate::print::field(out, at, b"  place ", i);
-    let l = pool::place_at(ns, k, i);
-    if l == 0 {
-        return crate::print::text(out, a, b": nil\n");
+fn place(page: &mut Page<'_>, set: Set<'_>, k: u32, i: u32) {
+    field(page, "  place ", i);
+    let link = pool::place_at(set.nodes, k, i);
+    match link.checked_sub(1) {
+        None => page.bytes(b": nil\n"),
+        Some(b) => {
+            page.bytes(b": ");
+            bucket(page, set.buckets, b);
+            holders(page, set, Kind::Bucket, link);
+        }
     }
-    let b = crate::print::text(out, a, b": ");
-    let d = bucket(out, b, bs, l - 1);
-    crate::holders::holders(out, d, w, ns, crate::holders::BUCKET, l)
-}
-
-// Place i of node k, if the node has it.
-fn own_place(out: &mut [u8], at: usize, w: &[u32], ns: &[u32], bs: &[u32], k: u32, i: u32) -> usize
-    requires { at ≤ length out.old }
-    ensures { result ≤ length out.old }
-{
-    if (i < pool::PLACES) & (i < pool::size_at(ns, k)) {
-        return place(out, at, w, ns, bs, k, i);
-    }
-    at
-}
-
-fn places(out: &mut [u8], at: usize, w: &[u32], ns: &[u32], bs: &[u32], k: u32) -> usize
-    requires { at ≤ length out.old }
-    ensures { result ≤ length out.old }
-{
-    let mut to = at;
-    let mut i: u32 = 0;
-    while i < 32 {
-        to = own_place(out, to, w, ns, bs, k, i);
-        i += 1;
-    }
-    to
 }
 
 // The node that a link names, with its places; nothing for an empty link.
-fn linked(
-    out: &mut [u8],
-    at: usize,
-    name: &[u8],
-    w: &[u32],
-    ns: &[u32],
-    bs: &[u32],
-    l: u32,
-) -> usize
-    requires { at ≤ length out.old }
-    ensures { result ≤ length out.old }
-{
-    if l == 0 {
-        return at;
+fn linked(page: &mut Page<'_>, name: &str, set: Set<'_>, link: u32) {
+    let Some(k) = link.checked_sub(1) else {
+        return;
+    };
+    page.bytes(name.as_bytes());
+    node(page, set.nodes, k);
+    holders(page, set, Kind::Node, link);
+    for i in 0..pool::size_at(set.nodes, k).min(pool::PLACES) {
+        place(page, set, k, i);
     }
-    let k = l - 1;
-    let a = crate::print::text(out, at, name);
-    let b = node(out, a, ns, k);
-    let d = crate::holders::holders(out, b, w, ns, crate::holders::NODE, l);
-    places(out, d, w, ns, bs, k)
 }
 
 // The head's link.
-fn head_link(w: &[u32]) -> u32 {
-    let head = pool::word(w, 5);
+fn head_link(set: Set<'_>) -> u32 {
+    let head = set.head();
     if head < pool::MOST_NODES { head + 1 } else { 0 }
 }
 
-pub fn chain(out: &mut [u8], at: usize, w: &[u32], ns: &[u32], bs: &[u32]) -> usize
-    requires { at ≤ length out.old }
-    ensures { result ≤ length out.old }
-{
-    let head = head_link(w);
-    let pred = pool::pred_at(ns, pool::number_of(head));
-    let a = linked(out, at, b"head ", w, ns, bs, head);
-    linked(out, a, b"predecessor ", w, ns, bs, pred)
+pub fn chain(page: &mut Page<'_>, set: Set<'_>) {
+    let head = head_link(set);
+    linked(page, "head ", set, head);
+    linked(page, "predecessor ", set, pool::pred_of(set.nodes, head));
 }
 
 // ---- the other held ones
 
 // Whether a place of node k names the bucket that a link names.
-fn places_name(ns: &[u32], k: u32, l: u32) -> bool {
-    let mut found = false;
-    let mut i: u32 = 0;
-    while i < 32 {
-        found = found | (pool::place_at(ns, k, i) == l);
-        i += 1;
-    }
-    found
+fn places_name(nodes: &[u32], k: u32, link: u32) -> bool {
+    (0..pool::PLACES).any(|i| pool::place_at(nodes, k, i) == link)
 }
 
 // Whether a record that a link names stands in the chain.
-fn in_chain(w: &[u32], ns: &[u32], kind: u32, l: u32) -> bool {
-    let head = head_link(w);
-    let k = pool::number_of(head);
-    let pred = pool::pred_at(ns, k);
-    if kind == crate::holders::NODE {
-        return (l == head) | (l == pred);
+fn in_chain(set: Set<'_>, kind: Kind, link: u32) -> bool {
+    let nodes = set.nodes;
+    let head = head_link(set);
+    let pred = pool::pred_of(nodes, head);
+    match kind {
+        Kind::Node => link == head || link == pred,
+        Kind::Bucket => {
+            places_name(nodes, pool::number_of(head), link)
+                || (pred != 0 && places_name(nodes, pool::number_of(pred), link))
+        }
     }
-    if places_name(ns, k, l) {
-        return true;
-    }
-    (pred != 0) & places_name(ns, pool::number_of(pred), l)
 }
 
-// A filled place of node k.
-fn filled_place(out: &mut [u8], at: usize, ns: &[u32], k: u32, i: u32) -> usize
-    requires { at ≤ length out.old }
-    ensures { result ≤ length out.old }
-{
-    let l = pool::place_at(ns, k, i);
-    if l == 0 {
-        return at;
+// The filled places of node k.
+fn filled_places(page: &mut Page<'_>, nodes: &[u32], k: u32) {
+    for i in 0..pool::PLACES {
+        if let Some(b) = pool::place_at(nodes, k, i).checked_sub(1) {
+            field(page, " place ", i);
+            field(page, "=bucket ", b);
+        }
     }
-    let a = crate::print::field(out, at, b" place ", i);
-    crate::print::field(out, a, b"=bucket ", l - 1)
 }
 
-fn filled_places(out: &mut [u8], at: usize, ns: &[u32], k: u32) -> usize
-    requires { at ≤ length out.old }
-    ensures { result ≤ length out.old }
-{
-    let mut to = at;
-    let mut i: u32 = 0;
-    while i < 32 {
-        to = filled_place(out, to, ns, k, i);
-        i += 1;
+// Record k of a kind, without its places' buckets.
+fn record(page: &mut Page<'_>, set: Set<'_>, kind: Kind, k: u32) {
+    match kind {
+        Kind::Node => {
+            node(page, set.nodes, k);
+            filled_places(page, set.nodes, k);
+        }
+        Kind::Bucket => bucket(page, set.buckets, k),
     }
-    to
-}
-
-// Record k of a kind, if it is held and stands not in the chain.
-fn other(out: &mut [u8], at: usize, w: &[u32], ns: &[u32], bs: &[u32], kind: u32, k: u32) -> usize
-    requires { at ≤ length out.old }
-    ensures { result ≤ length out.old }
-{
-    if 1024 <= k {
-        return at;
-    }
-    if !crate::holders::is_held(w, kind, k) | in_chain(w, ns, kind, k + 1) {
-        return at;
-    }
-    if kind == crate::holders::NODE {
-        let a = node(out, at, ns, k);
-        let b = filled_places(out, a, ns, k);
-        return crate::holders::holders(out, b, w, ns, kind, k + 1);
-    }
-    let a = bucket(out, at, bs, k);
-    crate::holders::holders(out, a, w, ns, kind, k + 1)
 }
 
 // The held records of a kind that stand not in the chain.
-pub fn others(out: &mut [u8], at: usize, w: &[u32], ns: &[u32], bs: &[u32], kind: u32) -> usize
-    requires { at ≤ length out.old }
-    ensures { result ≤ length out.old }
-{
-    let mut to = at;
-    let mut k: u32 = 0;
-    while k < 1024 {
-        to = other(out, to, w, ns, bs, kind, k);
-        k += 1;
+pub fn others(page: &mut Page<'_>, set: Set<'_>, kind: Kind) {
+    for k in 0..pool::MOST_BUCKETS {
+        let link = k + 1;
+        if set.is_held(kind, k) && !in_chain(set, kind, link) {
+            record(page, set, kind, k);
+            holders(page, set, kind, link);
+        }
     }
-    to
 }
 
 // ---- the free ones
 
-fn free_number(out: &mut [u8], at: usize, w: &[u32], kind: u32, k: u32) -> usize
-    requires { at ≤ length out.old }
-    ensures { result ≤ length out.old }
-{
-    if crate::holders::is_free(w, kind, k) {
-        return crate::print::field(out, at, b" ", k);
-    }
-    at
-}
-
-fn free_numbers(out: &mut [u8], at: usize, w: &[u32], kind: u32) -> usize
-    requires { at ≤ length out.old }
-    ensures { result ≤ length out.old }
-{
-    let mut to = at;
-    let mut k: u32 = 0;
-    while k < 1024 {
-        to = free_number(out, to, w, kind, k);
-        k += 1;
-    }
-    to
-}
-
 // The numbers of the free records of a kind, or that there is none.
-fn free_of(out: &mut [u8], at: usize, name: &[u8], w: &[u32], kind: u32) -> usize
-    requires { at ≤ length out.old }
-    ensures { result ≤ length out.old }
-{
-    let a = crate::print::text(out, at, name);
-    let b = free_numbers(out, a, w, kind);
-    if a < b {
-        return b;
+fn free_of(page: &mut Page<'_>, name: &str, set: Set<'_>, kind: Kind) {
+    page.bytes(name.as_bytes());
+    let mut none = true;
+    for k in 0..pool::MOST_BUCKETS {
+        if set.is_free(kind, k) {
+            field(page, " ", k);
+            none = false;
+        }
     }
-    crate::print::text(out, a, b" none")
+    if none {
+        page.bytes(b" none");
+    }
 }
 
-pub fn free(out: &mut [u8], at: usize, w: &[u32]) -> usize
-    requires { at ≤ length out.old }
-    ensures { result ≤ length out.old }
-{
-    let a = free_of(out, at, b"free: nodes", w, crate::holders::NODE);
-    let b = free_of(out, a, b"; buckets", w, crate::holders::BUCKET);
-    crate::print::text(out, b, b"\n")
+pub fn free(page: &mut Page<'_>, set: Set<'_>) {
+    free_of(page, "free: nodes", set, Kind::Node);
+    free_of(page, "; buckets", set, Kind::Bucket);
+    page.bytes(b"\n");
 }

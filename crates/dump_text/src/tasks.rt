@@ -1,239 +1,197 @@
 // The state's numbers, and each task: what it runs, the figure's variables, and the line that it does next.
-ghost use Rattle.std.specs.Prelude.{◌≤◌, length};
+use crate::print::field;
+use crate::words::{Kind, Set};
+use session_bytes::Page;
 
-// The state's words before its tasks', and a task's words: docs/FITTERS.md has their order.
-pub const FIRST_TASK: usize = 9;
+// The state's words before its tasks', a task's words, and the most tasks: docs/FITTERS.md has their order.
+const FIRST_TASK: usize = 9;
 
-pub const TASK_WORDS: usize = 13;
+const TASK_WORDS: usize = 13;
 
-// The figure's variables as a set: bit j for word j of a task's words. The head, which is no variable of a task, has bit 0.
-const HEAD: u32 = 1;
+pub const MOST_TASKS: u32 = 8;
 
-const TAG: u32 = 4;
+// The figure's variables that a task has, each by its place in the task's words.
+#[derive(Clone, Copy, PartialEq, Eq)]
+pub enum Variable {
+    Tag = 2,
+    I = 4,
+    Own = 5,
+    T = 6,
+    S = 7,
+    B = 8,
+    M = 9,
+    N = 10,
+    NewNode = 11,
+    NewBucket = 12,
+}
 
-const I: u32 = 16;
+pub const VARIABLES: [Variable; 10] = [
+    Variable::Tag,
+    Variable::I,
+    Variable::Own,
+    Variable::T,
+    Variable::S,
+    Variable::B,
+    Variable::M,
+    Variable::N,
+    Variable::NewNode,
+    Variable::NewBucket,
+];
 
-const OWN: u32 = 32;
+impl Variable {
+    pub fn name(self) -> &'static str {
+        match self {
+            Variable::Tag => "tag",
+            Variable::I => "i",
+            Variable::Own => "own",
+            Variable::T => "t",
+            Variable::S => "s",
+            Variable::B => "b",
+            Variable::M => "m",
+            Variable::N => "n",
+            Variable::NewNode => "new_node",
+            Variable::NewBucket => "new_bucket",
+        }
+    }
 
-const T: u32 = 64;
+    // What it names, if it names a record.
+    pub fn kind(self) -> Option<Kind> {
+        match self {
+            Variable::Tag | Variable::I | Variable::Own => None,
+            Variable::T | Variable::S | Variable::NewNode => Some(Kind::Node),
+            Variable::B | Variable::M | Variable::N | Variable::NewBucket => Some(Kind::Bucket),
+        }
+    }
 
-const S: u32 = 128;
+    // Its word in a task whose words these are.
+    fn of_words(self, words: &[u32]) -> u32 {
+        pool::word(words, self as usize)
+    }
 
-const B: u32 = 256;
-
-const M: u32 = 512;
-
-const N: u32 = 1024;
-
-const NEW_NODE: u32 = 2048;
-
-const NEW_BUCKET: u32 = 4096;
-
-const ALL: u32 = TAG + I + OWN + T + S + B + M + N + NEW_NODE + NEW_BUCKET;
+    // Its word in task k.
+    pub fn of_task(self, set: Set<'_>, k: u32) -> u32 {
+        pool::word(
+            set.words,
+            FIRST_TASK + TASK_WORDS * k as usize + self as usize,
+        )
+    }
+}
 
 // The second freeze of the figure's line 48 is a step of its own: "Line numbers are Figure 2's; 52 is ours."
 const SECOND_FREEZE: u32 = 52;
 
+// Whether a step reads the head, which is no variable of a task.
+fn reads_head(line: u32) -> bool {
+    matches!(line, 12 | 20 | 28 | 32)
+}
+
 // The variables that a step reads, after paper 01, "One step, one line".
-fn uses(line: u32) -> u32 {
+fn reads(line: u32) -> &'static [Variable] {
     match line {
-        12 | 20 | 32 => HEAD,
-        13 | 17 | 33 => TAG + T,
-        15 | 24 | 27 => T,
-        16 => TAG + S,
-        18 | 36 => TAG + B,
-        28 => HEAD + T + NEW_NODE,
-        39 | 51 => I + T,
-        40 => T + B,
-        43 | 46 => I + S,
-        44 | 48 => M,
-        47 => I + T + S,
-        49 => I + T + M + N,
-        50 => I + T + NEW_BUCKET,
-        52 => N,
-        _ => 0,
+        13 | 17 | 33 => &[Variable::Tag, Variable::T],
+        15 | 24 | 27 => &[Variable::T],
+        16 => &[Variable::Tag, Variable::S],
+        18 | 36 => &[Variable::Tag, Variable::B],
+        28 => &[Variable::T, Variable::NewNode],
+        39 | 51 => &[Variable::I, Variable::T],
+        40 => &[Variable::T, Variable::B],
+        43 | 46 => &[Variable::I, Variable::S],
+        44 | 48 => &[Variable::M],
+        47 => &[Variable::I, Variable::T, Variable::S],
+        49 => &[Variable::I, Variable::T, Variable::M, Variable::N],
+        50 => &[Variable::I, Variable::T, Variable::NewBucket],
+        SECOND_FREEZE => &[Variable::N],
+        _ => &[],
     }
 }
 
-// A record that a variable names, by the variable's word: a node or a bucket.
-fn named_record(out: &mut [u8], at: usize, j: usize, l: u32) -> usize
-    requires { at ≤ length out.old }
-    ensures { result ≤ length out.old }
-{
-    if l == 0 {
-        return crate::print::text(out, at, b"nil");
+// A word of a variable: a number, or a record.
+fn value(page: &mut Page<'_>, kind: Option<Kind>, word: u32) {
+    let Some(kind) = kind else {
+        return page.number(u64::from(word));
+    };
+    match word.checked_sub(1) {
+        None => page.bytes(b"nil"),
+        Some(k) => field(page, kind.name(), k),
     }
-    let a = crate::print::nth(
-        out,
-        at,
-        b",,,,,,node ,node ,bucket ,bucket ,bucket ,node ,bucket ,",
-        j,
-    );
-    crate::print::decimal(out, a, l - 1)
 }
 
-// Word j of a task's words, with its name: a number, or from word 6 on a record.
-fn variable(out: &mut [u8], at: usize, j: usize, v: u32) -> usize
-    requires { at ≤ length out.old }
-    ensures { result ≤ length out.old }
-{
-    let a = crate::print::nth(
-        out,
-        at,
-        b",, tag=,, i=, own=, t=, s=, b=, m=, n=, new_node=, new_bucket=,",
-        j,
-    );
-    if j < 6 {
-        return crate::print::decimal(out, a, v);
+// These variables of a task whose words these are, each with its name.
+fn variables(page: &mut Page<'_>, words: &[u32], set: &[Variable]) {
+    for v in set {
+        page.bytes(b" ");
+        page.bytes(v.name().as_bytes());
+        page.bytes(b"=");
+        value(page, v.kind(), v.of_words(words));
     }
-    named_record(out, a, j, v)
-}
-
-// Word j, if the set that `rest` begins has it.
-fn chosen_variable(out: &mut [u8], at: usize, c: &[u32], j: usize, rest: u32) -> usize
-    requires { at ≤ length out.old }
-    ensures { result ≤ length out.old }
-{
-    if rest % 2 == 0 {
-        return at;
-    }
-    let v = pool::word(c, j);
-    variable(out, at, j, v)
-}
-
-// The variables of a set.
-fn variables(out: &mut [u8], at: usize, c: &[u32], set: u32) -> usize
-    requires { at ≤ length out.old }
-    ensures { result ≤ length out.old }
-{
-    let mut rest = set / TAG;
-    let mut to = at;
-    let mut j: usize = 2;
-    while j < TASK_WORDS {
-        to = chosen_variable(out, to, c, j, rest);
-        rest /= 2;
-        j += 1;
-    }
-    to
 }
 
 // The line that a task does next.
-fn line_name(out: &mut [u8], at: usize, line: u32) -> usize
-    requires { at ≤ length out.old }
-    ensures { result ≤ length out.old }
-{
+fn line_name(page: &mut Page<'_>, line: u32) {
     if line == SECOND_FREEZE {
-        return crate::print::text(
-            out,
-            at,
-            b"\n  next: step 52, the second freeze of line 48 of Figure 2, with",
-        );
+        page.bytes(b"\n  next: step 52, the second freeze of line 48 of Figure 2, with");
+    } else {
+        field(page, "\n  next: line ", line);
+        page.bytes(b" of Figure 2, with");
     }
-    let a = crate::print::field(out, at, b"\n  next: line ", line);
-    crate::print::text(out, a, b" of Figure 2, with")
-}
-
-fn head_name(out: &mut [u8], at: usize, set: u32, head: u32) -> usize
-    requires { at ≤ length out.old }
-    ensures { result ≤ length out.old }
-{
-    if set % 2 == 0 {
-        return at;
-    }
-    crate::print::field(out, at, b" head=node ", head)
 }
 
 // A running task, whose words these are, in a set with this head.
-fn running(out: &mut [u8], at: usize, c: &[u32], head: u32) -> usize
-    requires { at ≤ length out.old }
-    ensures { result ≤ length out.old }
-{
-    let line = pool::word(c, 3);
-    let set = uses(line);
-    let a = variables(out, at, c, ALL);
-    let b = line_name(out, a, line);
-    let d = head_name(out, b, set, head);
-    let e = variables(out, d, c, set);
-    crate::print::text(out, e, b"\n")
+fn running(page: &mut Page<'_>, words: &[u32], head: u32) {
+    variables(page, words, &VARIABLES);
+    let line = pool::word(words, 3);
+    line_name(page, line);
+    if reads_head(line) {
+        field(page, " head=node ", head);
+    }
+    variables(page, words, reads(line));
+    page.bytes(b"\n");
 }
 
 // Task k, whose words these are.
-fn task(out: &mut [u8], at: usize, k: u32, c: &[u32], head: u32) -> usize
-    requires { at ≤ length out.old }
-    ensures { result ≤ length out.old }
-{
-    let call = pool::word(c, 1);
-    let a = crate::print::field(out, at, b"task ", k);
-    let b = crate::print::nth(
-        out,
-        a,
-        b": idle\n,: insert,: remove,: contains,: grow,: shrink,",
-        call as usize,
-    );
-    if call == 0 {
-        return b;
+fn task(page: &mut Page<'_>, k: u32, words: &[u32], head: u32) {
+    field(page, "task ", k);
+    let call = pool::word(words, 1);
+    let name = match call {
+        0 => ": idle\n",
+        1 => ": insert",
+        2 => ": remove",
+        3 => ": contains",
+        4 => ": grow",
+        5 => ": shrink",
+        _ => "",
+    };
+    page.bytes(name.as_bytes());
+    if call != 0 {
+        running(page, words, head);
     }
-    running(out, b, c, head)
-}
-
-// Task k, if the set was opened with it.
-fn task_of(out: &mut [u8], at: usize, w: &[u32], k: usize) -> usize
-    requires { at ≤ length out.old }
-    ensures { result ≤ length out.old }
-{
-    if 8 <= k {
-        return at;
-    }
-    let tasks = pool::word(w, 0);
-    let head = pool::word(w, 5);
-    let a = FIRST_TASK + TASK_WORDS * k;
-    if (k as u32) < tasks {
-        if a <= w.len() {
-            return task(out, at, k as u32, &w[a..], head);
-        }
-    }
-    at
 }
 
 // The tasks that the set was opened with.
-pub fn tasks(out: &mut [u8], at: usize, w: &[u32]) -> usize
-    requires { at ≤ length out.old }
-    ensures { result ≤ length out.old }
-{
-    let mut to = at;
-    let mut k: usize = 0;
-    while k < 8 {
-        to = task_of(out, to, w, k);
-        k += 1;
+pub fn tasks(page: &mut Page<'_>, set: Set<'_>) {
+    for k in 0..set.tasks().min(MOST_TASKS) {
+        if let Some(words) = set.words.get(FIRST_TASK + TASK_WORDS * k as usize..) {
+            task(page, k, words, set.head());
+        }
     }
-    to
 }
 
-// One of the state's words before its tasks', with its name.
-fn number(out: &mut [u8], at: usize, w: &[u32], j: usize) -> usize
-    requires { at ≤ length out.old }
-    ensures { result ≤ length out.old }
-{
-    let v = pool::word(w, j);
-    let a = crate::print::nth(
-        out,
-        at,
-        b"T=, version=, zero_withdrawn=, H=, B=, head=, last_node=, last_bucket=, chosen=,",
-        j,
-    );
-    crate::print::decimal(out, a, v)
-}
+// The state's words before its tasks', by their names.
+const NUMBERS: [&str; FIRST_TASK] = [
+    "T=",
+    " version=",
+    " zero_withdrawn=",
+    " H=",
+    " B=",
+    " head=",
+    " last_node=",
+    " last_bucket=",
+    " chosen=",
+];
 
-// The state's words before its tasks'.
-pub fn numbers(out: &mut [u8], at: usize, w: &[u32]) -> usize
-    requires { at ≤ length out.old }
-    ensures { result ≤ length out.old }
-{
-    let mut to = at;
-    let mut j: usize = 0;
-    while j < FIRST_TASK {
-        to = number(out, to, w, j);
-        j += 1;
+pub fn numbers(page: &mut Page<'_>, set: Set<'_>) {
+    for (j, name) in NUMBERS.iter().enumerate() {
+        field(page, name, pool::word(set.words, j));
     }
-    crate::print::text(out, to, b"\n")
+    page.bytes(b"\n");
 }

@@ -1,9 +1,9 @@
 -- Lane against office (paper 02, U14): the moves of each side, what a move does, who wins with so many plies left, and what is said of
 -- a position. A ply is one turn of one side. Assumes nothing.
-use Rattle.std.specs.Prelude.{ℕ, zero, suc, ◌*◌, ◌-◌, Bool, true, false, not, ◌&&◌, ◌||◌, ltb, eqb, if◌then◌else◌}
+use Rattle.std.specs.Prelude.{ℕ, zero, suc, ◌*◌, ◌-◌, Bool, true, false, not, ◌&&◌, ◌||◌, ltb, eqb, if◌then◌else◌, Ok, Err}
 use Rattle.spec.specs.declared.Call.TheVariants.{Insert, Grow, Shrink}
-use Rattle.spec.specs.declared.Output.{Output}
-use Rattle.spec.specs.declared.Output.TheVariants.{At, End, Refuse}
+use Rattle.spec.specs.Outputs.{Output}
+use Rattle.spec.specs.declared.Progress.TheVariants.{At, End}
 use Rattle.spec.specs.Numbers.{call_number}
 use Rattle.spec.specs.Machine.{Machine, task_of}
 use Rattle.spec.specs.Sound.{within, task_count, sound}
@@ -30,9 +30,9 @@ after_lanes y StepTask1 = (step y 1).machine
 after_lanes y LanesPass = y
 
 unfoldable pub ended : Output → Bool
-ended (At l) = false
-ended (End a own full) = true
-ended (Refuse r) = false
+ended (Ok (At l)) = false
+ended (Ok (End a own full)) = true
+ended (Err r) = false
 
 -- "task 0's insert ends": with this move, whatever its answer
 unfoldable pub ends_insert : Machine → LanesMove → Bool

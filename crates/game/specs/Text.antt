@@ -1,13 +1,11 @@
 -- The game as text, for the program `yardgame`: a session whose last line is `game=N`, and the one line that is printed for it.
 -- Assumes nothing.
-use Rattle.std.specs.Prelude.{ℕ, ◌≡◌, refl, List, [], ◌∷◌, ◌++◌, eqb, if◌then◌else◌}
+use Rattle.std.specs.Prelude.{ℕ, ◌≡◌, refl, List, [], ◌∷◌, ◌++◌, eqb, if◌then◌else◌, Option, Some, None}
 use Rattle.spec.specs.Machine.{Machine}
 use Rattle.spec.specs.Entries.{Opened}
 use Rattle.spec.specs.Schedule.{Event, starts, steps, run}
-use Rattle.session.specs.declared.Decimal.{Decimal}
-use Rattle.session.specs.declared.Decimal.TheVariants.{Value, NotDecimal}
 use Rattle.session.specs.declared.EventLine.{EventLine}
-use Rattle.session.specs.declared.EventLine.TheVariants.{Start, Step, Outside}
+use Rattle.session.specs.declared.EventLine.TheVariants.{Start, Step}
 use Rattle.session.specs.Ascii.{codes, ascii}
 use Rattle.session.specs.Keys.{newline}
 use Rattle.session.specs.Grammar.{InputLine, input_lines, parse_header_line, parse_event_line}
@@ -50,7 +48,7 @@ verdict_line (Refused r) = refusal_line r
 -- ---- what the lines after the header ask for
 
 -- N of a line `game=N`: a key and a number, as a header line has them
-unfoldable pub parse_game_line : InputLine → Decimal
+unfoldable pub parse_game_line : InputLine → Option ℕ
 parse_game_line l = parse_header_line game_key l
 
 -- some events and then a game of N; or a line is outside the grammar, stands after the game's, or there is no game
@@ -62,19 +60,19 @@ unfoldable pub first_event : Event → Asked → Asked
 first_event e (asks es n) = asks (e ∷ es) n
 first_event e outside = outside
 
-unfoldable pub event_then : EventLine → Asked → Asked
-event_then (Start k call tag) later = first_event (starts k call tag) later
-event_then (Step k) later = first_event (steps k) later
-event_then Outside later = outside
+unfoldable pub event_then : Option EventLine → Asked → Asked
+event_then (Some (Start k call tag)) later = first_event (starts k call tag) later
+event_then (Some (Step k)) later = first_event (steps k) later
+event_then None later = outside
 
 -- nothing stands after a game's line
 unfoldable pub game_then : ℕ → List InputLine → Asked
 game_then n [] = asks [] n
 game_then n (l ∷ ls) = outside
 
-unfoldable pub line_then : Decimal → InputLine → List InputLine → Asked → Asked
-line_then (Value n) l ls later = game_then n ls
-line_then NotDecimal l ls later = event_then (parse_event_line l) later
+unfoldable pub line_then : Option ℕ → InputLine → List InputLine → Asked → Asked
+line_then (Some n) l ls later = game_then n ls
+line_then None l ls later = event_then (parse_event_line l) later
 
 unfoldable pub asked : List InputLine → Asked
 asked [] = outside

@@ -1,10 +1,11 @@
 -- Rows and examples of who wins (paper 02, U14): an insert that ends no or full wins too, task 1's end does not; a strategy that passes; positions
 -- with one turn too few; the office's moves. Assumes nothing.
-use Rattle.std.specs.Prelude.{ℕ, suc, ◌≡◌, refl, ◌⊎◌, [], ◌∷◌, ◌++◌, map, true, false, ◌&&◌}
+use Rattle.std.specs.Prelude.{ℕ, suc, ◌≡◌, refl, ◌⊎◌, [], ◌∷◌, ◌++◌, map, true, false, ◌&&◌, Ok, Err}
 use Rattle.std.proofs.Common.{inl, inr, arith}
+use Rattle.spec.specs.declared.Refusal.TheVariants.{NoRecord, Spoilt}
 use Rattle.spec.specs.declared.Answer.TheVariants.{Yes, No, Full}
 use Rattle.spec.specs.declared.Call.TheVariants.{Insert, Grow}
-use Rattle.spec.specs.declared.Output.TheVariants.{At, Refuse}
+use Rattle.spec.specs.declared.Progress.TheVariants.{At}
 use Rattle.spec.specs.Lists.{range}
 use Rattle.spec.specs.Machine.{Machine, machine_of, config_of}
 use Rattle.spec.specs.Entries.{step}
@@ -21,7 +22,7 @@ use Rattle.game.specs.Rows.{game_definitions, in_yard, task_1_at_50}
 -- ---- "The lanes win if task 0's insert ends", whatever it answers
 
 -- any end, and nothing else
-pub ends : map ended (counted Yes 3 1 ∷ counted No 3 1 ∷ counted Full 3 64 ∷ At 36 ∷ Refuse 7 ∷ Refuse 8 ∷ []) ≡ true ∷ true ∷ true ∷ false ∷ false ∷ false ∷ []
+pub ends : map ended (counted Yes 3 1 ∷ counted No 3 1 ∷ counted Full 3 64 ∷ Ok (At 36) ∷ Err NoRecord ∷ Err Spoilt ∷ []) ≡ true ∷ true ∷ true ∷ false ∷ false ∷ false ∷ []
 unfolding game_definitions
 ends = refl
 

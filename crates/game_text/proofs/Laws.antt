@@ -1,5 +1,5 @@
 -- A line taken, and the end of the input, by what the code's calls gave. Assumes nothing.
-use Rattle.std.specs.Prelude.{if◌then◌else◌}
+use Rattle.std.specs.Prelude.{if◌then◌else◌, Option, ℕ, Some, None}
 use Prim.Native.Nat.{ℕ}
 use mathlib.Core.Path.{◌≡◌, refl, sym, ap, subst, ◌∙◌}
 use mathlib.Core.List.{List, [], ◌∷◌, ◌++◌}
@@ -8,13 +8,10 @@ use borrow.Author.Tests.{eq-eqb, ne_eqb, eqb-true}
 use lib.Dec.{eqb}
 use lib.ListN.{take, drop, take-append-drop}
 use Rattle.spec.specs.Machine.{Machine, machine_of}
-use Rattle.session.specs.declared.Decimal.{Decimal}
-use Rattle.session.specs.declared.Decimal.TheVariants.{Value, NotDecimal}
 use Rattle.session.specs.declared.Header.{Header}
 use Rattle.session.specs.declared.HeaderStep.{HeaderStep}
 use Rattle.session.specs.declared.HeaderStep.TheVariants.{Next, Complete, Absent, Missing}
-use Rattle.session.specs.Buffer.{Buffer, buffer, append_byte, append}
-use Rattle.session.specs.BufferLaws.{append_both}
+use Rattle.session.specs.Buffer.{buffer, append}
 use Rattle.session.specs.Grammar.{InputLine, parse_header_line}
 use Rattle.session.specs.Print.{refusal_line}
 use Rattle.session_pools.specs.PoolParts.{node_extent, bucket_extent}
@@ -29,11 +26,11 @@ use Rattle.session_machine.specs.Stages.{part_opening, Reached, opened_stage, he
 use Rattle.game.specs.declared.Verdict.{Verdict}
 use Rattle.game.specs.Game.{verdict}
 use Rattle.game.specs.Text.{game_key, verdict_line, parse_game_line}
-use Rattle.game_text.specs.declared.Asked.{Asked}
-use Rattle.game_text.specs.declared.Asked.TheVariants.{NotYet, Turns}
+use Rattle.std.specs.declared.option.Option.{Option}
+use Rattle.std.specs.declared.option.Option.TheVariants.{Some, None}
 use Rattle.game_text.specs.declared.Standing.{Standing}
 use Rattle.game_text.specs.Reading.{standing, refused_with, Place, place, opened, after_event, take_event, take_unasked, take_asked}
-use Rattle.game_text.specs.Reading.{take_turn, if_opened, header_taken, phase_taken, on_line, asked_at_end, judged, phase_refusal, end_refusal}
+use Rattle.game_text.specs.Reading.{take_turn, if_opened, header_taken, phase_taken, on_line, judged, phase_refusal, end_refusal}
 use Rattle.game_text.specs.Reading.{end_line, ends_as, StandsAt, EndsAt}
 
 -- a place given by its parts
@@ -49,51 +46,51 @@ stays_at t u ns bs e = record { next = e; nodes = refl; buckets = refl }
 -- the session handled it
 pub event_at : (e : LineEffect) (d : Handled) (ns bs before after : List ℕ) → LineHandled e d ns bs before after → (b : Bool)
     → b ≡ reads_events d.session.phase
-    → (r : ℕ) → r ≡ (if b then 0 else 10) → (t : Standing) → t ≡ standing d.session r NotYet → StandsAt (after_event e) t ns bs
+    → (r : ℕ) → r ≡ (if b then 0 else 10) → (t : Standing) → t ≡ standing d.session r None → StandsAt (after_event e) t ns bs
 unfolding after_event
 event_at e d ns bs before after h b f r g t w =
     let told = g ∙ ap (λ (x : Bool). if x then 0 else 10) (f ∙ ap (λ (s : Session). reads_events s.phase) h.next) in
     record {
-      next = w ∙ ap (λ (s : Session). standing s r NotYet) h.next ∙ ap (λ (n : ℕ). standing e.session n NotYet) told;
+      next = w ∙ ap (λ (s : Session). standing s r None) h.next ∙ ap (λ (n : ℕ). standing e.session n None) told;
       nodes = h.nodes;
       buckets = h.buckets;
     }
 
 module _ (t : Standing) (ns bs : List ℕ) (l : InputLine) where
-  turn_at : (a : Asked) → t.asked ≡ a → (u : Standing) (ns' bs' : List ℕ) → StandsAt (take_asked a (place t ns bs) l) u ns' bs'
+  turn_at : (a : Option ℕ) → t.asked ≡ a → (u : Standing) (ns' bs' : List ℕ) → StandsAt (take_asked a (place t ns bs) l) u ns' bs'
       → StandsAt (take_turn (place t ns bs) l) u ns' bs'
   unfolding take_turn
-  turn_at a e u ns' bs' s = subst (λ (x : Asked). StandsAt (take_asked x (place t ns bs) l) u ns' bs') (sym e) s
+  turn_at a e u ns' bs' s = subst (λ (x : Option ℕ). StandsAt (take_asked x (place t ns bs) l) u ns' bs') (sym e) s
 
-  unasked_at : t.asked ≡ NotYet → (d : Decimal) → d ≡ parse_header_line game_key l → (x : Decimal) → d ≡ x → (u : Standing) (ns' bs' : List ℕ)
+  unasked_at : t.asked ≡ None → (d : Option ℕ) → d ≡ parse_header_line game_key l → (x : Option ℕ) → d ≡ x → (u : Standing) (ns' bs' : List ℕ)
       → StandsAt (take_unasked x (place t ns bs) l) u ns' bs' → StandsAt (take_turn (place t ns bs) l) u ns' bs'
   unfolding take_asked parse_game_line
   unasked_at e d f x g u ns' bs' s =
-      turn_at NotYet e u ns' bs' (subst (λ (y : Decimal). StandsAt (take_unasked y (place t ns bs) l) u ns' bs') (sym g ∙ f) s)
+      turn_at None e u ns' bs' (subst (λ (y : Option ℕ). StandsAt (take_unasked y (place t ns bs) l) u ns' bs') (sym g ∙ f) s)
 
   -- a game's line, an event's, and one after a game's
-  pub game_at : t.asked ≡ NotYet → (d : Decimal) → d ≡ parse_header_line game_key l → (n : ℕ) → d ≡ Value n → (u : Standing)
-      → u ≡ standing t.session 0 (Turns n) → StandsAt (take_turn (place t ns bs) l) u ns bs
+  pub game_at : t.asked ≡ None → (d : Option ℕ) → d ≡ parse_header_line game_key l → (n : ℕ) → d ≡ Some n → (u : Standing)
+      → u ≡ standing t.session 0 (Some n) → StandsAt (take_turn (place t ns bs) l) u ns bs
   unfolding take_unasked
-  game_at e d f n g u w = unasked_at e d f (Value n) g u ns bs (record { next = w; nodes = refl; buckets = refl })
+  game_at e d f n g u w = unasked_at e d f (Some n) g u ns bs (record { next = w; nodes = refl; buckets = refl })
 
-  pub no_game_at : t.asked ≡ NotYet → (d : Decimal) → d ≡ parse_header_line game_key l → d ≡ NotDecimal → (u : Standing) (ns' bs' : List ℕ)
+  pub no_game_at : t.asked ≡ None → (d : Option ℕ) → d ≡ parse_header_line game_key l → d ≡ None → (u : Standing) (ns' bs' : List ℕ)
       → StandsAt (take_event (place t ns bs) l) u ns' bs' → StandsAt (take_turn (place t ns bs) l) u ns' bs'
   unfolding take_unasked
-  no_game_at e d f g u ns' bs' s = unasked_at e d f NotDecimal g u ns' bs' s
+  no_game_at e d f g u ns' bs' s = unasked_at e d f None g u ns' bs' s
 
-  pub after_game_at : (n : ℕ) → t.asked ≡ Turns n → (u : Standing) → u ≡ refused_with 10 t → StandsAt (take_turn (place t ns bs) l) u ns bs
+  pub after_game_at : (n : ℕ) → t.asked ≡ Some n → (u : Standing) → u ≡ refused_with 10 t → StandsAt (take_turn (place t ns bs) l) u ns bs
   unfolding take_asked
-  after_game_at n e u w = turn_at (Turns n) e u ns bs (record { next = w; nodes = refl; buckets = refl })
+  after_game_at n e u w = turn_at (Some n) e u ns bs (record { next = w; nodes = refl; buckets = refl })
 
 -- ---- a line where a header line is due, by the stage that it reaches
 
 abbrev opened_at : Reached → ℕ → Place
-opened_at e r = place (standing (session Events e.header e.state) r NotYet) e.nodes e.buckets
+opened_at e r = place (standing (session Events e.header e.state) r None) e.nodes e.buckets
 
 module _ (t : Standing) (l : InputLine) where
   unfoldable pub staged : Stage → Reached → Place
-  staged (NextDue due) e = place (standing (session (Due due) e.header e.state) 0 NotYet) e.nodes e.buckets
+  staged (NextDue due) e = place (standing (session (Due due) e.header e.state) 0 None) e.nodes e.buckets
   staged OpenedBy e = opened_at e 0
   staged OpenedBefore e = take_turn (opened_at e 0) l
   staged (OpeningRefused n) e = opened_at e n
@@ -153,34 +150,21 @@ module _ (t : Standing) (ns bs : List ℕ) (l : InputLine) where
 
 -- ---- the end
 
-module _ (closed : Bool) (t : Standing) where
-  pub not_closed : closed ≡ false → NotYet ≡ asked_at_end closed t
-  unfolding asked_at_end
-  not_closed e = rw e
-
-  pub closed_refused : closed ≡ true → (t.refused ≡ 0 → ⊥) → NotYet ≡ asked_at_end closed t
-  unfolding asked_at_end
-  closed_refused e r = rw (e, ne_eqb t.refused 0 r)
-
-  pub closed_asked : closed ≡ true → t.refused ≡ 0 → (a : Asked) → a ≡ t.asked → a ≡ asked_at_end closed t
-  unfolding asked_at_end
-  closed_asked e z a w = w ∙ rw (e, eq-eqb t.refused 0 z)
-
 -- a game is asked for, or none
-module _ (a : Asked) (t : Standing) (ns bs : List ℕ) where
-  pub played_to : (n : ℕ) → a ≡ Turns n → (count : ℕ) (ns' bs' before after : List ℕ)
+module _ (a : Option ℕ) (t : Standing) (ns bs : List ℕ) where
+  pub played_to : (n : ℕ) → a ≡ Some n → (count : ℕ) (ns' bs' before after : List ℕ)
       → (buffer after count ≡ append (verdict_line (verdict n (session_machine t.session ns bs))) (buffer before 0)) × (ns' ≡ ns) × (bs' ≡ bs)
       → EndsAt (ends_as a (place t ns bs)) count ns' bs' before after
   unfolding ends_as end_line
   played_to n e count ns' bs' before after w =
-      subst (λ (x : Asked). EndsAt (ends_as x (place t ns bs)) count ns' bs' before after) (sym e)
+      subst (λ (x : Option ℕ). EndsAt (ends_as x (place t ns bs)) count ns' bs' before after) (sym e)
       (record { nodes = w.1; buckets = w.2; wrote = w.0 })
 
-  pub refused_to : a ≡ NotYet → (why : ℕ) → why ≡ end_refusal (place t ns bs) → (count : ℕ) (before after : List ℕ)
+  pub refused_to : a ≡ None → (why : ℕ) → why ≡ end_refusal (place t ns bs) → (count : ℕ) (before after : List ℕ)
       → buffer after count ≡ append (refusal_line why) (buffer before 0) → EndsAt (ends_as a (place t ns bs)) count ns bs before after
   unfolding ends_as end_line
   refused_to e n f count before after w =
-      subst (λ (x : Asked). EndsAt (ends_as x (place t ns bs)) count ns bs before after) (sym e)
+      subst (λ (x : Option ℕ). EndsAt (ends_as x (place t ns bs)) count ns bs before after) (sym e)
       (record { nodes = refl; buckets = refl; wrote = w ∙ ap (λ (r : ℕ). append (refusal_line r) (buffer before 0)) f })
 
 -- the refusal, by where the session stands
@@ -217,8 +201,3 @@ module _ (s : Session) (n : ℕ) (ns bs : List ℕ) (a b : ℕ) (ea : a ≡ node
         ap (λ (l : List ℕ). l ++ drop a ns) g.1 ∙ take-append-drop a ns,
         ap (λ (l : List ℕ). l ++ drop b bs) g.2 ∙ take-append-drop b bs,
       )
-
--- a word, closed
-pub word_line : (w : List ℕ) (t u v : Buffer) → u ≡ append w t → v ≡ append_byte 10 u → v ≡ append (w ++ (10 ∷ [])) t
-unfolding append
-word_line w t u v e f = f ∙ ap (append_byte 10) e ∙ sym (append_both w (10 ∷ []) t)

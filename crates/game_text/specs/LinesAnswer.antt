@@ -1,7 +1,7 @@
 -- Taken one after the other over lent pools of at least 64 nodes and 200 buckets, whatever they hold, the lines of an input give its answer:
 -- `lines_give_answer`. Assumes nothing.
 use Prim.Native.Nat.{ℕ, ◌≤◌}
-use Rattle.std.specs.Prelude.{◌≡◌, Bool, ◌||◌, eqb, length, if◌then◌else◌}
+use Rattle.std.specs.Prelude.{◌≡◌, Bool, ◌||◌, eqb, length, if◌then◌else◌, Option, ℕ, Some, None}
 use Rattle.std.proofs.Math.Path.{refl, ap}
 use Rattle.std.proofs.Common.{sym, ◌∙◌, arith, eq-eqb, ne_eqb, eqb-true}
 use mathlib.Core.List.{List, [], ◌∷◌}
@@ -11,10 +11,8 @@ use Rattle.spec.specs.declared.State.{State}
 use Rattle.spec.specs.Machine.{Machine, zero_config, state_of}
 use Rattle.spec.specs.Entries.{Opened, opening}
 use Rattle.spec.specs.Schedule.{Event, starts, steps, event, run}
-use Rattle.session.specs.declared.Decimal.{Decimal}
-use Rattle.session.specs.declared.Decimal.TheVariants.{Value, NotDecimal}
 use Rattle.session.specs.declared.EventLine.{EventLine}
-use Rattle.session.specs.declared.EventLine.TheVariants.{Start, Step, Outside}
+use Rattle.session.specs.declared.EventLine.TheVariants.{Start, Step}
 use Rattle.session.specs.declared.Header.{Header}
 use Rattle.session.specs.declared.HeaderLine.{HeaderLine}
 use Rattle.session.specs.declared.HeaderLine.TheVariants.{Tasks}
@@ -32,7 +30,7 @@ use Rattle.session_lines.specs.PoolLengths.{event_lengths}
 use Rattle.session_lines.specs.Openings.{part_length, part_words, machine_back, Alike, opening_same, opening_lengths}
 use Rattle.game.specs.Text.{parse_game_line, asks, outside, first_event, event_then, game_then, line_then, asked, game_line, opened_line}
 use Rattle.game.specs.Text.{header_line, lines_answer}
-use Rattle.game_text.specs.declared.Asked.TheVariants.{NotYet, Turns}
+use Rattle.std.specs.declared.option.Option.TheVariants.{Some, None}
 use Rattle.game_text.specs.Reading.{standing, new_standing, refused_with, Place, place, refusing, opened, after_event, take_event, take_unasked}
 use Rattle.game_text.specs.Reading.{take_asked, take_turn, if_opened, header_taken, phase_taken, on_line, asked_at_end, judged}
 use Rattle.game_text.specs.Reading.{phase_refusal, end_refusal, end_line, ends_as}
@@ -52,7 +50,7 @@ module _ (p : Place) (r : p.standing.refused ≡ 0 → ⊥) where
   pub refused_answer : (ls : List InputLine) → answered p ls ≡ refusal_line p.standing.refused
   unfolding answered asked_at_end ends_as end_line end_refusal
   refused_answer [] =
-      ap (λ (b : Bool). end_line (if not true || not b then NotYet else p.standing.asked) p) (ne_eqb p.standing.refused 0 r)
+      ap (λ (b : Bool). end_line (if not true || not b then None else p.standing.asked) p) (ne_eqb p.standing.refused 0 r)
       ∙ rw (ne_eqb p.standing.refused 0 r)
   refused_answer (l ∷ ls) = ap (λ (q : Place). answered q ls) (stays l) ∙ refused_answer ls
 
@@ -63,17 +61,17 @@ refusing_answer p ls = refused_answer (refusing 10 p) (λ z. omega arith) ls
 -- ---- the lines after the header: the session reads events
 
 abbrev reads : Header → State → List ℕ → List ℕ → Place
-reads h m ns bs = place (standing (session Events h m) 0 NotYet) ns bs
+reads h m ns bs = place (standing (session Events h m) 0 None) ns bs
 
 abbrev machine : Header → State → List ℕ → List ℕ → Machine
 machine h m ns bs = session_machine (session Events h m) ns bs
 
 -- a game's line is read, and the lines ls come after it
 game_answered : (n : ℕ) (h : Header) (m : State) (ns bs : List ℕ) (ls : List InputLine)
-    → answered (place (standing (session Events h m) 0 (Turns n)) ns bs) ls ≡ game_line (machine h m ns bs) (game_then n ls)
+    → answered (place (standing (session Events h m) 0 (Some n)) ns bs) ls ≡ game_line (machine h m ns bs) (game_then n ls)
 unfolding answered asked_at_end ends_as end_line game_line game_then run on_line phase_taken take_turn take_asked
 game_answered n h m ns bs [] = refl
-game_answered n h m ns bs (l ∷ ls) = refusing_answer (place (standing (session Events h m) 0 (Turns n)) ns bs) ls
+game_answered n h m ns bs (l ∷ ls) = refusing_answer (place (standing (session Events h m) 0 (Some n)) ns bs) ls
 
 -- one event, and what is asked after it
 event_first : (y : Machine) (e : Event) (later : _) → game_line (event y e).machine later ≡ game_line y (first_event e later)
@@ -99,26 +97,26 @@ module _ (h : Header) (m : State) (ns bs : List ℕ) where
       ih r.machine.state _ _ ∙ ap (λ (z : Machine). game_line z (asked ls)) back ∙ event_first y e (asked ls)
 
   -- a line outside the grammar
-  outside_answered : (ls : List InputLine) → answered (after_event (event_effect Outside (session Events h m) ns bs)) ls ≡ refusal_line 10
+  outside_answered : (ls : List InputLine) → answered (after_event (event_effect None (session Events h m) ns bs)) ls ≡ refusal_line 10
   unfolding after_event event_effect pools_kept stopped reads_events
   outside_answered ls = refused_answer _ (λ z. omega arith) ls
 
   -- a line of no game
-  unasked_answered : (ls : List InputLine) → Answers ls h → (x : EventLine)
+  unasked_answered : (ls : List InputLine) → Answers ls h → (x : Option EventLine)
       → answered (after_event (event_effect x (session Events h m) ns bs)) ls ≡ game_line (machine h m ns bs) (event_then x (asked ls))
   unfolding event_effect event_then event game_line
-  unasked_answered ls ih (Start k call tag) = event_answered (starts k call tag) k ls ih
-  unasked_answered ls ih (Step k) = event_answered (steps k) k ls ih
-  unasked_answered ls ih Outside = outside_answered ls
+  unasked_answered ls ih (Some (Start k call tag)) = event_answered (starts k call tag) k ls ih
+  unasked_answered ls ih (Some (Step k)) = event_answered (steps k) k ls ih
+  unasked_answered ls ih None = outside_answered ls
 
   turn_answered : (l : InputLine) (ls : List InputLine) → Answers ls h
       → answered (take_turn (reads h m ns bs) l) ls ≡ game_line (machine h m ns bs) (asked (l ∷ ls))
   unfolding take_turn take_asked take_unasked take_event line_effect phase_effect asked line_then
   turn_answered l ls ih = go (parse_game_line l)
     where
-      go : (d : Decimal) → answered (take_unasked d (reads h m ns bs) l) ls ≡ game_line (machine h m ns bs) (line_then d l ls (asked ls))
-      go (Value n) = game_answered n h m ns bs ls
-      go NotDecimal = unasked_answered ls ih (parse_event_line l)
+      go : (d : Option ℕ) → answered (take_unasked d (reads h m ns bs) l) ls ≡ game_line (machine h m ns bs) (line_then d l ls (asked ls))
+      go (Some n) = game_answered n h m ns bs ls
+      go None = unasked_answered ls ih (parse_event_line l)
 
 events_answered : (h : Header) (ls : List InputLine) → Answers ls h
 unfolding answered asked_at_end ends_as end_line end_refusal phase_refusal on_line phase_taken game_line asked
@@ -149,7 +147,7 @@ module _ (ns bs : List ℕ) (nodes_fit : 2176 ≤ length ns) (buckets_fit : 1320
     opened_answered ls = go (eqb lent.refusal 0) refl
       where
         at : ℕ → Place
-        at r = place (standing (opened h ns bs).standing.session r NotYet) (opened h ns bs).nodes (opened h ns bs).buckets
+        at r = place (standing (opened h ns bs).standing.session r None) (opened h ns bs).nodes (opened h ns bs).buckets
 
         go : (a : Bool) → eqb lent.refusal 0 ≡ a → answered (at lent.refusal) ls ≡ opened_line (session_opening h) ls
         go true q =
@@ -181,7 +179,7 @@ module _ (ns bs : List ℕ) (nodes_fit : 2176 ≤ length ns) (buckets_fit : 1320
   -- ---- the header, whichever line is due: what its next line says decides
 
   abbrev due_at : HeaderLine → Header → State → Place
-  due_at due h m = place (standing (session (Due due) h m) 0 NotYet) ns bs
+  due_at due h m = place (standing (session (Due due) h m) 0 None) ns bs
 
   header_answered : (ls : List InputLine) (due : HeaderLine) (h : Header) (m : State) → answered (due_at due h m) ls ≡ header_line (read_from ls due h)
   unfolding answered asked_at_end ends_as end_line end_refusal phase_refusal on_line phase_taken header_taken read_from after_step header_line

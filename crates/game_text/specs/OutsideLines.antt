@@ -1,14 +1,12 @@
 -- A line that is too long or not closed refuses the input with the number with which an end there refuses it. Assumes nothing.
-use Rattle.std.specs.Prelude.{ℕ, ◌≡◌, List, Bool, if◌then◌else◌}
+use Rattle.std.specs.Prelude.{ℕ, ◌≡◌, List, Bool, if◌then◌else◌, None, Option}
 use Rattle.std.proofs.Math.Path.{refl, ap}
 use Rattle.std.proofs.Common.{◌∙◌, arith}
 use Rattle.std.proofs.Math.Bool.{true, false}
 use borrow.Author.Tests.{eqb-false}
 use Rattle.std.proofs.Math.Dec.{eqb}
 use Rattle.spec.specs.Entries.{opening}
-use Rattle.session.specs.declared.Decimal.TheVariants.{NotDecimal}
 use Rattle.session.specs.declared.EventLine.{EventLine}
-use Rattle.session.specs.declared.EventLine.TheVariants.{Outside}
 use Rattle.session.specs.declared.Header.{Header}
 use Rattle.session.specs.declared.HeaderLine.{HeaderLine}
 use Rattle.session.specs.declared.HeaderStep.{HeaderStep}
@@ -22,35 +20,35 @@ use Rattle.session_state.specs.declared.Phase.{Phase}
 use Rattle.session_state.specs.declared.Phase.TheVariants.{Due, Events, Stopped}
 use Rattle.session_state.specs.Handling.{reads_events, pools_kept, stopped, event_effect, phase_effect, line_effect, with_machine}
 use Rattle.game.specs.Text.{parse_game_line}
-use Rattle.game_text.specs.declared.Asked.{Asked}
-use Rattle.game_text.specs.declared.Asked.TheVariants.{NotYet, Turns}
+use Rattle.std.specs.declared.option.Option.{Option}
+use Rattle.std.specs.declared.option.Option.TheVariants.{Some, None}
 use Rattle.game_text.specs.Reading.{Place, refused_with, opened, after_event, take_event, take_unasked, take_asked, take_turn}
 use Rattle.game_text.specs.Reading.{if_opened, header_taken, phase_taken, on_line, judged, phase_refusal, end_refusal}
 
-outside_game : (l : InputLine) → admissible l ≡ false → parse_game_line l ≡ NotDecimal
+outside_game : (l : InputLine) → admissible l ≡ false → parse_game_line l ≡ None
 unfolding parse_game_line parse_header_line
 outside_game l e = rw e
 
 -- ---- what such a line does where events are read
 
 abbrev outside_place : Place → Place
-outside_place p = after_event (event_effect Outside p.standing.session p.nodes p.buckets)
+outside_place p = after_event (event_effect None p.standing.session p.nodes p.buckets)
 
-outside_unasked : (p : Place) (l : InputLine) → p.standing.session.phase ≡ Events → admissible l ≡ false → take_asked NotYet p l ≡ outside_place p
+outside_unasked : (p : Place) (l : InputLine) → p.standing.session.phase ≡ Events → admissible l ≡ false → take_asked None p l ≡ outside_place p
 unfolding take_asked take_unasked take_event line_effect phase_effect
 outside_unasked p l ph e =
     let s = p.standing.session in
     rw (outside_game l e)
     (ap (λ (q : Phase). after_event (phase_effect q s p.nodes p.buckets l)) ph
-    ∙ ap (λ (x : EventLine). after_event (event_effect x s p.nodes p.buckets)) (outside_event l e))
+    ∙ ap (λ (x : Option EventLine). after_event (event_effect x s p.nodes p.buckets)) (outside_event l e))
 
 turn_refuses : (p : Place) (l : InputLine) → p.standing.session.phase ≡ Events → admissible l ≡ false → (take_turn p l).standing.refused ≡ 10
 unfolding take_turn take_asked after_event event_effect pools_kept stopped reads_events refused_with
 turn_refuses p l ph e = go p.standing.asked
   where
-    go : (a : Asked) → (take_asked a p l).standing.refused ≡ 10
-    go NotYet = ap (λ (q : Place). q.standing.refused) (outside_unasked p l ph e)
-    go (Turns n) = refl
+    go : (a : Option ℕ) → (take_asked a p l).standing.refused ≡ 10
+    go None = ap (λ (q : Place). q.standing.refused) (outside_unasked p l ph e)
+    go (Some n) = refl
 
 -- ---- where a header line is due
 

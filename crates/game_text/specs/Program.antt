@@ -17,8 +17,8 @@ use Rattle.game.specs.declared.LanesMove.TheVariants.{StepTask0, StepTask1, Lane
 use Rattle.game.specs.declared.Verdict.{Verdict}
 use Rattle.game.specs.declared.Verdict.TheVariants.{LanesWin, OfficeHolds, Refused}
 use Rattle.game.specs.Text.{move_word, verdict_line, game_answer}
-use Rattle.game_text.specs.declared.Asked.{Asked}
-use Rattle.game_text.specs.declared.Asked.TheVariants.{NotYet, Turns}
+use Rattle.std.specs.declared.option.Option.{Option}
+use Rattle.std.specs.declared.option.Option.TheVariants.{Some, None}
 use Rattle.game_text.specs.Reading.{new_standing, Place, place, on_line, asked_at_end, end_refusal, end_line, ends_as}
 use Rattle.game_text.specs.OutsideLines.{outside_refuses, end_refuses}
 use Rattle.game_text.specs.LinesAnswer.{answered, refused_answer, lines_give_answer}
@@ -68,15 +68,18 @@ verdict_short (LanesWin LanesPass) = omega arith
 verdict_short OfficeHolds = omega arith
 verdict_short (Refused r) = refusal_length r
 
-answer_short : (a : Asked) (p : Place) → length (ends_as a p).prints ≤ 28
+answer_short : (a : Option ℕ) (p : Place) → length (ends_as a p).prints ≤ 28
 unfolding ends_as end_line
-answer_short (Turns n) p = verdict_short _
-answer_short NotYet p = refusal_length _
+answer_short (Some n) p = verdict_short _
+answer_short None p = refusal_length _
+
+pub answered_short : (p : Place) (q : Input) → length (answered p (last_lines q)) ≤ 28
+answered_short p q = subst (λ (w : List ℕ). length w ≤ 28) (ended_prints q p) (answer_short _ p)
 
 -- ---- the whole input, from whatever the lent pools hold
 
 module _ (ns bs : List ℕ) (nodes_fit : 2176 ≤ length ns) (buckets_fit : 13200 ≤ length bs) where
-  whole_answer : (xs : List ℕ) → game_answer xs ≡ answered (place new_standing ns bs) (input_lines xs)
+  pub whole_answer : (xs : List ℕ) → game_answer xs ≡ answered (place new_standing ns bs) (input_lines xs)
   unfolding game_answer
   whole_answer xs = sym (lines_give_answer ns bs nodes_fit buckets_fit (input_lines xs))
 

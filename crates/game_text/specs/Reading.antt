@@ -1,9 +1,7 @@
 -- An input of the game, one line at a time over lent pools, and its end: the definitions that the code is held to. That they give the
 -- answer of Text (game) is shown in LinesAnswer. Assumes nothing.
-use Rattle.std.specs.Prelude.{ℕ, ◌≡◌, List, [], Bool, not, ◌||◌, eqb, if◌then◌else◌}
+use Rattle.std.specs.Prelude.{ℕ, ◌≡◌, List, [], Bool, not, ◌||◌, eqb, if◌then◌else◌, Option, Some, None}
 use Rattle.spec.specs.Entries.{opening}
-use Rattle.session.specs.declared.Decimal.{Decimal}
-use Rattle.session.specs.declared.Decimal.TheVariants.{Value, NotDecimal}
 use Rattle.session.specs.declared.Header.{Header}
 use Rattle.session.specs.declared.HeaderStep.{HeaderStep}
 use Rattle.session.specs.declared.HeaderStep.TheVariants.{Next, Complete, Absent, Missing}
@@ -18,15 +16,15 @@ use Rattle.session_state.specs.declared.Session.{Session}
 use Rattle.session_state.specs.Handling.{session, new_session, reads_events, LineEffect, session_machine, with_machine, line_effect}
 use Rattle.game.specs.Game.{verdict}
 use Rattle.game.specs.Text.{verdict_line, parse_game_line}
-use Rattle.game_text.specs.declared.Asked.{Asked}
-use Rattle.game_text.specs.declared.Asked.TheVariants.{NotYet, Turns}
+use Rattle.std.specs.declared.option.Option.{Option}
+use Rattle.std.specs.declared.option.Option.TheVariants.{Some, None}
 use Rattle.game_text.specs.declared.Standing.{Standing}
 
-abbrev pub standing : Session → ℕ → Asked → Standing
+abbrev pub standing : Session → ℕ → Option ℕ → Standing
 standing s r a = record { session = s; refused = r; asked = a }
 
 unfoldable pub new_standing : Standing
-new_standing = standing new_session 0 NotYet
+new_standing = standing new_session 0 None
 
 unfoldable pub refused_with : ℕ → Standing → Standing
 refused_with r t = standing t.session r t.asked
@@ -50,23 +48,23 @@ unfoldable pub opened : Header → List ℕ → List ℕ → Place
 opened h ns bs =
     let o = opening h.config (node_part h ns) (bucket_part h bs) in
     let d = with_machine Events [] o.machine h ns bs in
-    place (standing d.session o.refusal NotYet) d.nodes d.buckets
+    place (standing d.session o.refusal None) d.nodes d.buckets
 
 -- a line that the session handled: where it reads no more events the line was outside the grammar
 unfoldable pub after_event : LineEffect → Place
-after_event d = place (standing d.session (if reads_events d.session.phase then 0 else 10) NotYet) d.nodes d.buckets
+after_event d = place (standing d.session (if reads_events d.session.phase then 0 else 10) None) d.nodes d.buckets
 
 unfoldable pub take_event : Place → InputLine → Place
 take_event p l = after_event (line_effect p.standing.session p.nodes p.buckets l)
 
 -- a line after the header: N of a game's line, or an event's
-unfoldable pub take_unasked : Decimal → Place → InputLine → Place
-take_unasked (Value n) p l = place (standing p.standing.session 0 (Turns n)) p.nodes p.buckets
-take_unasked NotDecimal p l = take_event p l
+unfoldable pub take_unasked : Option ℕ → Place → InputLine → Place
+take_unasked (Some n) p l = place (standing p.standing.session 0 (Some n)) p.nodes p.buckets
+take_unasked None p l = take_event p l
 
-unfoldable pub take_asked : Asked → Place → InputLine → Place
-take_asked NotYet p l = take_unasked (parse_game_line l) p l
-take_asked (Turns n) p l = refusing 10 p
+unfoldable pub take_asked : Option ℕ → Place → InputLine → Place
+take_asked None p l = take_unasked (parse_game_line l) p l
+take_asked (Some n) p l = refusing 10 p
 
 unfoldable pub take_turn : Place → InputLine → Place
 take_turn p l = take_asked p.standing.asked p l
@@ -76,7 +74,7 @@ unfoldable pub if_opened : Place → InputLine → Place
 if_opened p l = if eqb p.standing.refused 0 then take_turn p l else p
 
 unfoldable pub header_taken : HeaderStep → Place → InputLine → Place
-header_taken (Next due h) p l = place (standing (session (Due due) h p.standing.session.state) 0 NotYet) p.nodes p.buckets
+header_taken (Next due h) p l = place (standing (session (Due due) h p.standing.session.state) 0 None) p.nodes p.buckets
 header_taken (Complete h) p l = opened h p.nodes p.buckets
 header_taken (Absent h) p l = if_opened (opened h p.nodes p.buckets) l
 header_taken Missing p l = refusing 10 p
@@ -92,8 +90,8 @@ on_line p l = if eqb p.standing.refused 0 then phase_taken p.standing.session.ph
 
 -- ---- the end of the input
 
-unfoldable pub asked_at_end : Bool → Standing → Asked
-asked_at_end closed t = if not closed || not (eqb t.refused 0) then NotYet else t.asked
+unfoldable pub asked_at_end : Bool → Standing → Option ℕ
+asked_at_end closed t = if not closed || not (eqb t.refused 0) then None else t.asked
 
 -- the opening's refusal, or else 10
 unfoldable pub judged : ℕ → ℕ
@@ -112,9 +110,9 @@ unfoldable pub end_refusal : Place → ℕ
 end_refusal p = if eqb p.standing.refused 0 then phase_refusal p.standing.session.phase p else p.standing.refused
 
 -- the game's answer, or the refusal
-unfoldable pub end_line : Asked → Place → List ℕ
-end_line (Turns n) p = verdict_line (verdict n (session_machine p.standing.session p.nodes p.buckets))
-end_line NotYet p = refusal_line (end_refusal p)
+unfoldable pub end_line : Option ℕ → Place → List ℕ
+end_line (Some n) p = verdict_line (verdict n (session_machine p.standing.session p.nodes p.buckets))
+end_line None p = refusal_line (end_refusal p)
 
 -- what is printed at the end, and what the lent pools hold
 pub record Ending : Type 0 where
@@ -123,7 +121,7 @@ pub record Ending : Type 0 where
   pub prints : List ℕ
 
 -- the end keeps every word of both pools
-unfoldable pub ends_as : Asked → Place → Ending
+unfoldable pub ends_as : Option ℕ → Place → Ending
 ends_as a p = record { nodes = p.nodes; buckets = p.buckets; prints = end_line a p }
 
 -- ---- what the code is held to: what it gives, what it leaves in the pools, and what it appended to the buffer that held `before` and then

@@ -1,36 +1,40 @@
 // What is printed at the end of the input, one line: the answer of the game that is asked for, or a refusal.
 ghost use Rattle.std.specs.Prelude.{◌≡◌};
 ghost use Rattle.session.specs.Buffer.{buffer, append};
+ghost use Rattle.session_bytes.specs.Pages.{Appends};
 ghost use Rattle.session_state.specs.Handling.{session_machine};
 ghost use Rattle.game.specs.Game.{verdict};
 ghost use Rattle.game.specs.Text.{move_word, verdict_line};
 ghost use Rattle.game_text.specs.Reading.{place, asked_at_end, end_refusal, ends_as, EndsAt};
 
-use crate::{Asked, Standing};
+use crate::Standing;
 use game::{LanesMove, Verdict};
+use session_bytes::Page;
 use session_state::{Phase, Session};
 
 // A winning first move.
-fn move_word(out: &mut [u8], at: usize, m: LanesMove) -> usize
-    ensures { buffer out.new result ≡ append (move_word m) (buffer out.old at) }
+#[tactic(auto, unfolding(game::specs::Text::move_word))]
+fn move_word(page: &mut Page<'_>, m: LanesMove)
+    ensures { Appends (move_word m) page.old page.new }
 {
     match m {
-        LanesMove::StepTask0 => session_bytes::all_bytes(out, at, b"lanes=0"),
-        LanesMove::StepTask1 => session_bytes::all_bytes(out, at, b"lanes=1"),
-        LanesMove::LanesPass => session_bytes::all_bytes(out, at, b"lanes=pass"),
+        LanesMove::StepTask0 => page.bytes(b"lanes=0"),
+        LanesMove::StepTask1 => page.bytes(b"lanes=1"),
+        LanesMove::LanesPass => page.bytes(b"lanes=pass"),
     }
 }
 
-fn print(out: &mut [u8], v: Verdict) -> usize
-    ensures { buffer out.new result ≡ append (verdict_line v) (buffer out.old 0) }
+#[tactic(auto, unfolding(game::specs::Text::verdict_line))]
+fn print(page: &mut Page<'_>, v: Verdict)
+    ensures { Appends (verdict_line v) page.old page.new }
 {
     match v {
         Verdict::LanesWin(m) => {
-            let a = move_word(out, 0, m);
-            session_bytes::one_byte(out, a, 10)
+            move_word(page, m);
+            page.byte(b'\n');
         }
-        Verdict::OfficeHolds => session_bytes::all_bytes(out, 0, b"office\n"),
-        Verdict::Refused(n) => session_bytes::refusal(out, 0, n),
+        Verdict::OfficeHolds => page.bytes(b"office\n"),
+        Verdict::Refused(n) => page.refusal(n),
     }
 }
 
@@ -40,26 +44,24 @@ fn play(s: Session, n: u32, ns: &mut [u32], bs: &mut [u32], out: &mut [u8]) -> u
         (buffer out.old 0))
         × (ns.new ≡ ns.old) × (bs.new ≡ bs.old) }
 {
-    let header = s.header;
-    let a = session_pools::node_extent(header.nodes, ns.len());
-    let b = session_pools::bucket_extent(header.buckets, bs.len());
-    let m = s.state;
-    let v = play::game(m, n, &mut ns[..a], &mut bs[..b]);
-    print(out, v)
+    let a = session_pools::node_extent(s.header.nodes, ns.len());
+    let b = session_pools::bucket_extent(s.header.buckets, bs.len());
+    let v = play::game(s.state, n, &mut ns[..a], &mut bs[..b]);
+    let mut page = Page::new(out);
+    print(&mut page, v);
+    page.printed()
 }
 
 // The game to be played, where the input's last line is closed and nothing is refused.
-fn asked_at_end(t: Standing, closed: bool) -> Asked
+#[tactic(auto, unfolding(crate::specs::Reading::asked_at_end))]
+fn asked_at_end(t: Standing, closed: bool) -> Option<u32>
     ensures { result ≡ asked_at_end closed t }
 {
-    if !closed {
-        return Asked::NotYet;
+    if closed && t.refused == 0 {
+        t.asked
+    } else {
+        None
     }
-    if t.refused != 0 {
-        return Asked::NotYet;
-    }
-    let asked = t.asked;
-    asked
 }
 
 // The number with which an input without a game, or with a last line that is not closed, is refused. Where the opening is still due it is only
@@ -70,22 +72,16 @@ fn end_refusal(t: Standing, ns: &[u32], bs: &[u32]) -> u32
     if t.refused != 0 {
         return t.refused;
     }
-    let s = t.session;
-    let phase = s.phase;
-    match phase {
+    match t.session.phase {
         Phase::Due(due) => {
             if session_parse::optional(due) {
-                let header = s.header;
-                let why = session_machine::judge_opening(header, ns, bs);
-                if why != 0 {
-                    return why;
+                if let Some(why) = session_machine::judge_opening(t.session.header, ns, bs) {
+                    return why.number();
                 }
-                return 10;
             }
             10
         }
-        Phase::Events => 10,
-        Phase::Stopped => 10,
+        Phase::Events | Phase::Stopped => 10,
     }
 }
 
@@ -95,13 +91,12 @@ pub fn finish(t: Standing, closed: bool, ns: &mut [u32], bs: &mut [u32], out: &m
         out.old out.new }
 {
     match asked_at_end(t, closed) {
-        Asked::Turns(n) => {
-            let s = t.session;
-            play(s, n, ns, bs, out)
-        }
-        Asked::NotYet => {
+        Some(n) => play(t.session, n, ns, bs, out),
+        None => {
             let why = end_refusal(t, ns, bs);
-            session_bytes::refusal(out, 0, why)
+            let mut page = Page::new(out);
+            page.refusal(why);
+            page.printed()
         }
     }
 }

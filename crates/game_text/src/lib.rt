@@ -11,26 +11,20 @@ ghost use Rattle.session.specs.Grammar.{closed_line};
 ghost use Rattle.session.specs.Header.{header_step};
 ghost use Rattle.game_text.specs.Reading.{standing, new_standing, place, refused_with, take_event, take_turn, header_taken, on_line, StandsAt};
 
-use session::{Decimal, HeaderLine};
+use session::HeaderLine;
 use session_machine::Stage;
 use session_state::{Phase, Session};
 
-// The game that is asked for: none yet, or of so many turns.
-#[derive(Clone, Copy)]
-pub enum Asked {
-    NotYet,
-    Turns(u32),
-}
-
-// An input between two lines: its session, the number with which it is refused, or 0, and the game.
+// An input between two lines: its session, the number with which it is refused, or 0, and of how many turns the game is that is asked for. That no input
+// is refused with 0 is a theorem on every standing (`end_refuses`): an Option would admit one.
 #[derive(Clone, Copy)]
 pub struct Standing {
     pub session: Session,
     pub refused: u32,
-    pub asked: Asked,
+    pub asked: Option<u32>,
 }
 
-fn stands(session: Session, refused: u32, asked: Asked) -> Standing
+fn stands(session: Session, refused: u32, asked: Option<u32>) -> Standing
     ensures { result ≡ standing session refused asked }
 {
     Standing {
@@ -41,20 +35,19 @@ fn stands(session: Session, refused: u32, asked: Asked) -> Standing
 }
 
 // No line is read yet.
+#[tactic(auto, unfolding(crate::specs::Reading::new_standing))]
 pub fn new_standing() -> Standing
     ensures { result ≡ new_standing }
 {
-    let session = session_state::new_session();
-    stands(session, 0, Asked::NotYet)
+    stands(session_state::new_session(), 0, None)
 }
 
 // A line outside the grammar, or one after the game's: 10.
+#[tactic(auto, unfolding(crate::specs::Reading::refused_with))]
 fn outside(t: Standing) -> Standing
     ensures { result ≡ refused_with 10 t }
 {
-    let session = t.session;
-    let asked = t.asked;
-    stands(session, 10, asked)
+    Standing { refused: 10, ..t }
 }
 
 // A line that is no game's: the session handles it, and what it would print is dropped.
@@ -62,15 +55,13 @@ fn event_line(t: Standing, ns: &mut [u32], bs: &mut [u32], line: &[u8]) -> Stand
     ensures { StandsAt (take_event (place t ns.old bs.old) (closed_line line.now)) result ns.new
         bs.new }
 {
-    let s = t.session;
     let mut dropped = [0u8; 1];
-    let d = session_lines::handle_line(s, ns, bs, line, &mut dropped);
-    let session = d.session;
-    let phase = session.phase;
-    if session_state::reads_events(phase) {
-        return stands(session, 0, Asked::NotYet);
+    let d = session_lines::handle_line(t.session, ns, bs, line, &mut dropped);
+    if session_state::reads_events(d.session.phase) {
+        stands(d.session, 0, None)
+    } else {
+        stands(d.session, 10, None)
     }
-    stands(session, 10, Asked::NotYet)
 }
 
 // A line after the header. Nothing stands after a game's line.
@@ -78,16 +69,12 @@ fn turn_line(t: Standing, ns: &mut [u32], bs: &mut [u32], line: &[u8]) -> Standi
     ensures { StandsAt (take_turn (place t ns.old bs.old) (closed_line line.now)) result ns.new
         bs.new }
 {
-    let asked = t.asked;
-    match asked {
-        Asked::NotYet => match session_header_numbers::header_number(b"game=", line) {
-            Decimal::Value(n) => {
-                let session = t.session;
-                stands(session, 0, Asked::Turns(n))
-            }
-            Decimal::NotDecimal => event_line(t, ns, bs, line),
+    match t.asked {
+        None => match session_header_numbers::header_number(b"game=", line) {
+            Some(n) => stands(t.session, 0, Some(n)),
+            None => event_line(t, ns, bs, line),
         },
-        Asked::Turns(_) => outside(t),
+        Some(_) => outside(t),
     }
 }
 
@@ -104,36 +91,20 @@ fn header_line(
         (closed_line line.now)) result ns.new bs.new }
 {
     let s = t.session;
-    let header = s.header;
-    let before = s.state;
-    let d = session_machine::header_line(due, header, before, ns, bs, line);
-    let h = d.header;
-    let m = d.state;
+    let d = session_machine::header_line(due, s.header, s.state, ns, bs, line);
     let opened = Session {
         phase: Phase::Events,
-        header: h,
-        state: m,
+        header: d.header,
+        state: d.state,
     };
-    let stage = d.stage;
-    match stage {
+    match d.stage {
         Stage::NextDue(next) => {
-            let session = Session {
-                phase: Phase::Due(next),
-                header: h,
-                state: m,
-            };
-            stands(session, 0, Asked::NotYet)
+            let phase = Phase::Due(next);
+            stands(Session { phase, ..opened }, 0, None)
         }
-        Stage::OpenedBy => stands(opened, 0, Asked::NotYet),
-        Stage::OpenedBefore => {
-            let o = Standing {
-                session: opened,
-                refused: 0,
-                asked: Asked::NotYet,
-            };
-            turn_line(o, ns, bs, line)
-        }
-        Stage::OpeningRefused(n) => stands(opened, n, Asked::NotYet),
+        Stage::OpenedBy => stands(opened, 0, None),
+        Stage::OpenedBefore => turn_line(stands(opened, 0, None), ns, bs, line),
+        Stage::OpeningRefused(n) => stands(opened, n, None),
         Stage::Incomplete => outside(t),
     }
 }
@@ -145,9 +116,7 @@ pub fn take_line(t: Standing, ns: &mut [u32], bs: &mut [u32], line: &[u8]) -> St
     if t.refused != 0 {
         return t;
     }
-    let s = t.session;
-    let phase = s.phase;
-    match phase {
+    match t.session.phase {
         Phase::Due(due) => header_line(t, due, ns, bs, line),
         Phase::Events => turn_line(t, ns, bs, line),
         Phase::Stopped => outside(t),

@@ -1,29 +1,52 @@
 // yardgame: over standard input a session whose last line is `game=N`; over standard output whether the lanes can force task 0's insert
 // through within N of their turns, and by which first move. It holds one read of the input, one line, and the two pools.
-ghost use Rattle.std.specs.Prelude.{◌≤◌, length, take};
-ghost use Rattle.stdio.specs.Readers.{after_call};
+ghost use Rattle.std.specs.Prelude.{◌≤◌, not, eqb, length, take};
 ghost use Rattle.stdio.specs.Runs.{Prints, Ran};
 ghost use Rattle.game.specs.Text.{game_answer};
-ghost use Rattle.game_text.specs.Reading.{place, StandsAt};
-ghost use Rattle.game_text.specs.Program.{taking};
+ghost use Rattle.game_text.specs.LinesAnswer.{answered};
+ghost use Rattle.game_text.specs.Reading.{Place, place};
+ghost use Rattle.game_text.specs.Program.{taking, game_takes, game_decides, game_outside, answered_short};
 
 use crate::Standing;
+use line_readers::LineReader;
 use stdio::input::Input;
 use stdio::output::Text;
 use stdio::source::Source;
 use stdio::{input, output};
 
-// Takes the line that a call gave, if it gave one.
-fn take_given(t: Standing, q: Input, ns: &mut [u32], bs: &mut [u32]) -> Standing
-    ensures { StandsAt (after_call taking (place t ns.old bs.old) q) result ns.new bs.new }
-{
-    if input::has_line(q) {
-        let h = q.line;
-        let n = partial_line::line_length(h);
-        let b = h.bytes;
-        return crate::take_line(t, ns, bs, &b[..n]);
+impl LineReader for Standing {
+    ghost Stands = { Place };
+
+    ghost stands = { place };
+
+    ghost answer = { answered };
+
+    ghost next = { taking };
+
+    ghost decides = { λ t. not (eqb t.refused 0) };
+
+    ghost most = { 28 };
+
+    fn take_line(self, ns: &mut [u32], bs: &mut [u32], line: &[u8]) -> Standing {
+        crate::take_line(self, ns, bs, line)
     }
-    t
+
+    fn is_decided(self) -> bool {
+        self.refused != 0
+    }
+
+    fn finish(self, p: Input, ns: &mut [u32], bs: &mut [u32], out: &mut [u8]) -> usize {
+        let closed = !input::cut_off(p);
+        crate::ending::finish(self, closed, ns, bs, out)
+    }
+
+    ghost takes = { game_takes };
+
+    ghost decided = { λ t ns bs e ls. game_decides (place t ns bs) e ls };
+
+    ghost outside = { game_outside };
+
+    ghost short = { answered_short };
 }
 
 // What is printed for an input: standard input if `reads`, else the bytes of the room. One line of at most 28 bytes (`answer_short`). Reads until the
@@ -40,18 +63,8 @@ fn text<S: Source>(
     ensures prints { Prints game_answer reads room.old result.input (take result.len out.new) }
     ensures len_in_bounds { result.len ≤ length out.new }
 {
-    let mut p = input::begin(reads, room.len());
-    let mut s = crate::new_standing();
-    while 0 < p.left {
-        let q = input::next_line(from, p, room);
-        let t = take_given(s, q, ns, bs);
-        s = t;
-        let d = input::settle(q, t.refused != 0);
-        p = d;
-    }
-    let closed = !input::cut_off(p);
-    let len = crate::ending::finish(s, closed, ns, bs, out);
-    Text { input: p, len }
+    let begin = crate::new_standing();
+    line_readers::text(from, reads, begin, room, ns, bs, out)
 }
 
 // The program: its exit status.

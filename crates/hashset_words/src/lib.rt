@@ -2,26 +2,14 @@
 // on the words; a start makes no state, a step makes one of sound words.
 #![tactic(auto)]
 
-ghost use Rattle.std.specs.Prelude.{◌≡◌, true, length};
+ghost use Rattle.std.specs.Prelude.{◌≡◌, true};
 ghost use Rattle.spec.specs.Entries.{start, step};
 ghost use Rattle.spec.specs.Machine.{machine_of};
 ghost use Rattle.lines.specs.Reply.{Gives};
 ghost use Rattle.state_words.specs.StateWords.{state_of_words, state_fits};
 
 use lines::Moved;
-use spec::{Call, Config};
-
-// What the words keep of the opening.
-fn config_of(w: &[u32]) -> Config
-    requires { length w.now ≡ 113 }
-    ensures { (state_of_words w.now).config ≡ result }
-{
-    Config {
-        tasks: w[0],
-        version: w[1],
-        zero_withdrawn: w[2] != 0,
-    }
-}
+use spec::{Call, Refusal};
 
 // What a start for task k changes of the state.
 pub fn moved_by_start(w: &[u32], k: u32, call: Call, tag: u32, ns: &[u32], bs: &[u32]) -> Moved
@@ -30,7 +18,7 @@ pub fn moved_by_start(w: &[u32], k: u32, call: Call, tag: u32, ns: &[u32], bs: &
         (start (machine_of (state_of_words w.now) ns.now bs.now) k call tag) }
 {
     let d = sound_words::check(w, k, ns, bs);
-    let g = config_of(w);
+    let g = yard_words::config_of(w);
     checked_start::start_of(g, w[5], w[6], w[7], d, k, call, tag)
 }
 
@@ -41,8 +29,8 @@ pub fn moved_by_step(w: &[u32], k: u32, ns: &mut [u32], bs: &mut [u32]) -> Moved
         (step (machine_of (state_of_words w.now) ns.old bs.old) k) }
 {
     let d = sound_words::check(w, k, ns, bs);
-    if !d.sound {
-        return checked_start::refused(w[5], w[6], w[7], 8);
+    if d.is_none() {
+        return checked_start::refused(w[5], w[6], w[7], Refusal::Spoilt);
     }
     let s = sound_words::state_of_words(w);
     checked_step::step(s, d, k, ns, bs)

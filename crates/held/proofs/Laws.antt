@@ -84,6 +84,10 @@ unfolding concat_map
 task_marks w h c e p q s =
     rw (nodes_of_running c e, append-nil (chain w h c.new_node)) (both p (both q s))
 
+-- the chains of one task's nodes
+abbrev pub of_task : List ℕ → ℕ → Task → List ℕ
+of_task w h c = concat_map (chain w h) (task_nodes c)
+
 -- the chains of a task's nodes, task by task, are the chains of all tasks' nodes
 pub by_task : (g : ℕ → List ℕ) (f : Task → List ℕ) (ts : List Task) → concat_map (λ c. concat_map g (f c)) ts ≡ concat_map g (concat_map f ts)
 unfolding concat_map
@@ -91,7 +95,7 @@ by_task g f [] = refl
 by_task g f (c ∷ ts) = ap (λ (l : List ℕ). concat_map g (f c) ++ l) (by_task g f ts) ∙ sym (join_append g (f c) (concat_map f ts))
 
 pub held_all : {m x r : List Bool} (w bs : List ℕ) (s : State)
-    → Marks m x (chain w s.nodes (link s.head)) → Marks x r (concat_map (λ c. concat_map (chain w s.nodes) (task_nodes c)) s.task)
+    → Marks m x (chain w s.nodes (link s.head)) → Marks x r (concat_map (of_task w s.nodes) s.task)
     → Marks m r (held_nodes (machine_of s w bs))
 unfolding held_nodes concat_map
 held_all w bs s a b = both a (rw (← by_task (chain w s.nodes) task_nodes s.task) b)

@@ -1,5 +1,5 @@
 -- Taking: what is taken in a sound machine. Assumes nothing.
-use Rattle.std.specs.Prelude.{if◌then◌else◌}
+use Rattle.std.specs.Prelude.{if◌then◌else◌, Option, Some, None, unwrap_or}
 use mathlib.Core.Path.{◌≡◌, refl, sym, ap, ◌∙◌}
 use mathlib.Core.List.{List, [], ◌∷◌, ◌++◌}
 use mathlib.Core.Bool.{Bool, true, false, ◌||◌, ◌&&◌}
@@ -21,7 +21,7 @@ use Rattle.spec.specs.Machine.{Machine}
 use Rattle.spec.specs.Words.{number, link, places}
 use Rattle.spec.specs.Sound.{node_count, bucket_count, sound}
 use Rattle.spec.specs.Held.{task_buckets, held_nodes, held_buckets, first_free, cyclic_order, free_node, free_bucket}
-use Rattle.held_marks.specs.Marks.{Exactly}
+use Rattle.held_marks.specs.Marks.{Exactly, link_of}
 use Rattle.held.specs.Held.{marked_numbers, placed_low, node_to_take, bucket_to_take}
 
 -- ---- numbers and links
@@ -135,6 +135,12 @@ module _ (y : Machine) where
       none true true e = rw e
       none true false e = refl
       none false b e = refl
+
+-- ---- by its number
+
+pub number_or_0 : (r : Option ℕ) → unwrap_or r 0 ≡ number (link_of r)
+number_or_0 None = refl
+number_or_0 (Some k) = omega arith
 
 -- ---- in a sound machine
 

@@ -7,7 +7,7 @@ ghost use Rattle.spec.specs.Lists.{concat_map};
 ghost use Rattle.spec.specs.Machine.{machine_of};
 ghost use Rattle.spec.specs.Words.{places};
 ghost use Rattle.spec.specs.Held.{chain, task_nodes, task_buckets, held_nodes};
-ghost use Rattle.held_marks.specs.Marks.{Marks};
+ghost use Rattle.held_marks.specs.Marks.{Marks, link_of};
 ghost use Rattle.held.specs.Held.{marked_numbers, node_to_take, bucket_to_take};
 
 use spec::{State, Task};
@@ -22,8 +22,7 @@ const BUCKETS: usize = pool::MOST_BUCKETS as usize;
 fn mark_task_nodes(ns: &[u32], m: &mut [bool], h: u32, c: Task)
     ensures { Marks m.old m.new (concat_map (chain ns.now h) (task_nodes c)) }
 {
-    let running = c.running;
-    if running {
+    if c.running {
         held_marks::mark_chain(ns, m, h, c.t);
         held_marks::mark_chain(ns, m, h, c.s);
         held_marks::mark_chain(ns, m, h, c.new_node);
@@ -35,13 +34,9 @@ fn mark_nodes(s: State, ns: &[u32], m: &mut [bool])
     ensures { (bs : List ℕ) → Marks m.old m.new (held_nodes (machine_of s ns.now bs)) }
 {
     let h = s.nodes;
-    let ts = s.task;
     held_marks::mark_chain(ns, m, h, s.head + 1);
-    let mut k: usize = 0;
-    while k < 8 {
-        let c = ts[k];
+    for c in s.task {
         mark_task_nodes(ns, m, h, c);
-        k += 1;
     }
 }
 
@@ -51,11 +46,8 @@ fn mark_nodes(s: State, ns: &[u32], m: &mut [bool])
 fn mark_places(ns: &[u32], m: &mut [bool], k: u32)
     ensures { Marks m.old m.new (places ns.now k) }
 {
-    let mut i: u32 = 0;
-    while i < pool::PLACES {
-        let l = pool::place_at(ns, k, i);
-        held_marks::mark(m, l);
-        i += 1;
+    for i in 0..pool::PLACES {
+        held_marks::mark(m, pool::place_at(ns, k, i));
     }
 }
 
@@ -63,43 +55,31 @@ fn mark_places(ns: &[u32], m: &mut [bool], k: u32)
 fn mark_placed(ns: &[u32], nodes: [bool; NODES], m: &mut [bool])
     ensures { Marks m.old m.new (concat_map (places ns.now) (marked_numbers nodes)) }
 {
-    let mut k: u32 = 0;
-    while k < pool::MOST_NODES {
+    for k in 0..pool::MOST_NODES {
         if nodes[k as usize] {
             mark_places(ns, m, k);
         }
-        k += 1;
     }
 }
 
 fn mark_own(s: State, m: &mut [bool])
     ensures { Marks m.old m.new (concat_map task_buckets s.task) }
 {
-    let ts = s.task;
-    let mut k: usize = 0;
-    while k < 8 {
-        let c = ts[k];
+    for c in s.task {
         held_marks::mark_task_buckets(m, c);
-        k += 1;
     }
 }
 
 // ---- taking
 
-// The link of the node to be taken, 0 if all are held or a number of the state is out of bounds.
-pub fn free_node_of(s: State, ns: &[u32]) -> u32
-    ensures { (bs : List ℕ) → result ≡ node_to_take (machine_of s ns.now bs) }
+// The number of the node to be taken, None if all are held or a number of the state is out of bounds.
+pub fn free_node_of(s: State, ns: &[u32]) -> Option<u32>
+    ensures { (bs : List ℕ) → link_of result ≡ node_to_take (machine_of s ns.now bs) }
 {
     let h = s.nodes;
     let last = s.last_node;
-    if pool::MOST_NODES <= s.head {
-        return 0;
-    }
-    if pool::MOST_NODES < h {
-        return 0;
-    }
-    if h <= last {
-        return 0;
+    if pool::MOST_NODES <= s.head || pool::MOST_NODES < h || h <= last {
+        return None;
     }
     let mut nodes = [false; NODES];
     mark_nodes(s, ns, &mut nodes);
@@ -107,19 +87,13 @@ pub fn free_node_of(s: State, ns: &[u32]) -> u32
 }
 
 // The same of a bucket.
-pub fn free_bucket_of(s: State, ns: &[u32]) -> u32
-    ensures { (bs : List ℕ) → result ≡ bucket_to_take (machine_of s ns.now bs) }
+pub fn free_bucket_of(s: State, ns: &[u32]) -> Option<u32>
+    ensures { (bs : List ℕ) → link_of result ≡ bucket_to_take (machine_of s ns.now bs) }
 {
     let b = s.buckets;
     let last = s.last_bucket;
-    if pool::MOST_NODES <= s.head {
-        return 0;
-    }
-    if pool::MOST_BUCKETS < b {
-        return 0;
-    }
-    if b <= last {
-        return 0;
+    if pool::MOST_NODES <= s.head || pool::MOST_BUCKETS < b || b <= last {
+        return None;
     }
     let mut nodes = [false; NODES];
     mark_nodes(s, ns, &mut nodes);

@@ -1,5 +1,5 @@
 -- Laws of marks: they compose as the lists of links that they mark. Assumes nothing.
-use Rattle.std.specs.Prelude.{if◌then◌else◌}
+use Rattle.std.specs.Prelude.{if◌then◌else◌, Option, Some, None, SomeIff}
 use mathlib.Core.Path.{◌≡◌, refl, sym, ap, ◌∙◌}
 use mathlib.Core.List.{List, [], ◌∷◌, ◌++◌}
 use mathlib.Core.Bool.{Bool, true, false, ◌||◌, or_assoc}
@@ -15,7 +15,7 @@ use Rattle.spec.specs.Lists.{member, concat_map}
 use Rattle.spec.specs.Words.{number, pred}
 use Rattle.spec.specs.declared.Task.{Task}
 use Rattle.spec.specs.Held.{chain, task_buckets}
-use Rattle.held_marks.specs.Marks.{marked, Marks, Exactly}
+use Rattle.held_marks.specs.Marks.{marked, Marks, Exactly, link_of}
 
 or_false : (a : Bool) → (a || false) ≡ a
 or_false true = refl
@@ -129,3 +129,9 @@ module _ {A : Type 0} (f : A → List ℕ) where
       → Marks out o (f (get_or ts k d))
       → (q : List Bool) → Marks o q (concat_map f (drop (k + 1) ts)) → Marks m q ls
   tasks_turn ts k d ls l inv one q r = inv q (rw (tasks_next ts k d l f) (both one r))
+
+-- ---- the record that is taken, by its number
+
+pub by_number : (r : Option ℕ) {l : ℕ} → link_of r ≡ l → SomeIff r (1 ≤ l) (l - 1)
+by_number None e = λ h. omega (arith, e, h)
+by_number (Some k) e = (omega (arith, e), omega (arith, e))

@@ -3,7 +3,7 @@
 
 ghost use Rattle.std.specs.Prelude.{◌≡◌, List, [], ◌∷◌, ℕ, ◌≤◌, ◌<◌, length};
 ghost use Rattle.spec.specs.Held.{chain, task_buckets, first_free, cyclic_order};
-ghost use Rattle.held_marks.specs.Marks.{Marks, Exactly};
+ghost use Rattle.held_marks.specs.Marks.{Marks, Exactly, link_of};
 
 use spec::Task;
 
@@ -11,12 +11,8 @@ use spec::Task;
 pub fn mark(m: &mut [bool], l: u32)
     ensures { Marks m.old m.new (l ∷ []) }
 {
-    if l == 0 {
-        return;
-    }
-    let k = l as usize - 1;
-    if k < m.len() {
-        m[k] = true;
+    if l != 0 && l as usize <= m.len() {
+        m[l as usize - 1] = true;
     }
 }
 
@@ -25,15 +21,12 @@ pub fn mark_chain(ns: &[u32], m: &mut [bool], h: u32, from: u32)
     ensures { Marks m.old m.new (chain ns.now h from) }
 {
     let mut at = from;
-    let mut left = h;
-    while 0 < left {
+    for _ in 0..h {
         if at == 0 {
             return;
         }
         mark(m, at);
-        let p = pool::pred_of(ns, at);
-        at = p;
-        left -= 1;
+        at = pool::pred_of(ns, at);
     }
 }
 
@@ -41,8 +34,7 @@ pub fn mark_chain(ns: &[u32], m: &mut [bool], h: u32, from: u32)
 pub fn mark_task_buckets(m: &mut [bool], c: Task)
     ensures { Marks m.old m.new (task_buckets c) }
 {
-    let running = c.running;
-    if running {
+    if c.running {
         mark(m, c.b);
         mark(m, c.m);
         mark(m, c.n);
@@ -50,18 +42,16 @@ pub fn mark_task_buckets(m: &mut [bool], c: Task)
     }
 }
 
-// The link of the first of n records that is not marked after the last, going round; 0 if all are.
-pub fn first_unmarked(m: &[bool], n: u32, last: u32) -> u32
+// The number of the first of n records that is not marked after the last, going round; None if all are.
+pub fn first_unmarked(m: &[bool], n: u32, last: u32) -> Option<u32>
     requires { (n ≤ length m.now) × (n ≤ 1024) × (last < n) }
-    ensures { (ls : List ℕ) → Exactly m.now ls → result ≡ first_free ls (cyclic_order n last) }
+    ensures { (ls : List ℕ) → Exactly m.now ls → link_of result ≡ first_free ls (cyclic_order n last) }
 {
-    let mut j: u32 = 1;
-    while j <= n {
+    for j in 1..=n {
         let k = (last + j) % n;
         if !m[k as usize] {
-            return k + 1;
+            return Some(k);
         }
-        j += 1;
     }
-    0
+    None
 }

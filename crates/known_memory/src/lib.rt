@@ -10,29 +10,18 @@ ghost use Rattle.soundness.specs.Told.{checked_of};
 ghost use Rattle.lines.specs.Reply.{reply_of};
 
 use lines::Stepped;
-use soundness::Checked;
 use spec::{Call, State, Task};
 
 // What a check of memory would give for task k; c is record k mod 8.
-pub fn checked(ok: bool, c: Task, k: u32) -> Checked
+pub fn checked(ok: bool, c: Task, k: u32) -> Option<Task>
     ensures { (y : Machine) → length y.state.task ≡ 8 → c ≡ task_of y (k % 8) → ok ≡ sound y → result ≡ checked_of y k }
 {
-    let none = state::idle();
     if !ok {
-        return Checked {
-            sound: false,
-            task: none,
-        };
-    }
-    if k < 8 {
-        return Checked {
-            sound: true,
-            task: c,
-        };
-    }
-    Checked {
-        sound: true,
-        task: none,
+        None
+    } else if k < 8 {
+        Some(c)
+    } else {
+        Some(state::idle())
     }
 }
 

@@ -1,10 +1,11 @@
 -- Start and step by their outcome, and that they keep memory sound, whatever sound memory they are given. Assumes nothing.
-use Rattle.std.specs.Prelude.{ℕ, ◌+◌, ◌≤◌, ◌<◌, min, ◌≡◌, refl, true, false, not, ltb}
+use Rattle.std.specs.Prelude.{ℕ, ◌+◌, ◌≤◌, ◌<◌, min, ◌≡◌, refl, true, false, not, ltb, Ok}
 use Rattle.std.proofs.Common.{arith, ltb-true, ltb-false}
 use Rattle.std.proofs.lemmas.Bool.{not-true, not-false}
+use Rattle.spec.specs.declared.Refusal.TheVariants.{NoTask, Running, Idle, NoRecord, Spoilt, Withdrawn}
 use Rattle.spec.specs.declared.Call.{Call}
 use Rattle.spec.specs.declared.Call.TheVariants.{Insert, Remove, Contains, Grow, Shrink}
-use Rattle.spec.specs.declared.Output.TheVariants.{At}
+use Rattle.spec.specs.declared.Progress.TheVariants.{At}
 use Rattle.spec.specs.Lists.{member}
 use Rattle.spec.specs.Machine.{Machine, idle, fresh_task, with_own, set_task, task_of}
 use Rattle.spec.specs.Words.{apply}
@@ -32,11 +33,11 @@ accept_keeps y f k own e g = finish_keeps (apply e.write y) (write_keeps y f e.w
 
 -- a step of a sound machine, by its outcome
 pub data StepOutcome (y : Machine) (k : ℕ) : Reply → Type 0 where
-  step_no_task : y.state.config.tasks ≤ k → StepOutcome y k (refuse 4 y)
-  step_idle : k < y.state.config.tasks → (task_of y k).running ≡ false → StepOutcome y k (refuse 6 y)
-  step_unsound : k < y.state.config.tasks → (task_of y k).running ≡ true → unsound_step y (task_of y k) ≡ true → StepOutcome y k (refuse 8 y)
+  step_no_task : y.state.config.tasks ≤ k → StepOutcome y k (refuse NoTask y)
+  step_idle : k < y.state.config.tasks → (task_of y k).running ≡ false → StepOutcome y k (refuse Idle y)
+  step_unsound : k < y.state.config.tasks → (task_of y k).running ≡ true → unsound_step y (task_of y k) ≡ true → StepOutcome y k (refuse Spoilt y)
   step_all_held : k < y.state.config.tasks → (task_of y k).running ≡ true → unsound_step y (task_of y k) ≡ false → all_held y (task_of y k) ≡ true
-      → StepOutcome y k (refuse 7 y)
+      → StepOutcome y k (refuse NoRecord y)
   step_accepted : k < y.state.config.tasks → (task_of y k).running ≡ true → unsound_step y (task_of y k) ≡ false → all_held y (task_of y k) ≡ false
       → StepOutcome y k (accept y k (task_of y k).own (effect y (task_of y k)))
 
@@ -53,12 +54,12 @@ step_outcome y k e =
 
 -- a start of a sound machine, by its outcome
 pub data StartOutcome (y : Machine) (k : ℕ) (call : Call) (tag : ℕ) : Reply → Type 0 where
-  start_no_task : y.state.config.tasks ≤ k → StartOutcome y k call tag (refuse 4 y)
-  start_running : k < y.state.config.tasks → (task_of y k).running ≡ true → StartOutcome y k call tag (refuse 5 y)
+  start_no_task : y.state.config.tasks ≤ k → StartOutcome y k call tag (refuse NoTask y)
+  start_running : k < y.state.config.tasks → (task_of y k).running ≡ true → StartOutcome y k call tag (refuse Running y)
   start_withdrawn : k < y.state.config.tasks → (task_of y k).running ≡ false → withdrawn y.state.config call tag ≡ true
-      → StartOutcome y k call tag (refuse 14 y)
+      → StartOutcome y k call tag (refuse Withdrawn y)
   start_accepted : k < y.state.config.tasks → (task_of y k).running ≡ false → withdrawn y.state.config call tag ≡ false
-      → StartOutcome y k call tag (record { out = At (started call tag).line; machine = set_task k (started call tag) y })
+      → StartOutcome y k call tag (record { out = Ok (At (started call tag).line); machine = set_task k (started call tag) y })
 
 pub start_outcome : (y : Machine) (k : ℕ) (call : Call) (tag : ℕ) → sound y ≡ true → StartOutcome y k call tag (start y k call tag)
 unfolding start

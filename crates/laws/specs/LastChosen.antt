@@ -6,6 +6,7 @@ use Rattle.std.proofs.Math.Path.{refl, ap}
 use Rattle.std.proofs.Common.{◌∙◌}
 use mathlib.Core.List.{List, [], ◌∷◌}
 use borrow.Author.Tests.{lt-ltb}
+use Rattle.spec.specs.declared.Refusal.TheVariants.{NoTask, Idle, NoRecord, Spoilt}
 use Rattle.spec.specs.declared.Call.{Call}
 use Rattle.spec.specs.declared.Config.{Config}
 use Rattle.spec.specs.declared.Task.{Task}
@@ -179,17 +180,17 @@ module _ (y : Machine) (l : ℕ) where
     unfolding step_running refuse
     running_apart k c =
         rw (unsound_apart c, held_apart c, effect_apart c)
-        (either (again l) (unsound_step y c) (refuse 8 y) _ (refuse 8 z) _ refl
-        (either (again l) (all_held y c) (refuse 7 y) _ (refuse 7 z) _ refl (accept_apart k c.own (effect y c))))
+        (either (again l) (unsound_step y c) (refuse Spoilt y) _ (refuse Spoilt z) _ refl
+        (either (again l) (all_held y c) (refuse NoRecord y) _ (refuse NoRecord z) _ refl (accept_apart k c.own (effect y c))))
 
     step_apart : (k : ℕ) → step z k ≡ again l (step y k)
     unfolding step refuse task_of with_chosen with_state state_chosen
     step_apart k =
         let c = task_of y k in
         rw sound_apart
-        (either (again l) (not (sound y)) (refuse 8 y) _ (refuse 8 z) _ refl
-        (either (again l) (not (ltb k (task_count y))) (refuse 4 y) _ (refuse 4 z) _ refl
-        (either (again l) (not c.running) (refuse 6 y) _ (refuse 6 z) _ refl (running_apart k c))))
+        (either (again l) (not (sound y)) (refuse Spoilt y) _ (refuse Spoilt z) _ refl
+        (either (again l) (not (ltb k (task_count y))) (refuse NoTask y) _ (refuse NoTask z) _ refl
+        (either (again l) (not c.running) (refuse Idle y) _ (refuse Idle z) _ refl (running_apart k c))))
 
     pub event_apart : (e : Event) → event z e ≡ again l (event y e)
     unfolding event

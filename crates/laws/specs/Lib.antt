@@ -31,3 +31,4 @@ pub mod EffectSound
 pub mod EntriesKeep
 pub mod LastChosen
 pub mod OpeningSound
+pub mod RefusalNumbers

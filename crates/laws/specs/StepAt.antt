@@ -7,6 +7,7 @@ use Rattle.std.proofs.Math.Path.{sym, ap}
 use Rattle.std.proofs.Common.{◌∙◌, leb-false, le-leb, ltb-false, lt-ltb, le-ltb}
 use Rattle.std.proofs.Math.Bool.{Bool, not}
 use Rattle.std.proofs.lemmas.Bool.{lt-leb, not-false}
+use Rattle.spec.specs.declared.Refusal.TheVariants.{NoRecord, Spoilt}
 use Rattle.spec.specs.declared.Task.{Task}
 use Rattle.spec.specs.Lists.{member}
 use Rattle.spec.specs.Machine.{Machine}
@@ -200,7 +201,7 @@ effect_at n y c = find_line n all_lines y c
 
 -- a step of task c that makes these tests and does this, where no record is to be taken
 unfoldable pub tested : List Test → Machine → ℕ → Task → Effect → Reply
-tested xs y k c e = if some_fails xs then refuse 8 y else accept y k c.own e
+tested xs y k c e = if some_fails xs then refuse Spoilt y else accept y k c.own e
 
 -- past a test that passes the others are left
 pub tested_past : (x : Test) (xs : List Test) (y : Machine) (k : ℕ) (c : Task) (e : Effect) → Passes x → tested (x ∷ xs) y k c e ≡ tested xs y k c e
@@ -281,12 +282,12 @@ module _ (y : Machine) (c : Task) where
       unfolding step_running some_fails tested
       tested_at none = let e = unsound_at in let g = held_at ∙ ap some_fails none in rw (e, g, does_at)
 
-      pub refused_8 : SomeFails (tests_at n y c) → step_running y k c ≡ refuse 8 y
+      pub refused_8 : SomeFails (tests_at n y c) → step_running y k c ≡ refuse Spoilt y
       unfolding step_running
       refused_8 p = let e = unsound_at ∙ one_fails p in rw e
 
       module _ (p : AllPass (tests_at n y c)) where
-        pub refused_7 : SomeFails (takes_at n y) → step_running y k c ≡ refuse 7 y
+        pub refused_7 : SomeFails (takes_at n y) → step_running y k c ≡ refuse NoRecord y
         unfolding step_running
         refused_7 q = let e = sound_at p in let g = held_at ∙ one_fails q in rw (e, g)
 

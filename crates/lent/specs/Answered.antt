@@ -1,6 +1,6 @@
 -- What a start or a step on a lent state answers and leaves, as one value of the definitions. Assumes nothing.
 use Rattle.std.specs.Prelude.{ℕ, List}
-use Rattle.spec.specs.declared.Output.{Output}
+use Rattle.spec.specs.Outputs.{Output}
 use Rattle.spec.specs.declared.State.{State}
 use Rattle.spec.specs.Entries.{Reply}
 use Rattle.spec.specs.Machine.{machine_of}

@@ -1,4 +1,5 @@
 -- The answer of an accepted line whose task goes on, stored in the state. Assumes nothing.
+use Rattle.std.specs.Prelude.{Ok}
 use mathlib.Core.Path.{◌≡◌}
 use mathlib.Core.List.{List}
 use Prim.Native.Nat.{ℕ, ◌+◌, ◌<◌, min}
@@ -10,8 +11,8 @@ use Rattle.spec.specs.Lines.{moves}
 use Rattle.spec.specs.Entries.{finish, accept}
 use Rattle.spec.specs.declared.Task.{Task}
 use Rattle.spec.specs.declared.State.{State}
-use Rattle.spec.specs.declared.Output.{Output}
-use Rattle.spec.specs.declared.Output.TheVariants.{At}
+use Rattle.spec.specs.Outputs.{Output}
+use Rattle.spec.specs.declared.Progress.TheVariants.{At}
 use Rattle.line_moves.specs.declared.Moved.{Moved}
 use Rattle.line_moves.specs.Moving.{changes, settled, moved_reply}
 
@@ -21,7 +22,7 @@ gives s o x = record { out = o; head = s.head; last_node = s.last_node; last_buc
 
 -- the task goes on at line l
 module _ (s : State) (k : ℕ) (c : Task) (low : k < 8) (ns bs : List ℕ) where
-  pub goes_on : (l : ℕ) → moved_reply s k (gives s (At l) (with_own (min (c.own + 1) 65535) (with_line l c))) ns bs
+  pub goes_on : (l : ℕ) → moved_reply s k (gives s (Ok (At l)) (with_own (min (c.own + 1) 65535) (with_line l c))) ns bs
       ≡ accept (machine_of s ns bs) k c.own (moves (with_line l c))
   unfolding accept finish set_task with_task with_state state_head state_last_node state_last_bucket state_task with_line apply settled changes
   goes_on l = let e = lt-ltb _ _ low in rw e

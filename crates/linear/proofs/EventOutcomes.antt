@@ -1,17 +1,21 @@
 -- What rests on statements of specs/EventOutcomes.antt that a must-fail edit makes false: theorems moved from there as they stood. Assumes nothing.
-use Rattle.std.specs.Prelude.{◌≡◌, refl, true, false, ℕ, ◌+◌, min, ◌≤◌, ◌<◌, length}
+use Rattle.std.specs.Prelude.{◌≡◌, refl, true, false, ℕ, ◌+◌, min, ◌≤◌, ◌<◌, length, Ok, Err}
 use Rattle.std.proofs.Math.Path.{ap}
 use Rattle.std.proofs.Common.{◌∙◌, arith}
+use Rattle.spec.specs.declared.Refusal.TheVariants.{NoTask, Running, Idle, NoRecord, Spoilt, Withdrawn}
+use Rattle.spec.specs.declared.Refusal.{Refusal}
 use Rattle.spec.specs.declared.Task.{Task}
 use Rattle.spec.specs.declared.Call.{Call}
-use Rattle.spec.specs.declared.Output.{Output}
-use Rattle.spec.specs.declared.Output.TheVariants as Outs
+use Rattle.spec.specs.Outputs.{Output}
+use Rattle.spec.specs.declared.Progress.TheVariants as Outs
 use Rattle.spec.specs.Machine.{Machine, idle, with_own, task_of}
 use Rattle.spec.specs.Words.{apply}
 use Rattle.spec.specs.Sound.{sound}
 use Rattle.spec.specs.Lines.{Effect, Next, effect}
 use Rattle.spec.specs.Entries.{Reply, refuse, started, finish, accept}
 use Rattle.spec.specs.Schedule.{Event, starts, steps, event}
+use Rattle.spec.specs.Numbers.{refusal_number}
+use Rattle.laws.specs.RefusalNumbers.{apart}
 use Rattle.laws.specs.Tests.{tf, at_hit}
 use Rattle.laws.specs.SoundFacts.{SoundFacts, TaskFacts, runs, is_idle}
 use Rattle.laws.specs.Soundness.{sound_facts, run_of}
@@ -31,7 +35,10 @@ use Rattle.linear.specs.StepSimulated.{Outcome, went_on, call_ended, resize_ende
 use Rattle.linear.proofs.StepSimulated.{simulate, on_still}
 use Rattle.linear.proofs.Accepted.{accepts}
 use Rattle.linear.specs.FirstPositions.{first_of, is_first, first_names, first_match, first_takes}
-use Rattle.linear.specs.EventOutcomes.{EventOutcome, EventSimulated, StandsAt, call_started, none_free, start_refused, step_refused, stepped}
+use Rattle.linear.specs.EventOutcomes.{Other, EventOutcome, EventSimulated, StandsAt, call_started, none_free, start_refused, step_refused, stepped}
+
+other : (r : Refusal) → ¬ (refusal_number r ≡ 7) → ¬ (refusal_number r ≡ 8) → Other r
+other r f g = (apart r NoRecord f, apart r Spoilt g)
 
 module _ (y : Machine) (w : Configuration) (reach : Reachable w) (sim : Simulates y w.heap w.position) where
   facts : SoundFacts y
@@ -40,16 +47,16 @@ module _ (y : Machine) (w : Configuration) (reach : Reachable w) (sim : Simulate
   below_eight : (p : ℕ) → p < y.state.config.tasks → p < 8
   below_eight p a = let b = facts.config.T_high in omega arith
 
-  refused_with : (r : ℕ) {e : Event} → EventOutcome y w e (Outs.Refuse r) (after_refusal w) → EventSimulated y w e (refuse r y)
+  refused_with : (r : Refusal) {e : Event} → EventOutcome y w e (Err r) (after_refusal w) → EventSimulated y w e (refuse r y)
   unfolding refuse
   refused_with r o = record { configuration = after_refusal w; reach = Reachable.further reach refused; sim = sim; outcome = o }
 
   -- ---- a start
   start_simulated : (p : ℕ) (call : Call) (tag : ℕ) {m : Reply} → sound m.machine ≡ true → StartOutcome y p call tag m
       → EventSimulated y w (starts p call tag) m
-  start_simulated p call tag so (start_no_task a) = refused_with 4 (start_refused p call tag 4 (λ e. omega arith, λ e. omega arith))
-  start_simulated p call tag so (start_running a b) = refused_with 5 (start_refused p call tag 5 (λ e. omega arith, λ e. omega arith))
-  start_simulated p call tag so (start_withdrawn a b c) = refused_with 14 (start_refused p call tag 14 (λ e. omega arith, λ e. omega arith))
+  start_simulated p call tag so (start_no_task a) = refused_with NoTask (start_refused p call tag NoTask (other NoTask (λ e. omega arith) (λ e. omega arith)))
+  start_simulated p call tag so (start_running a b) = refused_with Running (start_refused p call tag Running (other Running (λ e. omega arith) (λ e. omega arith)))
+  start_simulated p call tag so (start_withdrawn a b c) = refused_with Withdrawn (start_refused p call tag Withdrawn (other Withdrawn (λ e. omega arith) (λ e. omega arith)))
   start_simulated p call tag so (start_accepted a b c) =
       let p< = below_eight p a in
       let at : w.position p ≡ no_call = idle_no_call w.heap sim.records (task_of y p) b (w.position p) (sim.matches p) in
@@ -72,14 +79,14 @@ module _ (y : Machine) (w : Configuration) (reach : Reachable w) (sim : Simulate
     abbrev after : Reply
     after = accept y p own e
 
-    runs_on : (n : ℕ) → after.out ≡ Outs.At n → ((task_of after.machine p).running ≡ true) × ((task_of after.machine p).line ≡ n)
+    runs_on : (n : ℕ) → after.out ≡ Ok (Outs.At n) → ((task_of after.machine p).running ≡ true) × ((task_of after.machine p).line ≡ n)
     unfolding accept finish with_own
     runs_on n q = go e.next ok q
       where
         z : Machine
         z = apply e.write y
 
-        go : (x : Next) → NextSound z p x → let m = finish z p (min (own + 1) 65535) x in m.out ≡ Outs.At n
+        go : (x : Next) → NextSound z p x → let m = finish z p (min (own + 1) 65535) x in m.out ≡ Ok (Outs.At n)
             → ((task_of m.machine p).running ≡ true) × ((task_of m.machine p).line ≡ n)
         go (Next.on c) ok q =
             let is = at_hit (refl, rw (apply_task e.write y) lt) ((after_task z p (with_own (min (own + 1) 65535) c)).task_at p) in
@@ -93,13 +100,13 @@ module _ (y : Machine) (w : Configuration) (reach : Reachable w) (sim : Simulate
         d = task_of after.machine p
 
         go : (o : Output) → after.out ≡ o → StandsAt o (v.position p)
-        go (Outs.At n) q =
+        go (Ok (Outs.At n)) q =
             let r = runs_on n q in
             let l = matches_line v.heap s.records d r.0 (v.position p) (s.matches p) in
             let s1 = r.1 in
             (running_call v.heap s.records d r.0 (v.position p) (s.matches p), omega arith)
-        go (Outs.End a n full) q = tt
-        go (Outs.Refuse n) q = tt
+        go (Ok (Outs.End a n full)) q = tt
+        go (Err n) q = tt
 
   idle_past_T : (p : ℕ) → y.state.config.tasks ≤ p → TaskFacts y p (task_of y p) → (task_of y p).running ≡ false
   unfolding idle
@@ -108,10 +115,10 @@ module _ (y : Machine) (w : Configuration) (reach : Reachable w) (sim : Simulate
 
   step_simulated : (p : ℕ) {m : Reply} → sound m.machine ≡ true → StepOutcome y p m → EventSimulated y w (steps p) m
   step_simulated p so (step_no_task a) =
-      refused_with 4 (step_refused p 4 (idle_past_T p a (facts.task p)) (λ e. omega arith, λ e. omega arith))
-  step_simulated p so (step_idle a b) = refused_with 6 (step_refused p 6 b (λ e. omega arith, λ e. omega arith))
+      refused_with NoTask (step_refused p NoTask (idle_past_T p a (facts.task p)) (other NoTask (λ e. omega arith) (λ e. omega arith)))
+  step_simulated p so (step_idle a b) = refused_with Idle (step_refused p Idle b (other Idle (λ e. omega arith) (λ e. omega arith)))
   step_simulated p so (step_unsound a b c) = absurd (tf c (accepts sim facts (invariant reach).1 p b).sound_step)
-  step_simulated p so (step_all_held a b c d) = refused_with 7 (none_free p b d)
+  step_simulated p so (step_all_held a b c d) = refused_with NoRecord (none_free p b d)
   step_simulated p so (step_accepted a b c d) =
       let task = task_of y p in
       let p< = below_eight p a in

@@ -6,11 +6,12 @@ use mathlib.Core.List.{List, ◌∷◌}
 use Prim.Native.Nat.{ℕ, suc}
 use Rattle.std.proofs.Math.Decide.{ℕ_discrete}
 use native.Mathlib.Omega.{arith}
-use Rattle.std.specs.Prelude.{eqb, if◌then◌else◌}
+use Rattle.std.specs.Prelude.{eqb, if◌then◌else◌, Err}
+use Rattle.spec.specs.declared.Refusal.TheVariants.{Spoilt}
 use Rattle.spec.specs.declared.Answer.{Answer}
 use Rattle.spec.specs.declared.Call.{Call}
-use Rattle.spec.specs.declared.Output.{Output}
-use Rattle.spec.specs.declared.Output.TheVariants as Outs
+use Rattle.spec.specs.Outputs.{Output}
+use Rattle.spec.specs.declared.Progress.TheVariants as Outs
 use Rattle.spec.specs.Machine.{Machine, task_of}
 use Rattle.spec.specs.Schedule.{Event, steps, event}
 use Rattle.spec.specs.History.{Ended, Started, set_call, note, tell}
@@ -33,7 +34,7 @@ module _ (n : ℕ) (last : ℕ → Started) (H : List Ended) (y : Machine) (s : 
     clock : v.clock ≡ suc n
     started_as : (q : ℕ) → StartedAs (note n last e o q) (v.position q) (v.start q)
     ended : tell n last H e o ≡ v.ended
-    not_8 : ¬ (o ≡ Outs.Refuse 8)
+    not_8 : ¬ (o ≡ Err Spoilt)
 
   -- task p goes to l, and the other tasks stay where they are
   started_after : (p : ℕ) (l : Position) → StartedAs (last p) l (w.start p) → (q : ℕ) → Dec (q ≡ p)
@@ -93,7 +94,7 @@ module _ (n : ℕ) (last : ℕ → Started) (H : List Ended) (y : Machine) (s : 
   told (step_refused p r idle other) =
       record { clock = ap suc s.clock; started_as = s.started_as; ended = s.ended; not_8 = λ e. other.1 (cc) }
   told (none_free p runs held) =
-      record { clock = ap suc s.clock; started_as = s.started_as; ended = s.ended; not_8 = λ e. let z : ◌≡◌ {A = ℕ} 7 8 = cc in omega arith }
+      record { clock = ap suc s.clock; started_as = s.started_as; ended = s.ended; not_8 = λ e. let z : ◌≡◌ {A = ℕ} 0 1 = cc in omega arith }
   told (stepped p lt runs o at) = step_told p o
 
   pub event_next : (e : Event) → After n last H e (event y e)

@@ -11,10 +11,11 @@
 -- The types are those of spec's Linearizable and ContainsSteps. The first two hold because the words simulate a heap without records and
 -- reuse (Schedules), and every run of that heap has such an order (the crate model, Linearization); three or five holds of the words alone
 -- (LookupPace, which also has `line_13_tells`: the answer of line 13 says whether the place was filled). Assumes nothing.
-use Rattle.std.specs.Prelude.{◌≡◌, true, List, ℕ, ◌≤◌, length}
+use Rattle.std.specs.Prelude.{◌≡◌, true, List, ℕ, ◌≤◌, length, Err}
 use Rattle.std.proofs.Common.{ap, arith}
 use Rattle.std.proofs.Math.Decide.{dec_le}
-use Rattle.spec.specs.declared.Listing.TheVariants.{Refused}
+use Rattle.laws.specs.RefusalNumbers.{apart}
+use Rattle.spec.specs.declared.Refusal.TheVariants.{Spoilt, ShortList}
 use Rattle.spec.specs.declared.Config.{Config}
 use Rattle.spec.specs.Sound.{sound}
 use Rattle.spec.specs.Entries.{Written, list, opening}
@@ -41,14 +42,14 @@ module _ (g : Config) (ns bs : List ℕ) (ok : (opening g ns bs).refusal ≡ 0) 
   pub never_8 : NoEight (schedule g ns bs es).outs
   never_8 = (schedule_simulated g ns bs ok es).1
 
-  pub list_never_8 : (w : List ℕ) → ¬ ((list (schedule g ns bs es).machine w).says ≡ Refused 8)
+  pub list_never_8 : (w : List ℕ) → ¬ ((list (schedule g ns bs es).machine w).says ≡ Err Spoilt)
   list_never_8 w e = go (dec_le 64 (length w))
     where
       go : Dec (64 ≤ length w) → ⊥
       go (yes h) =
           let q = ap (λ (r : Written). r.says) (list_written _ _ (schedule_simulated g ns bs ok es).0 w h) in let z : ◌≡◌ {A = ℕ} 0 1 = cc in omega arith
       go (no h) = let q = ap (λ (r : Written). r.says) (list_short _ _ (schedule_simulated g ns bs ok es).0 w (omega arith)) in
-          let z : ◌≡◌ {A = ℕ} 8 9 = cc in omega arith
+          apart Spoilt ShortList (λ n. omega arith) (cc)
 
   pub contains_exact : ContainsExact es (schedule g ns bs es).outs
   contains_exact = (schedule_simulated g ns bs ok es).2

@@ -1,13 +1,13 @@
 -- The task records after an accepted step: the stepping task's is at the line said, or idle; the others stay. And that the step of every
 -- running task is accepted or finds no record. Assumes nothing.
-use Rattle.std.specs.Prelude.{◌≡◌, refl, false, ℕ, ◌+◌, min, ◌<◌, length}
+use Rattle.std.specs.Prelude.{◌≡◌, refl, false, ℕ, ◌+◌, min, ◌<◌, length, Ok, Err}
 use Rattle.std.proofs.Math.Path.{ap}
 use Rattle.std.proofs.Common.{◌∙◌}
 use mathlib.Core.List.{List}
 use Rattle.std.proofs.Math.ListN.{get_or}
 use Rattle.spec.specs.declared.Task.{Task}
-use Rattle.spec.specs.declared.Output.{Output}
-use Rattle.spec.specs.declared.Output.TheVariants as Outs
+use Rattle.spec.specs.Outputs.{Output}
+use Rattle.spec.specs.declared.Progress.TheVariants as Outs
 use Rattle.spec.specs.Machine.{Machine, idle, with_own, set_task, task_of}
 use Rattle.spec.specs.Words.{apply}
 use Rattle.spec.specs.Lines.{Effect, Next}
@@ -19,9 +19,9 @@ use Rattle.laws.specs.Tests.{at_miss, at_hit}
 
 -- the stepping task's, by its own steps before and the output: at the line that is said, with one own step more, or idle
 abbrev pub OwnAfter : ℕ → Task → Output → Type 0
-OwnAfter own d (Outs.At l) = (d.line ≡ l) × (d.own ≡ min (own + 1) 65535)
-OwnAfter own d (Outs.End a n full) = (d.running ≡ false) × (n ≡ min (own + 1) 65535)
-OwnAfter own d (Outs.Refuse n) = ⊥
+OwnAfter own d (Ok (Outs.At l)) = (d.line ≡ l) × (d.own ≡ min (own + 1) 65535)
+OwnAfter own d (Ok (Outs.End a n full)) = (d.running ≡ false) × (n ≡ min (own + 1) 65535)
+OwnAfter own d (Err n) = ⊥
 
 module _ (y : Machine) (p own : ℕ) (e : Effect) where
   pub accept_other : (q : ℕ) → ¬ (q ≡ p) → task_of (accept y p own e).machine q ≡ task_of y q

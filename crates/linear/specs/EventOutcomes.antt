@@ -1,8 +1,10 @@
 -- One event of a schedule, accepted or refused: its output, and the model's configuration before and after it. Assumes nothing.
-use Rattle.std.specs.Prelude.{◌≡◌, true, false, ℕ, ◌<◌}
+use Rattle.std.specs.Prelude.{◌≡◌, true, false, ℕ, ◌<◌, Ok, Err}
+use Rattle.spec.specs.declared.Refusal.{Refusal}
+use Rattle.spec.specs.declared.Refusal.TheVariants.{NoRecord, Spoilt}
 use Rattle.spec.specs.declared.Call.{Call}
-use Rattle.spec.specs.declared.Output.{Output}
-use Rattle.spec.specs.declared.Output.TheVariants as Outs
+use Rattle.spec.specs.Outputs.{Output}
+use Rattle.spec.specs.declared.Progress.TheVariants as Outs
 use Rattle.spec.specs.Machine.{Machine, task_of}
 use Rattle.spec.specs.StepRefusals.{all_held}
 use Rattle.spec.specs.Entries.{Reply}
@@ -16,22 +18,22 @@ use Rattle.linear.specs.FirstPositions.{first_of}
 
 -- an output that says a line says that of the task's position
 abbrev pub StandsAt : Output → Position → Type 0
-StandsAt (Outs.At n) l = (¬ (l ≡ no_call)) × (n ≡ line_at l)
-StandsAt (Outs.End a own full) l = Unit {0}
-StandsAt (Outs.Refuse r) l = Unit {0}
+StandsAt (Ok (Outs.At n)) l = (¬ (l ≡ no_call)) × (n ≡ line_at l)
+StandsAt (Ok (Outs.End a own full)) l = Unit {0}
+StandsAt (Err r) l = Unit {0}
 
 -- neither 7 nor 8
-abbrev pub Other : ℕ → Type 0
-Other r = (¬ (r ≡ 7)) × (¬ (r ≡ 8))
+abbrev pub Other : Refusal → Type 0
+Other r = (¬ (r ≡ NoRecord)) × (¬ (r ≡ Spoilt))
 
 pub data EventOutcome (y : Machine) (w : Configuration) : Event → Output → Configuration → Type 0 where
-  start_refused : (p : ℕ) (call : Call) (tag r : ℕ) → Other r → EventOutcome y w (starts p call tag) (Outs.Refuse r) (after_refusal w)
+  start_refused : (p : ℕ) (call : Call) (tag : ℕ) (r : Refusal) → Other r → EventOutcome y w (starts p call tag) (Err r) (after_refusal w)
   call_started : (p : ℕ) (call : Call) (tag n : ℕ) → p < 8 → w.position p ≡ no_call
-      → EventOutcome y w (starts p call tag) (Outs.At n) (after_start w p (first_of call tag))
+      → EventOutcome y w (starts p call tag) (Ok (Outs.At n)) (after_start w p (first_of call tag))
   -- the step of a task that does not run
-  step_refused : (p r : ℕ) → (task_of y p).running ≡ false → Other r → EventOutcome y w (steps p) (Outs.Refuse r) (after_refusal w)
+  step_refused : (p : ℕ) (r : Refusal) → (task_of y p).running ≡ false → Other r → EventOutcome y w (steps p) (Err r) (after_refusal w)
   -- of one that finds every record held
-  none_free : (p : ℕ) → (task_of y p).running ≡ true → all_held y (task_of y p) ≡ true → EventOutcome y w (steps p) (Outs.Refuse 7) (after_refusal w)
+  none_free : (p : ℕ) → (task_of y p).running ≡ true → all_held y (task_of y p) ≡ true → EventOutcome y w (steps p) (Err NoRecord) (after_refusal w)
   stepped : (p : ℕ) {o : Output} {v : Configuration} → p < 8 → (task_of y p).running ≡ true → Outcome w p (task_of y p).own o v
       → StandsAt o (v.position p) → EventOutcome y w (steps p) o v
 

@@ -1,9 +1,11 @@
 -- One event of a schedule is one transition of the model, the history tells of it what the model's configuration has, and it is not refused
 -- with 8. Assumes nothing.
+use Rattle.std.specs.Prelude.{Err}
 use Rattle.std.proofs.Math.Path.{◌≡◌}
 use mathlib.Core.List.{List}
 use Prim.Native.Nat.{ℕ, suc}
-use Rattle.spec.specs.declared.Output.TheVariants as Outs
+use Rattle.spec.specs.declared.Refusal.TheVariants.{Spoilt}
+use Rattle.spec.specs.declared.Progress.TheVariants as Outs
 use Rattle.spec.specs.Machine.{Machine}
 use Rattle.spec.specs.Entries.{Reply}
 use Rattle.spec.specs.Schedule.{Event}
@@ -24,4 +26,4 @@ pub record Before (n : ℕ) (last : ℕ → Started) (H : List Ended) (y : Machi
 -- ---- one event
 
 abbrev pub After : ℕ → (ℕ → Started) → List Ended → Event → Reply → Type 0
-After n last H e m = Before (suc n) (note n last e m.out) (tell n last H e m.out) m.machine × (¬ (m.out ≡ Outs.Refuse 8))
+After n last H e m = Before (suc n) (note n last e m.out) (tell n last H e m.out) m.machine × (¬ (m.out ≡ Err Spoilt))

@@ -1,19 +1,20 @@
 -- A contains has made so many steps at each of its lines, and line 13 has answered so: it ends with its third if 13 led to 18, with its fifth
 -- if it led to 15. It holds of the words alone: a task's record is changed by its own accepted steps only, and no line of a contains leads
 -- back. From 13 a filled place leads to 18, an empty one to 15; from there both ways lead to 18 in two steps. Assumes nothing.
-use Rattle.std.specs.Prelude.{ℕ, suc, ◌+◌, min, ◌≤◌, ◌<◌, ◌≡◌, List, [], ◌∷◌, Bool, length, if◌then◌else◌}
+use Rattle.std.specs.Prelude.{ℕ, suc, ◌+◌, min, ◌≤◌, ◌<◌, ◌≡◌, List, [], ◌∷◌, Bool, length, if◌then◌else◌, Option, Ok, Err}
 use Rattle.std.proofs.Math.Path.{refl}
 use Rattle.std.proofs.Common.{ap, ◌∙◌, inl, inr, arith}
 use Rattle.std.proofs.Math.Bool.{true, false}
 use Rattle.std.proofs.Math.Decide.{ℕ_discrete}
 use borrow.Author.Tests.{eq-eqb, ne_eqb}
+use Rattle.spec.specs.declared.Refusal.TheVariants.{NoTask, Running, Idle, NoRecord, Spoilt, Withdrawn}
+use Rattle.spec.specs.declared.Refusal.{Refusal}
 use Rattle.spec.specs.declared.Task.{Task}
 use Rattle.spec.specs.declared.Answer.{Answer}
 use Rattle.spec.specs.declared.Call.{Call}
 use Rattle.spec.specs.declared.Call.TheVariants.{Contains}
-use Rattle.spec.specs.declared.Occupancy.{Occupancy}
-use Rattle.spec.specs.declared.Output.{Output}
-use Rattle.spec.specs.declared.Output.TheVariants as Outs
+use Rattle.spec.specs.Outputs.{Output}
+use Rattle.spec.specs.declared.Progress.TheVariants as Outs
 use Rattle.spec.specs.Machine.{Machine, fresh_task, with_line, with_t, with_s, with_b, task_of, set_task}
 use Rattle.spec.specs.Words.{filled}
 use Rattle.spec.specs.Sound.{sound}
@@ -40,11 +41,11 @@ reached line accepted by = record { call = Contains; line = line; accepted = acc
 pub data Paced (r : Progress) : Type 0 where
   before_12 : r ≡ reached 12 0 [] → Paced r
   before_13 : r ≡ reached 13 1 [] → Paced r
-  before_15 : r ≡ reached 15 2 (Outs.At 15 ∷ []) → Paced r
-  before_16 : r ≡ reached 16 3 (Outs.At 15 ∷ []) → Paced r
-  before_17 : r ≡ reached 17 3 (Outs.At 15 ∷ []) → Paced r
-  filled_before_18 : r ≡ reached 18 2 (Outs.At 18 ∷ []) → Paced r
-  empty_before_18 : r ≡ reached 18 4 (Outs.At 15 ∷ []) → Paced r
+  before_15 : r ≡ reached 15 2 (Ok (Outs.At 15) ∷ []) → Paced r
+  before_16 : r ≡ reached 16 3 (Ok (Outs.At 15) ∷ []) → Paced r
+  before_17 : r ≡ reached 17 3 (Ok (Outs.At 15) ∷ []) → Paced r
+  filled_before_18 : r ≡ reached 18 2 (Ok (Outs.At 18) ∷ []) → Paced r
+  empty_before_18 : r ≡ reached 18 4 (Ok (Outs.At 15) ∷ []) → Paced r
 
 goes_on : {r : Progress} → Paced r → GoesOn r.by_13 r.accepted
 goes_on (before_12 e) = rw e (inl (refl, omega arith))
@@ -65,13 +66,13 @@ as_counted e t = rw e t
 
 -- an accepted step of a contains, by its output
 abbrev PacedOn : Progress → Output → Type 0
-PacedOn r (Outs.At l) = Paced (stepped l (Outs.At l) r)
-PacedOn r (Outs.End a n full) = ThreeOrFive (stepped 0 (Outs.End a n full) r).by_13 (suc r.accepted)
-PacedOn r (Outs.Refuse n) = Unit {0}
+PacedOn r (Ok (Outs.At l)) = Paced (stepped l (Ok (Outs.At l)) r)
+PacedOn r (Ok (Outs.End a n full)) = ThreeOrFive (stepped 0 (Ok (Outs.End a n full)) r).by_13 (suc r.accepted)
+PacedOn r (Err n) = Unit {0}
 
 module _ (y : Machine) (p : ℕ) (c : Task) where
   -- what the step at line 13 answers tells whether the place that it read was filled
-  answer_13 : c.line ≡ 13 → (accept y p c.own (effect y c)).out ≡ Outs.At (if filled (place_for y c.t c.tag) then 18 else 15)
+  answer_13 : c.line ≡ 13 → (accept y p c.own (effect y c)).out ≡ Ok (Outs.At (if filled (place_for y c.t c.tag) then 18 else 15))
   unfolding step_table accept finish line_13 with_line with_b
   answer_13 e = rw (does_at y c 13 e)
 
@@ -79,12 +80,12 @@ module _ (y : Machine) (p : ℕ) (c : Task) where
     at_line : {l n : ℕ} {by : List Output} → r ≡ reached l n by → c.line ≡ l
     at_line e = same_line ∙ ap (λ (x : Progress). x.line) e
 
-    from_13 : r ≡ reached 13 1 [] → (b : Bool) → PacedOn r (Outs.At (if b then 18 else 15))
+    from_13 : r ≡ reached 13 1 [] → (b : Bool) → PacedOn r (Ok (Outs.At (if b then 18 else 15)))
     unfolding stepped
     from_13 e true = filled_before_18 (rw e)
     from_13 e false = before_15 (rw e)
 
-    from_15 : r ≡ reached 15 2 (Outs.At 15 ∷ []) → (b : Bool) → PacedOn r (Outs.At (if b then 16 else 17))
+    from_15 : r ≡ reached 15 2 (Ok (Outs.At 15) ∷ []) → (b : Bool) → PacedOn r (Ok (Outs.At (if b then 16 else 17)))
     unfolding stepped
     from_15 e true = before_16 (rw e)
     from_15 e false = before_17 (rw e)
@@ -122,11 +123,11 @@ module _ (r : ℕ → Progress) (y : Machine) (eight : length y.state.task ≡ 8
   below_eight : (p : ℕ) → p < y.state.config.tasks → p < length y.state.task
   below_eight p a = let b = f.config.T_high in rw eight (omega arith)
 
-  refused_start : (p : ℕ) (call : Call) (tag k : ℕ) → PacedAfter r (starts p call tag) (refuse k y)
+  refused_start : (p : ℕ) (call : Call) (tag : ℕ) (k : Refusal) → PacedAfter r (starts p call tag) (refuse k y)
   unfolding refuse progress
   refused_start p call tag k = (paced, tt)
 
-  refused_step : (p k : ℕ) → PacedAfter r (steps p) (refuse k y)
+  refused_step : (p : ℕ) (k : Refusal) → PacedAfter r (steps p) (refuse k y)
   unfolding refuse progress
   refused_step p k = (paced, tt)
 
@@ -140,7 +141,7 @@ module _ (r : ℕ → Progress) (y : Machine) (eight : length y.state.task ≡ 8
 
   module _ (p : ℕ) (lt : p < y.state.config.tasks) where
     accepted_start : (call : Call) (tag : ℕ)
-        → PacedAfter r (starts p call tag) (record { out = Outs.At (started call tag).line; machine = set_task p (started call tag) y })
+        → PacedAfter r (starts p call tag) (record { out = Ok (Outs.At (started call tag).line); machine = set_task p (started call tag) y })
     unfolding progress begun
     accepted_start call tag = (λ q. go q (ℕ_discrete q p), tt)
       where
@@ -150,10 +151,10 @@ module _ (r : ℕ → Progress) (y : Machine) (eight : length y.state.task ≡ 8
         mine : task_of begins p ≡ started call tag
         mine = at_hit (refl, below_eight p lt) ((after_task y p (started call tag)).task_at p)
 
-        go : (q : ℕ) → Dec (q ≡ p) → ContainsPaced (progress r (starts p call tag) (Outs.At (started call tag).line)) begins q
+        go : (q : ℕ) → Dec (q ≡ p) → ContainsPaced (progress r (starts p call tag) (Ok (Outs.At (started call tag).line))) begins q
         go q (yes e) = rw (e, eq-eqb p p refl, mine) (λ running contains. first_paced call tag contains)
         go q (no d) =
-            other_paced begins (progress r (starts p call tag) (Outs.At (started call tag).line)) q
+            other_paced begins (progress r (starts p call tag) (Ok (Outs.At (started call tag).line))) q
             (at_miss (λ e. d e.0) ((after_task y p (started call tag)).task_at q)) (rw (ne_eqb q p d))
 
     abbrev after : Reply
@@ -164,9 +165,9 @@ module _ (r : ℕ → Progress) (y : Machine) (eight : length y.state.task ≡ 8
     other_after o q d = other_paced after.machine (progress r (steps p) o) q (accept_other y p (task_of y p).own (effect y (task_of y p)) q d) (go o)
       where
         go : (o : Output) → progress r (steps p) o q ≡ r q
-        go (Outs.At l) = rw (ne_eqb q p d)
-        go (Outs.End a n full) = rw (ne_eqb q p d)
-        go (Outs.Refuse n) = refl
+        go (Ok (Outs.At l)) = rw (ne_eqb q p d)
+        go (Ok (Outs.End a n full)) = rw (ne_eqb q p d)
+        go (Err n) = refl
 
     -- what is known of the stepping task if it is a contains, with the output of its step
     abbrev Going : Output → Type 0
@@ -179,16 +180,16 @@ module _ (r : ℕ → Progress) (y : Machine) (eight : length y.state.task ≡ 8
         let own = v.1 in
         (omega arith, pace_step y p (task_of y p) (r p) v.0 v.2)
 
-    went_on : (l : ℕ) → OwnAfter (task_of y p).own (task_of after.machine p) (Outs.At l) → Going (Outs.At l)
-        → (q : ℕ) → Dec (q ≡ p) → ContainsPaced (progress r (steps p) (Outs.At l)) after.machine q
+    went_on : (l : ℕ) → OwnAfter (task_of y p).own (task_of after.machine p) (Ok (Outs.At l)) → Going (Ok (Outs.At l))
+        → (q : ℕ) → Dec (q ≡ p) → ContainsPaced (progress r (steps p) (Ok (Outs.At l))) after.machine q
     unfolding progress stepped
     went_on l a v q (yes e) = rw (e, eq-eqb p p refl) (λ run contains. (a.0, a.1 ∙ (v contains).0, (v contains).1))
-    went_on l a v q (no d) = other_after (Outs.At l) q d
+    went_on l a v q (no d) = other_after (Ok (Outs.At l)) q d
 
-    has_ended : (a : Answer) (n : ℕ) (full : Occupancy) → (task_of after.machine p).running ≡ false
-        → (q : ℕ) → Dec (q ≡ p) → ContainsPaced (progress r (steps p) (Outs.End a n full)) after.machine q
+    has_ended : (a : Answer) (n : ℕ) (full : Option ℕ) → (task_of after.machine p).running ≡ false
+        → (q : ℕ) → Dec (q ≡ p) → ContainsPaced (progress r (steps p) (Ok (Outs.End a n full))) after.machine q
     has_ended a n full idle q (yes e) = rw e (λ run. absurd (tf run idle))
-    has_ended a n full idle q (no d) = other_after (Outs.End a n full) q d
+    has_ended a n full idle q (no d) = other_after (Ok (Outs.End a n full)) q d
 
     accepted_step : (task_of y p).running ≡ true → PacedAfter r (steps p) after
     unfolding progress stepped
@@ -197,24 +198,24 @@ module _ (r : ℕ → Progress) (y : Machine) (eight : length y.state.task ≡ 8
       where
         go : (o : Output) → OwnAfter (task_of y p).own (task_of after.machine p) o → Going o
             → ((q : ℕ) → ContainsPaced (progress r (steps p) o) after.machine q) × Exact (progress r (steps p) o) (steps p) o
-        go (Outs.At l) a v = (λ q. went_on l a v q (ℕ_discrete q p), rw (eq-eqb p p refl) (λ contains. goes_on (v contains).1))
-        go (Outs.End b n full) a v = (
+        go (Ok (Outs.At l)) a v = (λ q. went_on l a v q (ℕ_discrete q p), rw (eq-eqb p p refl) (λ contains. goes_on (v contains).1))
+        go (Ok (Outs.End b n full)) a v = (
           λ q. has_ended b n full a.0 q (ℕ_discrete q p),
           rw (eq-eqb p p refl) (λ contains. let own = a.1 ∙ (v contains).0 in (own, as_counted own (v contains).1)),
         )
-        go (Outs.Refuse n) a v = absurd a
+        go (Err n) a v = absurd a
 
   start_paced : (p : ℕ) (call : Call) (tag : ℕ) {m : Reply} → StartOutcome y p call tag m → PacedAfter r (starts p call tag) m
-  start_paced p call tag (start_no_task a) = refused_start p call tag 4
-  start_paced p call tag (start_running a b) = refused_start p call tag 5
-  start_paced p call tag (start_withdrawn a b c) = refused_start p call tag 14
+  start_paced p call tag (start_no_task a) = refused_start p call tag NoTask
+  start_paced p call tag (start_running a b) = refused_start p call tag Running
+  start_paced p call tag (start_withdrawn a b c) = refused_start p call tag Withdrawn
   start_paced p call tag (start_accepted a b c) = accepted_start p a call tag
 
   step_paced : (p : ℕ) {m : Reply} → StepOutcome y p m → PacedAfter r (steps p) m
-  step_paced p (step_no_task a) = refused_step p 4
-  step_paced p (step_idle a b) = refused_step p 6
-  step_paced p (step_unsound a b x) = refused_step p 8
-  step_paced p (step_all_held a b u x) = refused_step p 7
+  step_paced p (step_no_task a) = refused_step p NoTask
+  step_paced p (step_idle a b) = refused_step p Idle
+  step_paced p (step_unsound a b x) = refused_step p Spoilt
+  step_paced p (step_all_held a b u x) = refused_step p NoRecord
   step_paced p (step_accepted a b u x) = accepted_step p a b
 
 pub event_paced : (r : ℕ → Progress) (y : Machine) → sound y ≡ true → length y.state.task ≡ 8 → ((q : ℕ) → ContainsPaced r y q)
@@ -224,17 +225,17 @@ event_paced r y so eight paced (starts p call tag) = start_paced r y eight (soun
 event_paced r y so eight paced (steps p) = step_paced r y eight (sound_facts y so) paced p (step_outcome y p so)
 
 -- ---- the outputs tell the truth: an accepted step at line 13 answers 18 if the place that it read was filled, 15 if it was empty
-pub line_13_tells : (y : Machine) (p l : ℕ) → sound y ≡ true → (task_of y p).line ≡ 13 → (step y p).out ≡ Outs.At l
+pub line_13_tells : (y : Machine) (p l : ℕ) → sound y ≡ true → (task_of y p).line ≡ 13 → (step y p).out ≡ Ok (Outs.At l)
     → l ≡ (if filled (place_for y (task_of y p).t (task_of y p).tag) then 18 else 15)
 unfolding refuse
 line_13_tells y p l so at_13 = go (step_outcome y p so)
   where
-    refused : (k : ℕ) → Outs.Refuse k ≡ Outs.At l → ⊥
+    refused : (k : Refusal) → ◌≡◌ {A = Output} (Err k) (Ok (Outs.At l)) → ⊥
     refused k e = let z : ◌≡◌ {A = ℕ} 0 1 = cc in omega arith
 
-    go : {m : Reply} → StepOutcome y p m → m.out ≡ Outs.At l → l ≡ (if filled (place_for y (task_of y p).t (task_of y p).tag) then 18 else 15)
-    go (step_no_task a) e = absurd (refused 4 e)
-    go (step_idle a b) e = absurd (refused 6 e)
-    go (step_unsound a b x) e = absurd (refused 8 e)
-    go (step_all_held a b u x) e = absurd (refused 7 e)
+    go : {m : Reply} → StepOutcome y p m → m.out ≡ Ok (Outs.At l) → l ≡ (if filled (place_for y (task_of y p).t (task_of y p).tag) then 18 else 15)
+    go (step_no_task a) e = absurd (refused NoTask e)
+    go (step_idle a b) e = absurd (refused Idle e)
+    go (step_unsound a b x) e = absurd (refused Spoilt e)
+    go (step_all_held a b u x) e = absurd (refused NoRecord e)
     go (step_accepted a b u x) e = let q = answer_13 y p (task_of y p) at_13 in cc

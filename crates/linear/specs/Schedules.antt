@@ -1,8 +1,9 @@
 -- A whole schedule is simulated: by induction over its events. At its end the listed tags are those of the plain set after the
 -- model's order. Assumes nothing.
-use Rattle.std.specs.Prelude.{◌≡◌, ℕ, ◌≤◌, ◌<◌, length, drop}
+use Rattle.std.specs.Prelude.{◌≡◌, ℕ, ◌≤◌, ◌<◌, length, drop, Ok, Err}
 use Rattle.std.proofs.Common.{sym, ◌∙◌}
 use mathlib.Core.List.{List, [], ◌++◌}
+use Rattle.spec.specs.declared.Refusal.TheVariants.{ShortList}
 use Rattle.spec.specs.declared.Config.{Config}
 use Rattle.spec.specs.Machine.{Machine}
 use Rattle.spec.specs.Listed.{listed}
@@ -20,7 +21,6 @@ use Rattle.linear.specs.ListedTags.{in_set_abs}
 use Rattle.linear.specs.Simulates.{Simulates}
 use Rattle.spec.specs.Linearizable.{after}
 use Rattle.spec.specs.Entries.{list, opening}
-use Rattle.spec.specs.declared.Listing.TheVariants.{Count, Refused}
 use borrow.Author.Tests.{le-ltb, eq-eqb, le-leb, lt-leb}
 
 -- ---- all events
@@ -49,11 +49,11 @@ module _ (y : Machine) (H : List Ended) (z : AtEnd y H) where
       rw (ends_listed i.0 i.1) at b
 
   -- what a list writes, given 64 words or more; and given fewer
-  pub list_written : (w : List ℕ) → 64 ≤ length w → list y w ≡ record { says = Count (length (listed y)); words = listed y ++ drop (length (listed y)) w }
+  pub list_written : (w : List ℕ) → 64 ≤ length w → list y w ≡ record { says = Ok (length (listed y)); words = listed y ++ drop (length (listed y)) w }
   unfolding list
   list_written w h = rw (z.sim.sound_now, le-ltb 64 (length (listed y)) few_listed, le-leb 64 (length w) h)
 
-  pub list_short : (w : List ℕ) → length w < 64 → list y w ≡ record { says = Refused 9; words = w }
+  pub list_short : (w : List ℕ) → length w < 64 → list y w ≡ record { says = Err ShortList; words = w }
   unfolding list
   list_short w h = rw (z.sim.sound_now, le-ltb 64 (length (listed y)) few_listed, lt-leb 64 (length w) h)
 

@@ -1,12 +1,11 @@
 -- Each accepted step is one step of the model, and the words after it simulate the model after it. Assumes nothing.
-use Rattle.std.specs.Prelude.{◌≡◌, ◌⊎◌}
+use Rattle.std.specs.Prelude.{◌≡◌, ◌⊎◌, Option, ℕ, Ok}
 use Rattle.std.proofs.Math.Path.{refl, sym}
 use Rattle.std.proofs.Common.{◌∙◌}
 use Rattle.std.proofs.Math.Bool.{true}
 use Prim.Native.Nat.{ℕ, ◌+◌, min}
-use Rattle.spec.specs.declared.Occupancy.{Occupancy}
-use Rattle.spec.specs.declared.Output.{Output}
-use Rattle.spec.specs.declared.Output.TheVariants as Outs
+use Rattle.spec.specs.Outputs.{Output}
+use Rattle.spec.specs.declared.Progress.TheVariants as Outs
 use Rattle.spec.specs.Machine.{Machine}
 use Rattle.spec.specs.Entries.{Reply}
 use Rattle.laws.specs.AfterWrites.{SameState, same_but}
@@ -24,12 +23,12 @@ use Rattle.linear.specs.KnownNodes.{Names, Known, head, behind, named}
 
 -- what a step says, and the configuration after it
 pub data Outcome (w : Configuration) (p own : ℕ) : Output → Configuration → Type 0 where
-  went_on : {n : ℕ} (g : Heap) (l : Position) → Step w.heap (w.position p) g l → Outcome w p own (Outs.At n) (after_step w p g l)
-  call_ended : {c : Call} {k : ℕ} {a : Answer} (g : Heap) → EndStep w.heap (w.position p) c k g a → {full : Occupancy}
-      → Outcome w p own (Outs.End a (min (own + 1) 65535) full) (after_end w p c k g a)
+  went_on : {n : ℕ} (g : Heap) (l : Position) → Step w.heap (w.position p) g l → Outcome w p own (Ok (Outs.At n)) (after_step w p g l)
+  call_ended : {c : Call} {k : ℕ} {a : Answer} (g : Heap) → EndStep w.heap (w.position p) c k g a → {full : Option ℕ}
+      → Outcome w p own (Ok (Outs.End a (min (own + 1) 65535) full)) (after_end w p c k g a)
   -- the head moves only with done
-  resize_ended : (a : Answer) (g : Heap) → Step w.heap (w.position p) g no_call → (g.head ≡ w.heap.head) ⊎ (a ≡ Done) → {full : Occupancy}
-      → Outcome w p own (Outs.End a (min (own + 1) 65535) full) (after_step w p g no_call)
+  resize_ended : (a : Answer) (g : Heap) → Step w.heap (w.position p) g no_call → (g.head ≡ w.heap.head) ⊎ (a ≡ Done) → {full : Option ℕ}
+      → Outcome w p own (Ok (Outs.End a (min (own + 1) 65535) full)) (after_step w p g no_call)
 
 pub record StepSimulated (w : Configuration) (p own : ℕ) (m : Reply) : Type 0 where
   pub configuration : Configuration

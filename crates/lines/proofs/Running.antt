@@ -1,16 +1,13 @@
 -- What a task that runs in sound memory has for its lines: its number, the head and the pools are in bounds, and its buckets are sound.
 -- Assumes nothing.
-use mathlib.Core.Path.{◌≡◌, refl}
-use mathlib.Core.List.{List, [], ◌∷◌}
-use mathlib.Core.Bool.{Bool, true, false, ◌||◌, false≢true}
+use mathlib.Core.Path.{◌≡◌}
+use mathlib.Core.List.{List}
+use mathlib.Core.Bool.{true}
 use Prim.Native.Nat.{ℕ, ◌-◌, ◌*◌, ◌<◌, ◌≤◌}
 use native.Mathlib.Omega.{arith}
-use borrow.Author.Tests.{eqb-true}
-use lib.Dec.{eqb}
 use lib.ListN.{length, drop}
 use Rattle.laws.specs.SoundBuckets.{bucket_words, facts_bucket}
 use Rattle.laws.specs.Soundness.{sound_facts}
-use Rattle.spec.specs.Lists.{member}
 use Rattle.spec.specs.Machine.{Machine}
 use Rattle.spec.specs.declared.Task.{Task}
 use Rattle.spec.specs.Sound.{sound_bucket}
@@ -54,14 +51,3 @@ module _ {y : Machine} {k : ℕ} {c : Task} {ls : List ℕ} (r : Runs y k c ls) 
             let i : l - 1 < y.state.buckets = omega arith in
             facts_bucket y w (l - 1) i (f.bucket (l - 1) i);
       }
-
--- ---- at which line it stands
-
--- the last of a procedure's lines, once the others are ruled out
-pub only : {l x : ℕ} → member l (x ∷ []) ≡ true → l ≡ x
-unfolding member
-only {l} {x} h = go (eqb l x) refl h
-  where
-    go : (b : Bool) → eqb l x ≡ b → (b || false) ≡ true → l ≡ x
-    go true e g = eqb-true l x e
-    go false e g = absurd (false≢true g)

@@ -1,33 +1,34 @@
 -- What a line may change of the state, stored in it: nothing after a refusal, and after an accepted line the same over any state that
 -- differs only in what the line gives. Assumes nothing.
+use Rattle.std.specs.Prelude.{ltb, Ok, Err}
 use mathlib.Core.Path.{◌≡◌, refl}
 use mathlib.Core.List.{List}
 use mathlib.Core.Bool.{true, false}
-use Prim.Native.Nat.{ℕ, ◌<◌, ◌≤◌}
+use Prim.Native.Nat.{ℕ, ◌<◌}
 use native.Mathlib.Omega.{arith}
-use borrow.Author.Tests.{le-ltb, ltb-true}
+use borrow.Author.Tests.{ltb-true}
 use lib.ListN.{set}
 use Rattle.spec.specs.Machine.{machine_of, state_head, state_last_node, state_last_bucket, state_task}
 use Rattle.spec.specs.Entries.{Reply}
 use Rattle.spec.specs.declared.State.{State}
-use Rattle.spec.specs.declared.Output.{Output}
-use Rattle.spec.specs.declared.Output.TheVariants.{At, End, Refuse}
+use Rattle.spec.specs.Outputs.{Output}
+use Rattle.spec.specs.declared.Progress.TheVariants.{At, End}
+use Rattle.spec.specs.declared.Progress.{Progress}
 use Rattle.line_moves.specs.declared.Moved.{Moved}
 use Rattle.lines.specs.Reply.{changes, settled, moved_reply}
 
 -- ---- which answers change the state
 
-pub changes_past : (o : Output) (k : ℕ) → 8 ≤ k → changes o k ≡ false
-unfolding changes
-changes_past (At l) k h = le-ltb _ _ h
-changes_past (End a n full) k h = le-ltb _ _ h
-changes_past (Refuse w) k h = refl
-
 pub changes_below : (o : Output) (k : ℕ) → changes o k ≡ true → k < 8
 unfolding changes
-changes_below (At l) k h = ltb-true _ _ h
-changes_below (End a n full) k h = ltb-true _ _ h
-changes_below (Refuse w) k h = absurd (let z : ◌≡◌ {A = ℕ} 0 1 = cc in omega arith)
+changes_below (Ok (At l)) k h = ltb-true _ _ h
+changes_below (Ok (End a n full)) k h = ltb-true _ _ h
+changes_below (Err w) k h = absurd (let z : ◌≡◌ {A = ℕ} 0 1 = cc in omega arith)
+
+pub changes_ok : (p : Progress) (k : ℕ) → changes (Ok p) k ≡ ltb k 8
+unfolding changes
+changes_ok (At l) k = refl
+changes_ok (End a n full) k = refl
 
 -- ---- the state afterwards
 

@@ -22,20 +22,18 @@ pub struct Stepped {
 // ---- the state after a line
 
 // The answer of task k changes the state: it is no refusal, and there is such a task.
+#[tactic(auto, using(crate::proofs::Settling::changes_ok), unfolding(line_moves::specs::Moving::changes))]
 pub fn changes(out: Output, k: u32) -> bool
     ensures { result ≡ changes out k }
 {
-    if 8 <= k {
-        return false;
-    }
     match out {
-        Output::At(_) => true,
-        Output::End(_, _, _) => true,
-        Output::Refuse(_) => false,
+        Ok(_) => k < 8,
+        Err(_) => false,
     }
 }
 
-// The state after task k has moved so.
+// The state after task k has moved so. (Where a state is kept, in `schedule` and `dispatch_turns`, these words are stored in place: a state lent to a function
+// that indexes its tasks is copied.)
 pub fn settle(s: State, k: u32, m: Moved) -> Stepped
     ensures { (ns bs : List ℕ) → reply_of result ns bs ≡ moved_reply s k m ns bs }
 {
@@ -43,12 +41,10 @@ pub fn settle(s: State, k: u32, m: Moved) -> Stepped
     if !changes(out, k) {
         return Stepped { out, state: s };
     }
-    let x = m.task;
-    let j = k as usize;
     let mut t = s;
     t.head = m.head;
     t.last_node = m.last_node;
     t.last_bucket = m.last_bucket;
-    t.task[j] = x;
+    t.task[k as usize] = m.task;
     Stepped { out, state: t }
 }

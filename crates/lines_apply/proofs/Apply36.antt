@@ -2,16 +2,14 @@
 -- Assumes nothing.
 use Rattle.std.specs.Prelude.{if◌then◌else◌}
 use mathlib.Core.Path.{◌≡◌, refl, ◌∙◌}
-use mathlib.Core.List.{List, [], ◌∷◌}
+use mathlib.Core.List.{List}
 use mathlib.Core.Bool.{Bool, true, false, not, ◌&&◌, and-false}
-use mathlib.Core.Logic.{⊎_elim}
-use Prim.Native.Nat.{ℕ, ◌*◌, ◌<◌, ◌≤◌}
+use Prim.Native.Nat.{ℕ, ◌+◌, ◌*◌, ◌<◌, ◌≤◌}
 use native.Mathlib.Omega.{arith}
 use borrow.Author.Tests.{eq-eqb, ne_eqb}
-use denote.Enum.Declared.{tag_of}
-use types.Run.{OneOf}
 use lib.Dec.{leb, eqb}
 use lib.ListN.{length}
+use Rattle.spec.specs.declared.Refusal.TheVariants.{Spoilt}
 use Rattle.spec.specs.Lists.{member, add_tag, remove_tag}
 use Rattle.spec.specs.Machine.{Machine, with_line, with_i, without_places}
 use Rattle.spec.specs.declared.Task.{Task}
@@ -24,16 +22,18 @@ use Rattle.spec.specs.Lines.{answer_36, insert_write, moves, answers_of, insert_
 use Rattle.spec.specs.StepRefusals.{overfull_36}
 use Rattle.spec.specs.Entries.{refuse, accept, step_running}
 use Rattle.bucket.specs.declared.Response.{Response}
-use Rattle.bucket.specs.declared.Response.TheVariants.{Yes, No, Frozen, Full}
-use Rattle.bucket.specs.contracts.Response.{the_type}
+use Rattle.bucket.specs.declared.Response.TheVariants.{Yes, No}
 use Rattle.pool.specs.Pool.{add_words, remove_answer, remove_words}
+use Rattle.lines_apply.specs.Invokes.{Invokes}
 
--- the answer is not Yes
-pub not_yes : (d : Response) → OneOf (1 ∷ 2 ∷ 3 ∷ []) (tag_of the_type d) → d ≡ Yes → ⊥
-not_yes Yes k e = ⊎_elim (λ z. omega arith) (⊎_elim (λ z. omega arith) (λ z. omega arith)) k
-not_yes No k e = let z : ◌≡◌ {A = ℕ} 0 1 = cc in omega arith
-not_yes Frozen k e = let z : ◌≡◌ {A = ℕ} 0 1 = cc in omega arith
-not_yes Full k e = let z : ◌≡◌ {A = ℕ} 0 1 = cc in omega arith
+-- ---- the task's bucket
+
+module _ {k : ℕ} {c : Task} {bs : List ℕ} (v : Invokes k c bs) where
+  pub filled : c.b ≡ 0 → ⊥
+  filled z = omega (arith, v.there)
+
+  pub fits : 66 * number c.b + 66 ≤ length bs
+  fits = omega (arith, v.there, v.fits)
 
 -- ---- what a bucket that is not frozen answers, and what it leaves
 
@@ -112,7 +112,7 @@ module _ (y : Machine) (k : ℕ) (c : Task) (h : c.line ≡ 36) (nb : c.b ≡ 0 
               let o : overfull_36 y c ≡ false = rw (ne_eqb _ _ nf, eq-eqb _ _ call, l) in
               passes o ∙ rw (ne_eqb _ _ nf, eq-eqb _ _ call, a_36)
 
-          pub over_36 : is_full ≡ true → step_running y k c ≡ refuse 8 y
+          pub over_36 : is_full ≡ true → step_running y k c ≡ refuse Spoilt y
           unfolding step_table overfull_36 tags_of
           over_36 l =
               let o : overfull_36 y c ≡ true = rw (ne_eqb _ _ nf, eq-eqb _ _ call, l, a_36) in

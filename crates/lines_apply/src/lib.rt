@@ -11,18 +11,15 @@ ghost use Rattle.lines_apply.specs.Invokes.{Invokes};
 
 use bucket::Response;
 use lines::Moved;
-use spec::{Answer, State, Task};
+use spec::{Answer, Refusal, State, Task};
 
 // b <- t.buckets[k mod t.size]; if b = nil (line 34) INITBUCKET
 pub fn line33(s: State, k: usize, c: Task, ns: &[u32]) -> Moved
     requires { (k < 8) × (c.line ≡ 33) }
     ensures { (bs : List ℕ) → Gives s k result ns.now bs (step_running (machine_of s ns.now bs) k c) }
 {
-    let t = c.t;
-    let g = s.config;
-    let z = pool::size_of(ns, t);
-    let i = bucket::slot(g, c.tag, z);
-    lines_contains::read_bucket(s, k, c, t, 36, i, 39, ns)
+    let i = bucket::slot(s.config, c.tag, pool::size_of(ns, c.t));
+    lines_contains::read_bucket(s, k, c, c.t, 36, i, 39, ns)
 }
 
 // INVOKE(b, op) of an insert, with b not frozen: the bucket is searched first, and the listed tags are counted for an absent tag alone.
@@ -32,7 +29,7 @@ fn insert36(s: State, k: usize, c: Task, ns: &[u32], bs: &mut [u32]) -> Moved
     ensures { Gives s k result ns.now bs.new (step_running (machine_of s ns.now bs.old) k c) }
 {
     let j = c.b as usize - 1;
-    let n = pool::word(bs, 66 * j + 1);
+    let n = pool::word(bs, pool::BUCKET_WORDS * j + 1);
     if pool::buckets::has_at(bs, j, c.tag) {
         return lines::end_counted(s, k, c, Answer::No, n);
     }
@@ -41,7 +38,7 @@ fn insert36(s: State, k: usize, c: Task, ns: &[u32], bs: &mut [u32]) -> Moved
         return lines::end_counted(s, k, c, Answer::Full, n);
     }
     if 64 <= n {
-        return lines::refused(s, 8);
+        return lines::refused(s, Refusal::Spoilt);
     }
     let d = pool::buckets::add_at(bs, j, c.tag);
     lines::end_counted(s, k, c, Answer::Yes, d.count)
@@ -54,11 +51,11 @@ fn remove36(s: State, k: usize, c: Task, bs: &mut [u32]) -> Moved
 {
     let j = c.b as usize - 1;
     let d = pool::buckets::remove_at(bs, j, c.tag);
-    let r = d.response;
-    if let Response::Yes = r {
-        return lines::end_counted(s, k, c, Answer::Yes, d.count);
-    }
-    lines::end_counted(s, k, c, Answer::No, d.count)
+    let a = match d.response {
+        Response::Yes => Answer::Yes,
+        _ => Answer::No,
+    };
+    lines::end_counted(s, k, c, a, d.count)
 }
 
 // INVOKE(b, op): a frozen bucket sends the task back to line 32
@@ -66,25 +63,24 @@ pub fn line36(s: State, k: usize, c: Task, ns: &[u32], bs: &mut [u32]) -> Moved
     requires { (k < 8) × (c.line ≡ 36) × (sound (machine_of s ns.now bs.old) ≡ true) × (c.b ≤ s.buckets) }
     ensures { Gives s k result ns.now bs.new (step_running (machine_of s ns.now bs.old) k c) }
 {
-    let b = c.b;
-    if b == 0 {
-        return lines::refused(s, 8);
-    }
-    let f = pool::word(bs, 66 * (b as usize - 1));
-    if f == 0 {
-        let mut x = c;
-        x.i = 0;
-        x.t = 0;
-        x.s = 0;
-        x.b = 0;
-        x.m = 0;
-        x.n = 0;
-        x.new_node = 0;
-        x.new_bucket = 0;
+    let Some(j) = c.b.checked_sub(1) else {
+        return lines::refused(s, Refusal::Spoilt);
+    };
+    if pool::word(bs, pool::BUCKET_WORDS * j as usize) == 0 {
+        let x = Task {
+            i: 0,
+            t: 0,
+            s: 0,
+            b: 0,
+            m: 0,
+            n: 0,
+            new_node: 0,
+            new_bucket: 0,
+            ..c
+        };
         return lines::go(s, k, x, 32);
     }
-    let call = c.call;
-    if call == 1 {
+    if c.call == 1 {
         return insert36(s, k, c, ns, bs);
     }
     remove36(s, k, c, bs)
@@ -95,8 +91,7 @@ pub fn step(s: State, k: usize, c: Task, ns: &[u32], bs: &mut [u32]) -> Moved
     requires { Runs (machine_of s ns.now bs.old) k c apply_lines }
     ensures { Gives s k result ns.now bs.new (step_running (machine_of s ns.now bs.old) k c) }
 {
-    let line = c.line;
-    match line {
+    match c.line {
         // t <- head
         32 => lines_contains::read_head(s, k, c, 33),
         33 => line33(s, k, c, ns),

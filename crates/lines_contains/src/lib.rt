@@ -11,16 +11,14 @@ ghost use Rattle.lines.specs.Running.{Runs, contains_lines};
 ghost use Rattle.lines_contains.specs.Reads.{reads_head, reads_bucket};
 
 use lines::Moved;
-use spec::{Answer, State, Task};
+use spec::{Answer, Refusal, State, Task};
 
 // t <- head, and on to line l
 pub fn read_head(s: State, k: usize, c: Task, l: u32) -> Moved
     requires { (k < 8) × (s.head < 64) }
     ensures { (ns bs : List ℕ) → Gives s k result ns bs (accept (machine_of s ns bs) k c.own (reads_head (machine_of s ns bs) c l)) }
 {
-    let mut x = c;
-    x.t = s.head + 1;
-    lines::go(s, k, x, l)
+    lines::go(s, k, Task { t: s.head + 1, ..c }, l)
 }
 
 // b <- node.buckets[k mod node.size], and on to the line `found`; if b = nil to the line `missing`, with this i
@@ -39,17 +37,13 @@ pub fn read_bucket(
         (reads_bucket (machine_of s ns.now bs) c node found i missing)) }
 {
     if node == 0 {
-        return lines::refused(s, 8);
+        return lines::refused(s, Refusal::Spoilt);
     }
-    let g = s.config;
-    let b = pool::place_for(ns, node, g, c.tag);
-    let mut x = c;
-    x.b = b;
+    let b = pool::place_for(ns, node, s.config, c.tag);
     if b == 0 {
-        x.i = i;
-        return lines::go(s, k, x, missing);
+        return lines::go(s, k, Task { b, i, ..c }, missing);
     }
-    lines::go(s, k, x, found)
+    lines::go(s, k, Task { b, ..c }, found)
 }
 
 // s <- t.pred
@@ -57,17 +51,12 @@ pub fn line15(s: State, k: usize, c: Task, ns: &[u32]) -> Moved
     requires { (k < 8) × (c.line ≡ 15) }
     ensures { (bs : List ℕ) → Gives s k result ns.now bs (step_running (machine_of s ns.now bs) k c) }
 {
-    let t = c.t;
-    if t == 0 {
-        return lines::refused(s, 8);
+    if c.t == 0 {
+        return lines::refused(s, Refusal::Spoilt);
     }
-    let p = pool::pred_of(ns, t);
-    let mut x = c;
-    x.s = p;
-    if p == 0 {
-        return lines::go(s, k, x, 17);
-    }
-    lines::go(s, k, x, 16)
+    let p = pool::pred_of(ns, c.t);
+    let l = if p == 0 { 17 } else { 16 };
+    lines::go(s, k, Task { s: p, ..c }, l)
 }
 
 // return HASMEMBER(b, k)
@@ -76,14 +65,15 @@ pub fn line18(s: State, k: usize, c: Task, bs: &[u32]) -> Moved
         × ((0 < c.b) → sound_bucket (drop (66 * (c.b - 1)) bs.now) ≡ true) }
     ensures { (ns : List ℕ) → Gives s k result ns bs.now (step_running (machine_of s ns bs.now) k c) }
 {
-    let b = c.b;
-    if b == 0 {
-        return lines::refused(s, 8);
-    }
-    if pool::buckets::has_at(bs, b as usize - 1, c.tag) {
-        return lines::end(s, k, c, Answer::Yes);
-    }
-    lines::end(s, k, c, Answer::No)
+    let Some(j) = c.b.checked_sub(1) else {
+        return lines::refused(s, Refusal::Spoilt);
+    };
+    let a = if pool::buckets::has_at(bs, j as usize, c.tag) {
+        Answer::Yes
+    } else {
+        Answer::No
+    };
+    lines::end(s, k, c, a)
 }
 
 // The line at which task k stands.
@@ -91,8 +81,7 @@ pub fn step(s: State, k: usize, c: Task, ns: &[u32], bs: &[u32]) -> Moved
     requires { Runs (machine_of s ns.now bs.now) k c contains_lines }
     ensures { Gives s k result ns.now bs.now (step_running (machine_of s ns.now bs.now) k c) }
 {
-    let line = c.line;
-    match line {
+    match c.line {
         // t <- head
         12 => read_head(s, k, c, 13),
         // b <- t.buckets[k mod t.size]; if b = nil (line 14) go on at 15

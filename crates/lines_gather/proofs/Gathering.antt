@@ -1,10 +1,10 @@
 -- The bucket that line 49 makes, from one or from two.
 -- Assumes nothing.
-use Rattle.std.specs.Prelude.{if◌then◌else◌}
+use Rattle.std.specs.Prelude.{if◌then◌else◌, Some, None}
 use mathlib.Core.Path.{◌≡◌, refl}
 use mathlib.Core.List.{List, [], ◌∷◌}
 use mathlib.Core.Bool.{Bool, true, false}
-use Prim.Native.Nat.{ℕ, suc, ◌+◌, ◌*◌, ◌<◌, ◌≤◌}
+use Prim.Native.Nat.{ℕ, suc, ◌+◌, ◌*◌, ◌≤◌}
 use native.Mathlib.Omega.{arith}
 use borrow.Author.Tests.{leb-true, leb-false}
 use lib.Dec.{leb}
@@ -13,8 +13,7 @@ use Rattle.spec.specs.Lists.{filter, union}
 use Rattle.spec.specs.Words.{tags, count, bucket_of}
 use Rattle.spec.specs.Sound.{sound_bucket}
 use Rattle.bucket.specs.declared.Bucket.{Bucket}
-use Rattle.bucket.specs.declared.Response.TheVariants.{Yes, Full}
-use Rattle.bucket.specs.Bucket.{tags_in, changed}
+use Rattle.bucket.specs.Bucket.{tags_in}
 use Rattle.bucket_copies.specs.Copies.{joined}
 use Rattle.pool.proofs.At.{few}
 use Rattle.lines_gather.specs.Made.{Makes}
@@ -33,33 +32,16 @@ unfolding tags
 few_tags w k s = rw (length-take (count w k) (drop (66 * k + 2) w)) (omega (arith, few w k s))
 
 -- from one bucket, and from two
-pub makes_one : (b : Bucket) (ts : List ℕ) → length ts ≤ 64 → b.words ≡ bucket_of 1 ts → Makes (changed b.words Yes) ts
-makes_one b ts l e = record { over = λ q. (let z : ◌≡◌ {A = ℕ} 0 1 = cc in absurd (omega arith)); fine = λ q. (l, e) }
+pub makes_one : (b : Bucket) (ts : List ℕ) → length ts ≤ 64 → b.words ≡ bucket_of 1 ts → Makes (Some b) ts
+makes_one b ts l e = (l, e)
 
-module _ (a b : Bucket) where
-  joined_full : (joined a b).answer ≡ Full → 64 < length (union (tags_in a.words) (tags_in b.words))
-  unfolding joined
-  joined_full = go (leb (length (union (tags_in a.words) (tags_in b.words))) 64) refl
-    where
-      go : (t : Bool) → leb (length (union (tags_in a.words) (tags_in b.words))) 64 ≡ t
-          → (if t then changed (bucket_of 1 (union (tags_in a.words) (tags_in b.words))) Yes else changed b.words Full).answer ≡ Full
-          → 64 < length (union (tags_in a.words) (tags_in b.words))
-      go true p e = let z : ◌≡◌ {A = ℕ} 0 1 = cc in absurd (omega arith)
-      go false p e = leb-false _ _ p
+pub makes_two : (a b : Bucket) → Makes (joined a b) (union (tags_in a.words) (tags_in b.words))
+unfolding joined
+makes_two a b = go (leb (length (union (tags_in a.words) (tags_in b.words))) 64) refl
+  where
+    both : List ℕ
+    both = union (tags_in a.words) (tags_in b.words)
 
-  joined_fine : ((joined a b).answer ≡ Full → ⊥)
-      → (length (union (tags_in a.words) (tags_in b.words)) ≤ 64) ×
-      ((joined a b).bucket.words ≡ bucket_of 1 (union (tags_in a.words) (tags_in b.words)))
-  unfolding joined
-  joined_fine = go (leb (length (union (tags_in a.words) (tags_in b.words))) 64) refl
-    where
-      go : (t : Bool) → leb (length (union (tags_in a.words) (tags_in b.words))) 64 ≡ t
-          → ((if t then changed (bucket_of 1 (union (tags_in a.words) (tags_in b.words))) Yes else changed b.words Full).answer ≡ Full → ⊥)
-          → (length (union (tags_in a.words) (tags_in b.words)) ≤ 64)
-          × ((if t then changed (bucket_of 1 (union (tags_in a.words) (tags_in b.words))) Yes else changed b.words Full).bucket.words ≡ bucket_of 1
-          (union (tags_in a.words) (tags_in b.words)))
-      go true p e = (leb-true _ _ p, refl)
-      go false p e = absurd (e refl)
-
-  pub makes_two : Makes (joined a b) (union (tags_in a.words) (tags_in b.words))
-  makes_two = record { over = joined_full; fine = joined_fine }
+    go : (t : Bool) → leb (length both) 64 ≡ t → Makes (if t then Some (record { words = bucket_of 1 both }) else None) both
+    go true p = (leb-true _ _ p, refl)
+    go false p = leb-false _ _ p

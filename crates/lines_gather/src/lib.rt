@@ -15,9 +15,9 @@ ghost use Rattle.spec.specs.declared.State.{State};
 ghost use Rattle.lines_gather.specs.Made.{Makes};
 ghost use Rattle.lines_gather.specs.Places.{with_field, place_tests, reads_place};
 
-use bucket::{Changed, Response};
+use bucket::Bucket;
 use lines::Moved;
-use spec::{Config, State, Task};
+use spec::{Config, Refusal, State, Task};
 
 // ---- lines of one shape: a place read into a field of the record, a bucket frozen
 
@@ -29,22 +29,15 @@ pub enum Field {
     N,
 }
 
+#[tactic(auto, unfolding(crate::specs::Places::with_field, spec::specs::Machine::with_b, spec::specs::Machine::with_m, spec::specs::Machine::with_n))]
 fn stored(c: Task, f: Field, v: u32) -> Task
     ensures { result ≡ with_field f v c }
 {
-    let mut x = c;
     match f {
-        Field::B => {
-            x.b = v;
-        }
-        Field::M => {
-            x.m = v;
-        }
-        Field::N => {
-            x.n = v;
-        }
+        Field::B => Task { b: v, ..c },
+        Field::M => Task { m: v, ..c },
+        Field::N => Task { n: v, ..c },
     }
-    x
 }
 
 // f <- node.buckets[i], and on to line l
@@ -62,16 +55,11 @@ pub fn read_place(
     ensures { (bs : List ℕ) → Gives s k result ns.now bs (tested (place_tests (machine_of s ns.now bs) node i)
         (machine_of s ns.now bs) k c (reads_place (machine_of s ns.now bs) c f node i l)) }
 {
-    if node == 0 {
-        return lines::refused(s, 8);
-    }
-    let z = pool::size_of(ns, node);
-    if z as usize <= i {
-        return lines::refused(s, 8);
+    if node == 0 || pool::size_of(ns, node) as usize <= i {
+        return lines::refused(s, Refusal::Spoilt);
     }
     let v = pool::place_of(ns, node, i as u32);
-    let x = stored(c, f, v);
-    lines::go(s, k, x, l)
+    lines::go(s, k, stored(c, f, v), l)
 }
 
 // FREEZE(b), and on to line l
@@ -80,10 +68,10 @@ fn freeze(s: State, k: usize, c: Task, b: u32, l: u32, bs: &mut [u32]) -> Moved
     ensures { (ns : List ℕ) → Gives s k result ns bs.new (tested (through b ∷ []) (machine_of s ns bs.old) k c
         (writes (freeze (number b)) (with_line l c))) }
 {
-    if b == 0 {
-        return lines::refused(s, 8);
-    }
-    pool::buckets::freeze_at(bs, b as usize - 1);
+    let Some(j) = b.checked_sub(1) else {
+        return lines::refused(s, Refusal::Spoilt);
+    };
+    pool::buckets::freeze_at(bs, j as usize);
     lines::go(s, k, c, l)
 }
 
@@ -94,16 +82,12 @@ pub fn line43(s: State, k: usize, c: Task, ns: &[u32]) -> Moved
     requires { (k < 8) × (c.line ≡ 43) }
     ensures { (bs : List ℕ) → Gives s k result ns.now bs (step_running (machine_of s ns.now bs) k c) }
 {
-    let p = c.s;
-    if p == 0 {
-        return lines::refused(s, 8);
+    if c.s == 0 {
+        return lines::refused(s, Refusal::Spoilt);
     }
-    let z = pool::size_of(ns, p);
-    let i = bucket::remainder(c.i, z);
-    let m = pool::place_of(ns, p, i);
-    let mut x = c;
-    x.m = m;
-    lines::go(s, k, x, 44)
+    let i = bucket::remainder(c.i, pool::size_of(ns, c.s));
+    let m = pool::place_of(ns, c.s, i);
+    lines::go(s, k, Task { m, ..c }, 44)
 }
 
 // n <- s.buckets[i + t.size]
@@ -111,31 +95,25 @@ pub fn line47(s: State, k: usize, c: Task, ns: &[u32]) -> Moved
     requires { (k < 8) × (c.line ≡ 47) }
     ensures { (bs : List ℕ) → Gives s k result ns.now bs (step_running (machine_of s ns.now bs) k c) }
 {
-    let t = c.t;
-    if t == 0 {
-        return lines::refused(s, 8);
+    if c.t == 0 {
+        return lines::refused(s, Refusal::Spoilt);
     }
-    let i = c.i;
-    let z = pool::size_of(ns, t);
-    let j = i as usize + z as usize;
-    read_place(s, k, c, Field::N, c.s, j, 48, ns)
+    let i = c.i as usize + pool::size_of(ns, c.t) as usize;
+    read_place(s, k, c, Field::N, c.s, i, 48, ns)
 }
 
-// The bucket that line 49 makes, or that the tags are too many for one.
-fn new_bucket_of(g: Config, c: Task, ns: &[u32], bs: &[u32]) -> Changed
+// The bucket that line 49 makes; None where the tags are too many for one.
+fn new_bucket_of(g: Config, c: Task, ns: &[u32], bs: &[u32]) -> Option<Bucket>
     requires { (0 < c.m) × (c.m ≤ 1024) × (c.n ≤ 1024) × (66 * c.m ≤ length bs.now) × (66 * c.n ≤ length bs.now)
         × (sound_bucket (drop (66 * (c.m - 1)) bs.now) ≡ true) × ((0 < c.n) → sound_bucket (drop (66 * (c.n - 1)) bs.now) ≡ true) }
     ensures { (s : State) → s.config ≡ g → Makes result (gathered (machine_of s ns.now bs.now) c) }
 {
-    let m = c.m;
-    let n = c.n;
-    let a = pool::buckets::load(bs, m as usize - 1);
-    if n == 0 {
-        let z = pool::size_of(ns, c.t);
-        let b = bucket_copies::split(a, g, z, c.i);
-        return bucket::answered(b, Response::Yes);
+    let a = pool::buckets::load(bs, c.m as usize - 1);
+    if c.n == 0 {
+        let split = bucket_copies::split(a, g, pool::size_of(ns, c.t), c.i);
+        return Some(split);
     }
-    let b = pool::buckets::load(bs, n as usize - 1);
+    let b = pool::buckets::load(bs, c.n as usize - 1);
     bucket_copies::union(a, b)
 }
 
@@ -144,31 +122,20 @@ pub fn line49(s: State, k: usize, c: Task, ns: &[u32], bs: &mut [u32]) -> Moved
     requires { (k < 8) × (c.line ≡ 49) × (sound (machine_of s ns.now bs.old) ≡ true) × (c.m ≤ s.buckets) × (c.n ≤ s.buckets) }
     ensures { Gives s k result ns.now bs.new (step_running (machine_of s ns.now bs.old) k c) }
 {
-    let t = c.t;
-    if t == 0 {
-        return lines::refused(s, 8);
+    if c.t == 0 || c.m == 0 {
+        return lines::refused(s, Refusal::Spoilt);
     }
-    let m = c.m;
-    if m == 0 {
-        return lines::refused(s, 8);
-    }
-    let h = s.config;
-    let g = new_bucket_of(h, c, ns, bs);
-    let d = g.answer;
-    if let Response::Full = d {
-        return lines::refused(s, 8);
-    }
-    let f = held::free_bucket_of(s, ns);
-    if f == 0 {
-        return lines::refused(s, 7);
-    }
-    let b = g.bucket;
-    pool::buckets::store_at(bs, f as usize - 1, b);
+    let Some(made) = new_bucket_of(s.config, c, ns, bs) else {
+        return lines::refused(s, Refusal::Spoilt);
+    };
+    let Some(f) = held::free_bucket_of(s, ns) else {
+        return lines::refused(s, Refusal::NoRecord);
+    };
+    pool::buckets::store_at(bs, f as usize, made);
     let mut u = s;
-    u.last_bucket = f - 1;
-    let mut x = c;
-    x.new_bucket = f;
-    lines::go(u, k, x, 50)
+    u.last_bucket = f;
+    let new_bucket = f + 1;
+    lines::go(u, k, Task { new_bucket, ..c }, 50)
 }
 
 // The line at which task k stands.
@@ -176,8 +143,7 @@ pub fn step(s: State, k: usize, c: Task, ns: &[u32], bs: &mut [u32]) -> Moved
     requires { Runs (machine_of s ns.now bs.old) k c gather_lines }
     ensures { Gives s k result ns.now bs.new (step_running (machine_of s ns.now bs.old) k c) }
 {
-    let line = c.line;
-    match line {
+    match c.line {
         43 => line43(s, k, c, ns),
         // FREEZE(m)
         44 => freeze(s, k, c, c.m, 49, bs),

@@ -4,39 +4,40 @@
 ghost use Rattle.std.specs.Prelude.{◌≡◌, List, ℕ, ◌<◌};
 ghost use Rattle.spec.specs.Sound.{resizes};
 ghost use Rattle.spec.specs.Machine.{machine_of};
+ghost use Rattle.spec.specs.declared.State.{State};
+ghost use Rattle.spec.specs.Lines.{after_40};
 ghost use Rattle.spec.specs.Entries.{step_running};
 ghost use Rattle.lines.specs.Reply.{Gives};
 ghost use Rattle.lines.specs.Running.{Runs, init_bucket_lines};
 
 use lines::Moved;
 use lines_gather::Field;
-use spec::{State, Task};
+use spec::{Refusal, State, Task};
+
+// The line after 40, where t's predecessor is p.
+#[tactic(auto, unfolding(spec::specs::Lines::after_40, spec::specs::Listed::size_of))]
+fn after_40(c: Task, p: u32, ns: &[u32]) -> u32
+    ensures { (s : State) (bs : List ℕ) → result ≡ after_40 (machine_of s ns.now bs) c p }
+{
+    if c.b != 0 || p == 0 {
+        51
+    } else if pool::size_of(ns, c.t) as usize == 2 * pool::size_of(ns, p) as usize {
+        43
+    } else {
+        46
+    }
+}
 
 // s <- t.pred, and the tests of lines 41 and 42
 pub fn line40(s: State, k: usize, c: Task, ns: &[u32]) -> Moved
     requires { (k < 8) × (c.line ≡ 40) }
     ensures { (bs : List ℕ) → Gives s k result ns.now bs (step_running (machine_of s ns.now bs) k c) }
 {
-    let t = c.t;
-    if t == 0 {
-        return lines::refused(s, 8);
+    if c.t == 0 {
+        return lines::refused(s, Refusal::Spoilt);
     }
-    let p = pool::pred_of(ns, t);
-    let b = c.b;
-    let mut x = c;
-    x.s = p;
-    if b != 0 {
-        return lines::go(s, k, x, 51);
-    }
-    if p == 0 {
-        return lines::go(s, k, x, 51);
-    }
-    let z = pool::size_of(ns, t);
-    let w = pool::size_of(ns, p);
-    if z as usize == 2 * (w as usize) {
-        return lines::go(s, k, x, 43);
-    }
-    lines::go(s, k, x, 46)
+    let p = pool::pred_of(ns, c.t);
+    lines::go(s, k, Task { s: p, ..c }, after_40(c, p, ns))
 }
 
 // CAS(t.buckets[i], nil, b')
@@ -44,24 +45,15 @@ pub fn line50(s: State, k: usize, c: Task, ns: &mut [u32]) -> Moved
     requires { (k < 8) × (c.line ≡ 50) }
     ensures { (bs : List ℕ) → Gives s k result ns.new bs (step_running (machine_of s ns.old bs) k c) }
 {
-    let t = c.t;
-    if t == 0 {
-        return lines::refused(s, 8);
+    let Some(t) = c.t.checked_sub(1) else {
+        return lines::refused(s, Refusal::Spoilt);
+    };
+    if c.new_bucket == 0 || pool::size_at(ns, t) <= c.i {
+        return lines::refused(s, Refusal::Spoilt);
     }
-    let b = c.new_bucket;
-    if b == 0 {
-        return lines::refused(s, 8);
-    }
-    let i = c.i;
-    let z = pool::size_of(ns, t);
-    if z <= i {
-        return lines::refused(s, 8);
-    }
-    let p = pool::place_of(ns, t, i);
-    if p == 0 {
-        let j = pool::number_of(t);
-        pool::put(ns, 34 * (j as usize) + 2 + i as usize, b);
-        return lines::go(s, k, c, 51);
+    if pool::place_at(ns, t, c.i) == 0 {
+        let place = pool::NODE_WORDS * t as usize + 2 + c.i as usize;
+        pool::put(ns, place, c.new_bucket);
     }
     lines::go(s, k, c, 51)
 }
@@ -69,10 +61,7 @@ pub fn line50(s: State, k: usize, c: Task, ns: &mut [u32]) -> Moved
 fn is_resize(call: u32) -> bool
     ensures { result ≡ resizes call }
 {
-    if call == 4 {
-        return true;
-    }
-    call == 5
+    matches!(call, 4 | 5)
 }
 
 // return t.buckets[i]
@@ -80,30 +69,25 @@ pub fn line51(s: State, k: usize, c: Task, ns: &[u32]) -> Moved
     requires { (k < 8) × (c.line ≡ 51) }
     ensures { (bs : List ℕ) → Gives s k result ns.now bs (step_running (machine_of s ns.now bs) k c) }
 {
-    let t = c.t;
-    if t == 0 {
-        return lines::refused(s, 8);
+    let z = pool::size_of(ns, c.t);
+    if c.t == 0 || z <= c.i {
+        return lines::refused(s, Refusal::Spoilt);
     }
-    let i = c.i;
-    let z = pool::size_of(ns, t);
-    if z <= i {
-        return lines::refused(s, 8);
-    }
-    let mut x = c;
-    x.b = 0;
-    x.s = 0;
-    x.m = 0;
-    x.n = 0;
-    x.new_bucket = 0;
+    let x = Task {
+        b: 0,
+        s: 0,
+        m: 0,
+        n: 0,
+        new_bucket: 0,
+        ..c
+    };
     if is_resize(c.call) {
-        x.i = i + 1;
-        if i + 1 < z {
-            return lines::go(s, k, x, 39);
-        }
-        return lines::go(s, k, x, 24);
+        let i = c.i + 1;
+        let l = if i < z { 39 } else { 24 };
+        return lines::go(s, k, Task { i, ..x }, l);
     }
-    x.b = pool::place_of(ns, t, i);
-    lines::go(s, k, x, 36)
+    let b = pool::place_of(ns, c.t, c.i);
+    lines::go(s, k, Task { b, ..x }, 36)
 }
 
 // The line at which task k stands; those from 43 to 49, and 52, are in `lines_gather`.
@@ -111,8 +95,7 @@ pub fn step(s: State, k: usize, c: Task, ns: &mut [u32], bs: &mut [u32]) -> Move
     requires { Runs (machine_of s ns.old bs.old) k c init_bucket_lines }
     ensures { Gives s k result ns.new bs.new (step_running (machine_of s ns.old bs.old) k c) }
 {
-    let line = c.line;
-    match line {
+    match c.line {
         // b <- t.buckets[i]
         39 => lines_gather::read_place(s, k, c, Field::B, c.t, c.i as usize, 40, ns),
         40 => line40(s, k, c, ns),

@@ -1,9 +1,8 @@
--- What line 27 makes a node of: a listed size, or 0.
+-- What line 27 makes a node of: a listed size, if there is one.
 -- Assumes nothing.
-use Rattle.std.specs.Prelude.{ℕ, ◌≡◌, true, false}
+use Rattle.std.specs.Prelude.{ℕ, ◌≡◌, true, false, Option, MatchOption}
 use Rattle.spec.specs.Sound.{listed_size}
 use Rattle.spec.specs.Lines.{resized}
 
-pub record Sized (call z r : ℕ) : Type 0 where
-  pub none : r ≡ 0 → listed_size (resized call z) ≡ false
-  pub some : (r ≡ 0 → ⊥) → (listed_size (resized call z) ≡ true) × (r ≡ resized call z)
+abbrev pub Sized : ℕ → ℕ → Option ℕ → Type 0
+Sized call z r = MatchOption r (listed_size (resized call z) ≡ false) (λ w. (listed_size (resized call z) ≡ true) × (w ≡ resized call z))

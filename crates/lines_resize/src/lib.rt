@@ -10,16 +10,14 @@ ghost use Rattle.lines.specs.Running.{Runs, resize_lines};
 ghost use Rattle.lines_resize.specs.Made.{Sized};
 
 use lines::Moved;
-use spec::{Answer, State, Task};
+use spec::{Answer, Refusal, State, Task};
 
 // Growing at 32 or shrinking at 1.
+#[tactic(auto, unfolding(spec::specs::Lines::at_limit))]
 fn at_limit(call: u32, z: u32) -> bool
     ensures { result ≡ at_limit call z }
 {
-    if call == 4 {
-        return z == 32;
-    }
-    z == 1
+    if call == 4 { z == 32 } else { z == 1 }
 }
 
 // t <- head, and the tests of lines 21 and 22
@@ -32,10 +30,7 @@ pub fn line20(s: State, k: usize, c: Task, ns: &[u32]) -> Moved
     if at_limit(c.call, z) {
         return lines::end(s, k, c, Answer::Limit);
     }
-    let mut x = c;
-    x.t = h;
-    x.i = 0;
-    lines::go(s, k, x, 39)
+    lines::go(s, k, Task { t: h, i: 0, ..c }, 39)
 }
 
 // t.pred <- nil
@@ -43,34 +38,23 @@ pub fn line24(s: State, k: usize, c: Task, ns: &mut [u32]) -> Moved
     requires { (k < 8) × (c.line ≡ 24) }
     ensures { (bs : List ℕ) → Gives s k result ns.new bs (step_running (machine_of s ns.old bs) k c) }
 {
-    let t = c.t;
-    if t == 0 {
-        return lines::refused(s, 8);
-    }
-    let j = pool::number_of(t);
-    pool::put(ns, 34 * (j as usize) + 1, 0);
+    let Some(t) = c.t.checked_sub(1) else {
+        return lines::refused(s, Refusal::Spoilt);
+    };
+    pool::put(ns, pool::NODE_WORDS * t as usize + 1, 0);
     lines::go(s, k, c, 27)
 }
 
-// Twice or half the size, if that is a listed one; else 0.
-fn new_size(call: u32, z: u32) -> u32
+// Twice or half the size, if that is a listed one.
+#[tactic(auto, using(crate::proofs::Sizes::big), unfolding(spec::specs::Lines::resized))]
+fn new_size(call: u32, z: u32) -> Option<u32>
     ensures { Sized call z result }
 {
-    if call == 4 {
-        if 16 < z {
-            return 0;
-        }
-        let w = 2 * z;
-        if sound_records::is_listed_size(w) {
-            return w;
-        }
-        return 0;
+    if call == 4 && 16 < z {
+        return None;
     }
-    let w = z / 2;
-    if sound_records::is_listed_size(w) {
-        return w;
-    }
-    0
+    let w = if call == 4 { 2 * z } else { z / 2 };
+    sound_records::is_listed_size(w).then_some(w)
 }
 
 // t' <- a new node of twice or half the size, with predecessor t
@@ -78,25 +62,20 @@ pub fn line27(s: State, k: usize, c: Task, ns: &mut [u32]) -> Moved
     requires { (k < 8) × (c.line ≡ 27) × (s.head < 64) × (s.nodes ≤ 64) × (s.last_node < s.nodes) × (length ns.old ≡ 34 * s.nodes) }
     ensures { (bs : List ℕ) → Gives s k result ns.new bs (step_running (machine_of s ns.old bs) k c) }
 {
-    let t = c.t;
-    if t == 0 {
-        return lines::refused(s, 8);
+    if c.t == 0 {
+        return lines::refused(s, Refusal::Spoilt);
     }
-    let z = pool::size_of(ns, t);
-    let w = new_size(c.call, z);
-    if w == 0 {
-        return lines::refused(s, 8);
-    }
-    let f = held::free_node_of(s, ns);
-    if f == 0 {
-        return lines::refused(s, 7);
-    }
-    pool::new_node(ns, f as usize - 1, w, t);
+    let Some(w) = new_size(c.call, pool::size_of(ns, c.t)) else {
+        return lines::refused(s, Refusal::Spoilt);
+    };
+    let Some(f) = held::free_node_of(s, ns) else {
+        return lines::refused(s, Refusal::NoRecord);
+    };
+    pool::new_node(ns, f as usize, w, c.t);
     let mut u = s;
-    u.last_node = f - 1;
-    let mut x = c;
-    x.new_node = f;
-    lines::go(u, k, x, 28)
+    u.last_node = f;
+    let new_node = f + 1;
+    lines::go(u, k, Task { new_node, ..c }, 28)
 }
 
 // CAS(head, t, t')
@@ -104,18 +83,12 @@ pub fn line28(s: State, k: usize, c: Task) -> Moved
     requires { (k < 8) × (c.line ≡ 28) × (s.head < 64) }
     ensures { (ns bs : List ℕ) → Gives s k result ns bs (step_running (machine_of s ns bs) k c) }
 {
-    let t = c.t;
-    if t == 0 {
-        return lines::refused(s, 8);
+    if c.t == 0 || c.new_node == 0 {
+        return lines::refused(s, Refusal::Spoilt);
     }
-    let n = c.new_node;
-    if n == 0 {
-        return lines::refused(s, 8);
-    }
-    let h = s.head + 1;
-    if h == t {
+    if s.head + 1 == c.t {
         let mut u = s;
-        u.head = n - 1;
+        u.head = c.new_node - 1;
         return lines::end(u, k, c, Answer::Done);
     }
     lines::end(s, k, c, Answer::Lost)
@@ -126,8 +99,7 @@ pub fn step(s: State, k: usize, c: Task, ns: &mut [u32]) -> Moved
     requires { (bs : List ℕ) × Runs (machine_of s ns.old bs) k c resize_lines }
     ensures { (bs : List ℕ) → Gives s k result ns.new bs (step_running (machine_of s ns.old bs) k c) }
 {
-    let line = c.line;
-    match line {
+    match c.line {
         20 => line20(s, k, c, ns),
         24 => line24(s, k, c, ns),
         27 => line27(s, k, c, ns),

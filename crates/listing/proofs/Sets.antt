@@ -1,6 +1,6 @@
 -- Sets of tags as lists: each once, put in one after the other; a set gathered in a bucket. Assumes nothing.
 use mathlib.Core.Path.{◌≡◌, refl, sym, ap, ◌∙◌}
-use mathlib.Core.Logic.{◌⊎◌, inl, inr}
+use mathlib.Core.Logic.{inl, inr}
 use mathlib.Core.List.{List, [], ◌∷◌, ◌++◌}
 use mathlib.Core.Bool.{Bool, true, false, ◌||◌, or_assoc}
 use Prim.Native.Nat.{ℕ, ◌+◌, ◌<◌, ◌≤◌}
@@ -17,10 +17,11 @@ use Rattle.bucket.specs.declared.Response.{Response}
 use Rattle.bucket.specs.declared.Response.TheVariants.{Yes, No, Frozen, Full}
 use Rattle.bucket.specs.Bucket.{added}
 use Rattle.bucket.proofs.Laws.{found_member}
-use Rattle.bucket.proofs.Fill.{adds as adds-fill, length_add, length_put}
-use Rattle.listing.specs.declared.Gathered.{Gathered}
-use Rattle.listing.specs.Listing.{add_to, adds, nothing}
-use Rattle.listing.proofs.Laws.{full_same, now_full, not_full_yet}
+use Rattle.bucket.proofs.Fill.{Adds, adds as adds-fill, length_add, length_put}
+use Rattle.std.specs.Prelude.{Option, Some, None, if◌then◌else◌, set, replicate}
+use Rattle.bucket.specs.declared.Bucket.{Bucket}
+use Rattle.bucket.specs.declared.Changed.{Changed}
+use Rattle.listing.specs.Listing.{is_full, add_to, adds, nothing}
 
 -- ---- each once
 
@@ -107,39 +108,48 @@ length_add_all ts (x ∷ xs) r d n =
 -- ---- gathered in a bucket
 
 -- the set is the list ts: too many, or those in the bucket
-pub record Holds (g : Gathered) (ts : List ℕ) : Type 0 where
+pub record Holds (g : Option Bucket) (ts : List ℕ) : Type 0 where
   pub up : ascending ts ≡ true
-  pub over : g.full ≡ true → 64 < length ts
-  pub fine : g.full ≡ false → (length ts ≤ 64) × (g.bucket.words ≡ bucket_of 1 ts)
+  pub over : g ≡ None → 64 < length ts
+  pub fine : (b : Bucket) → g ≡ Some b → (length ts ≤ 64) × (b.words ≡ bucket_of 1 ts)
 
-holds_one : (g : Gathered) (x : ℕ) (ts : List ℕ) → Holds g ts → Holds (add_to g x) (add_tag x ts)
-holds_one g x ts h = elim (bool? g.full) [
-  | inl f ↦ rw (full_same g x f) record {
-    up = ascending_add x ts h.up;
-    over = λ e. omega (arith, h.over e, length_add x ts);
-    fine = λ e. absurd (tf f e);
-  }
-  | inr f ↦ (
-      let d = added g.bucket x in
-      let a = adds-fill ts x (h.fine f).0 g.bucket (h.fine f).1 in
-      elim (full? d.answer) [
-        | inl q ↦ rw (now_full g x f d refl q) record { up = ascending_add x ts h.up; over = λ e. a.full q; fine = λ e. absurd (tf refl e) }
-        | inr q ↦ rw (not_full_yet g x f d refl q) record { up = ascending_add x ts h.up; over = λ e. absurd (tf e refl); fine = λ e. a.more q }
-      ]
-      )
-]
+some_none : (b : Bucket) → ◌≡◌ {A = Option Bucket} (Some b) None → ⊥
+some_none b e = let z : ◌≡◌ {A = ℕ} 0 1 = cc in omega arith
+
+holds_one : (g : Option Bucket) (x : ℕ) (ts : List ℕ) → Holds g ts → Holds (add_to g x) (add_tag x ts)
+unfolding add_to
+holds_one None x ts h =
+    record { up = ascending_add x ts h.up; over = λ e. omega (arith, h.over refl, length_add x ts); fine = λ b e. absurd (some_none b (sym e)) }
+holds_one (Some b) x ts h = go d.answer refl
   where
-    full? : (r : Response) → (r ≡ Full) ⊎ (r ≡ Full → ⊥)
-    full? Full = inl refl
-    full? Yes = inr (λ e. let z : ◌≡◌ {A = ℕ} 0 1 = cc in omega arith)
-    full? No = inr (λ e. let z : ◌≡◌ {A = ℕ} 0 1 = cc in omega arith)
-    full? Frozen = inr (λ e. let z : ◌≡◌ {A = ℕ} 0 1 = cc in omega arith)
+    d : Changed
+    d = added b x
 
-pub holds_all : (g : Gathered) (xs ts : List ℕ) → Holds g ts → Holds (adds g xs) (add_all ts xs)
+    a : Adds d ts x
+    a = adds-fill ts x (h.fine b refl).0 b (h.fine b refl).1
+
+    taken : (d.answer ≡ Full → ⊥) → Holds (Some d.bucket) (add_tag x ts)
+    taken n = record {
+      up = ascending_add x ts h.up;
+      over = λ e. absurd (some_none d.bucket e);
+      fine = λ c e. let q : d.bucket ≡ c = cc in rw (← q) (a.more n);
+    }
+
+    go : (r : Response) → d.answer ≡ r → Holds (if is_full r then None else Some d.bucket) (add_tag x ts)
+    go Full q = record { up = ascending_add x ts h.up; over = λ e. a.full q; fine = λ c e. absurd (some_none c (sym e)) }
+    go Yes q = taken (λ e. let z : ◌≡◌ {A = ℕ} 0 1 = cc in omega arith)
+    go No q = taken (λ e. let z : ◌≡◌ {A = ℕ} 0 1 = cc in omega arith)
+    go Frozen q = taken (λ e. let z : ◌≡◌ {A = ℕ} 0 1 = cc in omega arith)
+
+pub holds_all : (g : Option Bucket) (xs ts : List ℕ) → Holds g ts → Holds (adds g xs) (add_all ts xs)
 unfolding adds add_all
 holds_all g [] ts h = h
 holds_all g (x ∷ xs) ts h = holds_all (add_to g x) xs (add_tag x ts) (holds_one g x ts h)
 
 pub holds_none : Holds nothing []
 unfolding ascending bucket_of
-holds_none = record { up = refl; over = λ e. absurd (tf e refl); fine = λ e. (omega arith, refl) }
+holds_none = record {
+  up = refl;
+  over = λ e. absurd (some_none _ e);
+  fine = λ b e. let q : record { words = set (replicate 66 0) 0 1 } ≡ b = cc in rw (← q) (omega arith, refl);
+}

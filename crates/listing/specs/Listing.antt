@@ -1,14 +1,15 @@
 -- The tags in the set as the code meets them, for any words. In a sound machine they are `listed`, each once (proofs/Sound).
 -- Assumes nothing.
-use Rattle.std.specs.Prelude.{ℕ, zero, suc, List, [], ◌∷◌, ◌++◌, Bool, true, false, replicate, set, if◌then◌else◌}
+use Rattle.std.specs.Prelude.{ℕ, zero, suc, List, [], ◌∷◌, ◌++◌, Bool, true, false, replicate, set, if◌then◌else◌, Option, Some, None}
 use Rattle.spec.specs.declared.Config.{Config}
 use Rattle.spec.specs.Words.{number, filled, pred}
 use Rattle.bucket.specs.declared.Changed.{Changed}
 use Rattle.bucket.specs.declared.Response.{Response}
 use Rattle.bucket.specs.declared.Response.TheVariants.{Yes, No, Frozen, Full}
 use Rattle.bucket.specs.Bucket.{added}
+use Rattle.looked_up.specs.declared.NodeLookedAt.{NodeLookedAt}
 use Rattle.listing_place.specs.PlaceTags.{place_tags}
-use Rattle.listing.specs.declared.Gathered.{Gathered}
+use Rattle.bucket.specs.declared.Bucket.{Bucket}
 
 -- ---- the tags looked up at the places of a node, in a set opened so
 
@@ -16,6 +17,10 @@ use Rattle.listing.specs.declared.Gathered.{Gathered}
 unfoldable pub places_tags : Config → List ℕ → List ℕ → ℕ → ℕ → Bool → ℕ → ℕ → List ℕ
 places_tags g ns bs head k old j zero = []
 places_tags g ns bs head k old j (suc n) = place_tags g ns bs head k old j ++ places_tags g ns bs head k old (suc j) n
+
+-- those of n places from j on of the node that is looked at
+abbrev pub tags_from : NodeLookedAt → ℕ → ℕ → List ℕ
+tags_from d = places_tags d.config d.nodes.now d.buckets.now d.head d.node d.old
 
 -- those of the head and of its predecessor
 unfoldable pub set_tags : Config → List ℕ → List ℕ → ℕ → List ℕ
@@ -31,15 +36,17 @@ is_full No = false
 is_full Frozen = false
 is_full Full = true
 
-abbrev pub after : Changed → Gathered
-after d = record { full = is_full d.answer; bucket = d.bucket }
+abbrev pub after : Changed → Option Bucket
+after d = if is_full d.answer then None else Some d.bucket
 
-unfoldable pub add_to : Gathered → ℕ → Gathered
-add_to g x = if g.full then g else after (added g.bucket x)
+-- the bucket with a tag more; None once it was full
+unfoldable pub add_to : Option Bucket → ℕ → Option Bucket
+add_to None x = None
+add_to (Some b) x = after (added b x)
 
-unfoldable pub adds : Gathered → List ℕ → Gathered
+unfoldable pub adds : Option Bucket → List ℕ → Option Bucket
 adds g [] = g
 adds g (x ∷ xs) = adds (add_to g x) xs
 
-abbrev pub nothing : Gathered
-nothing = record { full = false; bucket = record { words = set (replicate 66 0) 0 1 } }
+abbrev pub nothing : Option Bucket
+nothing = Some (record { words = set (replicate 66 0) 0 1 })

@@ -3,26 +3,40 @@
 // place is looked at once.
 #![tactic(auto)]
 
-ghost use Rattle.std.specs.Prelude.{◌≡◌, ◌≤◌, length};
-ghost use Rattle.listing_place.specs.PlaceTags.{place_tags};
-ghost use Rattle.listing.specs.Listing.{places_tags, set_tags, add_to, adds, nothing};
+ghost use Rattle.std.specs.Prelude.{◌≡◌, ◌≤◌, length, Some, false};
+ghost use Rattle.listing_place.specs.PlaceTags.{tags_at};
+ghost use Rattle.listing.specs.Listing.{tags_from, set_tags, add_to, adds, nothing};
 
 use bucket::{Bucket, Response};
 use listing_place::count_place;
-use looked_up::is_looked_up;
-use spec::{Config, State};
+use looked_up::NodeLookedAt;
+use spec::State;
+
+// The head as the node that is looked at.
+fn head_of<'a>(s: &State, ns: &'a [u32], bs: &'a [u32]) -> NodeLookedAt<'a>
+    ensures opened { (result.config ≡ s.now.config) × (result.nodes.now ≡ ns.now) × (result.buckets.now ≡ bs.now) }
+    ensures head { (result.head ≡ s.now.head) × (result.node ≡ s.now.head) × (result.old ≡ false) }
+{
+    NodeLookedAt {
+        config: s.config,
+        nodes: ns,
+        buckets: bs,
+        head: s.head,
+        node: s.head,
+        old: false,
+    }
+}
 
 // ---- how many
 
-fn count_node(g: Config, ns: &[u32], bs: &[u32], head: u32, k: u32, old: bool) -> u32
-    ensures { (result ≡ length (places_tags g ns.now bs.now head k old 0 32)) × (result ≤ 2048) }
+// (Compiled by itself: put into both of its calls it would make `yard_c` larger than a Cortex-M3 may have it.)
+#[inline(never)]
+fn count_node(n: &NodeLookedAt<'_>) -> u32
+    ensures { (result ≡ length (tags_from n.now 0 32)) × (result ≤ 2048) }
 {
     let mut found: u32 = 0;
-    let mut j: u32 = 0;
-    while j < pool::PLACES {
-        let n = count_place(g, ns, bs, head, k, old, j);
-        found += n;
-        j += 1;
+    for j in 0..pool::PLACES {
+        found += count_place(n, j);
     }
     found
 }
@@ -30,119 +44,81 @@ fn count_node(g: Config, ns: &[u32], bs: &[u32], head: u32, k: u32, old: bool) -
 pub fn count(s: State, ns: &[u32], bs: &[u32]) -> u32
     ensures { result ≡ length (set_tags s.config ns.now bs.now s.head) }
 {
-    let g = s.config;
-    let head = s.head;
-    let a = count_node(g, ns, bs, head, head, false);
-    let q = pool::pred_at(ns, head);
+    let head = head_of(&s, ns, bs);
+    let found = count_node(&head);
+    let q = pool::pred_at(ns, s.head);
     if q == 0 {
-        return a;
+        return found;
     }
-    let k = pool::number_of(q);
-    let b = count_node(g, ns, bs, head, k, true);
-    a + b
+    let node = pool::number_of(q);
+    found
+        + count_node(&NodeLookedAt {
+            node,
+            old: true,
+            ..head
+        })
 }
 
 // ---- which
 
-// A set of tags in a bucket, as long as they are at most 64.
-#[derive(Clone, Copy)]
-pub struct Gathered {
-    pub full: bool,
-    pub bucket: Bucket,
-}
-
-fn add_to(g: Gathered, tag: u32) -> Gathered
-    ensures { result ≡ add_to g tag }
+// The bucket with a tag more; None where it is full.
+#[tactic(auto, unfolding(crate::specs::Listing::add_to))]
+fn add_to(b: Bucket, tag: u32) -> Option<Bucket>
+    ensures { result ≡ add_to (Some b) tag }
 {
-    let full = g.full;
-    if full {
-        return g;
-    }
-    let b = g.bucket;
     let d = b.add(tag);
-    let k = d.answer;
-    let n = d.bucket;
-    if let Response::Full = k {
-        return Gathered {
-            full: true,
-            bucket: n,
-        };
-    }
-    Gathered {
-        full: false,
-        bucket: n,
+    match d.answer {
+        Response::Full => None,
+        Response::Yes | Response::No | Response::Frozen => Some(d.bucket),
     }
 }
 
-fn gather_place(
-    g: Config,
-    ns: &[u32],
-    bs: &[u32],
-    head: u32,
-    k: u32,
-    old: bool,
-    j: u32,
-    had: Gathered,
-) -> Gathered
-    ensures { result ≡ adds had (place_tags g ns.now bs.now head k old j) }
+fn gather_place(n: &NodeLookedAt<'_>, j: u32, had: Bucket) -> Option<Bucket>
+    ensures { result ≡ adds (Some had) (tags_at n.now j) }
 {
-    let l = pool::place_at(ns, k, j);
+    let l = pool::place_at(n.nodes, n.node, j);
     if l == 0 {
-        return had;
+        return Some(had);
     }
-    let b = pool::buckets::load(bs, l as usize - 1);
-    let w = b.words;
-    let n = b.count();
+    let b = pool::buckets::load(n.buckets, l as usize - 1);
     let mut out = had;
-    let mut i = 0;
-    while i < n {
-        let t = w[2 + i];
-        if is_looked_up(g, ns, head, k, old, j, t) {
-            let o = add_to(out, t);
-            out = o;
+    for t in b.tags() {
+        if n.looks_up(j, *t) {
+            out = add_to(out, *t)?;
         }
-        i += 1;
     }
-    out
+    Some(out)
 }
 
-fn gather_node(
-    g: Config,
-    ns: &[u32],
-    bs: &[u32],
-    head: u32,
-    k: u32,
-    old: bool,
-    had: Gathered,
-) -> Gathered
-    ensures { result ≡ adds had (places_tags g ns.now bs.now head k old 0 32) }
+fn gather_node(n: &NodeLookedAt<'_>, had: Bucket) -> Option<Bucket>
+    ensures { result ≡ adds (Some had) (tags_from n.now 0 32) }
 {
     let mut out = had;
-    let mut j: u32 = 0;
-    while j < pool::PLACES {
-        let o = gather_place(g, ns, bs, head, k, old, j, out);
-        out = o;
-        j += 1;
+    for j in 0..pool::PLACES {
+        out = gather_place(n, j, out)?;
     }
-    out
+    Some(out)
 }
 
-pub fn gather(s: State, ns: &[u32], bs: &[u32]) -> Gathered
+// All of them in a bucket; None where they are more than 64.
+pub fn gather(s: State, ns: &[u32], bs: &[u32]) -> Option<Bucket>
     ensures { result ≡ adds nothing (set_tags s.config ns.now bs.now s.head) }
 {
-    let g = s.config;
-    let head = s.head;
-    let mut w = [0u32; bucket::WORDS];
-    w[0] = 1;
-    let z = Gathered {
-        full: false,
-        bucket: Bucket { words: w },
-    };
-    let x = gather_node(g, ns, bs, head, head, false, z);
-    let q = pool::pred_at(ns, head);
+    let mut words = [0u32; bucket::WORDS];
+    words[0] = 1;
+    let head = head_of(&s, ns, bs);
+    let x = gather_node(&head, Bucket { words })?;
+    let q = pool::pred_at(ns, s.head);
     if q == 0 {
-        return x;
+        return Some(x);
     }
-    let k = pool::number_of(q);
-    gather_node(g, ns, bs, head, k, true, x)
+    let node = pool::number_of(q);
+    gather_node(
+        &NodeLookedAt {
+            node,
+            old: true,
+            ..head
+        },
+        x,
+    )
 }

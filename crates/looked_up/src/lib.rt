@@ -2,22 +2,28 @@
 #![tactic(auto)]
 
 ghost use Rattle.std.specs.Prelude.{◌≡◌};
-ghost use Rattle.looked_up.specs.LookedUp.{looked_up};
+ghost use Rattle.looked_up.specs.LookedUp.{looks_up};
 
 use spec::Config;
 
-// Place j of node k is where the tag is looked up. For the head's predecessor, `old`, the head's own place must be empty.
-pub fn is_looked_up(g: Config, ns: &[u32], head: u32, k: u32, old: bool, j: u32, tag: u32) -> bool
-    ensures { result ≡ looked_up g ns.now head k old j tag }
-{
-    let z = pool::size_at(ns, k);
-    let i = bucket::slot(g, tag, z);
-    if i != j {
-        return false;
+// A node whose places are looked at: the head, or the head's predecessor, `old`. With how the set was opened, and both pools.
+#[derive(Clone, Copy)]
+pub struct NodeLookedAt<'a> {
+    pub config: Config,
+    pub nodes: &'a [u32],
+    pub buckets: &'a [u32],
+    pub head: u32,
+    pub node: u32,
+    pub old: bool,
+}
+
+impl<'a> NodeLookedAt<'a> {
+    // Place j of the node is where the tag is looked up. For the head's predecessor the head's own place must be empty.
+    #[tactic(auto, unfolding(crate::specs::LookedUp::looked_up, crate::specs::LookedUp::left_over))]
+    pub fn looks_up(&self, j: u32, tag: u32) -> bool
+        ensures { result ≡ looks_up self.now j tag }
+    {
+        bucket::slot(self.config, tag, pool::size_at(self.nodes, self.node)) == j
+            && (!self.old || pool::place_for_at(self.nodes, self.head, self.config, tag) == 0)
     }
-    if old {
-        let p = pool::place_for_at(ns, head, g, tag);
-        return p == 0;
-    }
-    true
 }

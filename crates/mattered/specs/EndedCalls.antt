@@ -1,9 +1,9 @@
 -- "the list of ended calls, each as task, call, tag and answer in order of ending" (paper 02, U13), of all five calls: `ended_calls`, and
 -- when two such lists are the same. "Own steps and final memory are not compared": they are no part of an ended call. Assumes nothing.
-use Rattle.std.specs.Prelude.{ℕ, List, [], ◌∷◌, ◌++◌, Bool, true, false, ◌&&◌, eqb}
+use Rattle.std.specs.Prelude.{ℕ, List, [], ◌∷◌, ◌++◌, Bool, true, false, ◌&&◌, eqb, Ok, Err}
 use Rattle.spec.specs.declared.Task.{Task}
-use Rattle.spec.specs.declared.Output.{Output}
-use Rattle.spec.specs.declared.Output.TheVariants.{At, End, Refuse}
+use Rattle.spec.specs.Outputs.{Output}
+use Rattle.spec.specs.declared.Progress.TheVariants.{At, End}
 use Rattle.spec.specs.Numbers.{answer_number}
 use Rattle.spec.specs.Machine.{Machine, task_of}
 use Rattle.spec.specs.Schedule.{Event, event}
@@ -19,9 +19,9 @@ pub record EndedCall : Type 0 where
 -- "the accepted step that ends it gives its answer" (paper 01): what an output adds for task k, whose record before was c. The record has
 -- the call and the tag of the accepted start
 unfoldable pub ended_by : ℕ → Task → Output → List EndedCall
-ended_by k c (At l) = []
-ended_by k c (End a own full) = record { task = k; call = c.call; tag = c.tag; answer = answer_number a } ∷ []
-ended_by k c (Refuse r) = []
+ended_by k c (Ok (At l)) = []
+ended_by k c (Ok (End a own full)) = record { task = k; call = c.call; tag = c.tag; answer = answer_number a } ∷ []
+ended_by k c (Err r) = []
 
 -- the calls that end while the events are run, in order of ending
 unfoldable pub ended_calls : Machine → List Event → List EndedCall

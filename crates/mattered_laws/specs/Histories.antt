@@ -8,6 +8,8 @@ use Rattle.std.proofs.Math.Decide.{ℕ_discrete}
 use Rattle.std.proofs.lemmas.Bool.{not-false}
 use Rattle.std.proofs.Math.Dec.{ltb}
 use Rattle.std.proofs.Math.ListN.{get_or}
+use Rattle.spec.specs.declared.Refusal.{Refusal}
+use Rattle.spec.specs.declared.Refusal.TheVariants.{NoTask, Running, Idle, NoRecord, Spoilt, Withdrawn}
 use Rattle.spec.specs.declared.Answer.{Answer}
 use Rattle.spec.specs.declared.Call.{Call}
 use Rattle.spec.specs.declared.Call.TheVariants.{Insert, Remove, Contains, Grow, Shrink}
@@ -90,11 +92,11 @@ module _ (n : ℕ) (last : ℕ → Started) (H : List Ended) (y : Machine) (all 
     agree : AllAgree (note n last e m.out) m.machine
     ended : reverse (map told (tell n last H e m.out)) ≡ reverse (map told H) ++ filter of_set (ended_by (task_in e) (task_of y (task_in e)) m.out)
 
-  start_refused : (k : ℕ) (call : Call) (tag r : ℕ) → After (starts k call tag) (refuse r y)
+  start_refused : (k : ℕ) (call : Call) (tag : ℕ) (r : Refusal) → After (starts k call tag) (refuse r y)
   unfolding refuse note tell ended_by filter
   start_refused k call tag r = record { agree = all; ended = sym (append-nil _) }
 
-  step_refused : (k r : ℕ) → After (steps k) (refuse r y)
+  step_refused : (k : ℕ) (r : Refusal) → After (steps k) (refuse r y)
   unfolding refuse note tell ended_by filter
   step_refused k r = record { agree = all; ended = sym (append-nil _) }
 
@@ -102,10 +104,10 @@ module _ (n : ℕ) (last : ℕ → Started) (H : List Ended) (y : Machine) (all 
   unfolding start note tell ended_by filter
   start_told k call tag =
       let P : Reply → Type 0 = After (starts k call tag) in
-      choose P (not (sound y)) _ _ (λ a. start_refused k call tag 8) (λ a.
-      choose P (not (ltb k (task_count y))) _ _ (λ b. start_refused k call tag 4) (λ b.
-      choose P (task_of y k).running _ _ (λ c. start_refused k call tag 5) (λ c.
-      choose P (withdrawn y.state.config call tag) _ _ (λ d. start_refused k call tag 14) (λ d.
+      choose P (not (sound y)) _ _ (λ a. start_refused k call tag Spoilt) (λ a.
+      choose P (not (ltb k (task_count y))) _ _ (λ b. start_refused k call tag NoTask) (λ b.
+      choose P (task_of y k).running _ _ (λ c. start_refused k call tag Running) (λ c.
+      choose P (withdrawn y.state.config call tag) _ _ (λ d. start_refused k call tag Withdrawn) (λ d.
       record {
         agree =
             set_agrees last _ y y k (started call tag) refl (λ r. rw (eq-eqb k k refl) (start_agrees call tag n)) (λ q e. rw (ne_eqb q k e))
@@ -155,11 +157,11 @@ module _ (n : ℕ) (last : ℕ → Started) (H : List Ended) (y : Machine) (all 
   unfolding step step_running
   step_told k =
       let P : Reply → Type 0 = After (steps k) in
-      choose P (not (sound y)) _ _ (λ a. step_refused k 8) (λ a.
-      choose P (not (ltb k (task_count y))) _ _ (λ b. step_refused k 4) (λ b.
-      choose P (not (task_of y k).running) _ _ (λ c. step_refused k 6) (λ c.
-      choose P (unsound_step y (task_of y k)) _ _ (λ d. step_refused k 8) (λ d.
-      choose P (all_held y (task_of y k)) _ _ (λ f. step_refused k 7) (λ f.
+      choose P (not (sound y)) _ _ (λ a. step_refused k Spoilt) (λ a.
+      choose P (not (ltb k (task_count y))) _ _ (λ b. step_refused k NoTask) (λ b.
+      choose P (not (task_of y k).running) _ _ (λ c. step_refused k Idle) (λ c.
+      choose P (unsound_step y (task_of y k)) _ _ (λ d. step_refused k Spoilt) (λ d.
+      choose P (all_held y (task_of y k)) _ _ (λ f. step_refused k NoRecord) (λ f.
       accepted_told k (task_of y k).own (effect y (task_of y k)) (not-false _ c) (effect_keeps y (task_of y k)))))))
 
   event_told : (e : Event) → After e (event y e)

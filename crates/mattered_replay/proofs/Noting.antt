@@ -1,26 +1,32 @@
 -- One event run and noted: the call that an output ends, the turn of the loop that runs events, and whether memory is sound.
 -- Assumes nothing.
-use Prim.Native.Nat.{ℕ, ◌+◌, ◌*◌, ◌-◌, ◌≤◌, ◌<◌}
+use Rattle.std.specs.Prelude.{Option, Some, None, ℕ, Ok, Err}
+use Rattle.std.specs.Option.{is_some}
+use Prim.Native.Nat.{ℕ, ◌+◌, ◌*◌, ◌≤◌, ◌<◌}
 use mathlib.Core.Path.{◌≡◌, refl, sym, ap, ◌∙◌}
 use mathlib.Core.List.{List, [], ◌∷◌}
 use native.Mathlib.Omega.{arith}
+use mathlib.Core.Bool.{Bool, true, false, not}
+use borrow.Author.Tests.{ne_eqb}
 use lib.Dec.{eqb}
 use lib.ListN.{length, get_or}
+use Rattle.spec.specs.declared.Refusal.{Refusal}
 use Rattle.spec.specs.declared.Answer.{Answer}
 use Rattle.spec.specs.declared.Config.{Config}
 use Rattle.spec.specs.declared.Call.TheVariants.{Insert, Remove, Contains, Grow, Shrink}
-use Rattle.spec.specs.declared.Occupancy.{Occupancy}
-use Rattle.spec.specs.declared.Output.{Output}
-use Rattle.spec.specs.declared.Output.TheVariants.{At, End, Refuse}
+use Rattle.spec.specs.Outputs.{Output}
+use Rattle.spec.specs.declared.Progress.TheVariants.{At, End}
 use Rattle.spec.specs.declared.Task.{Task}
 use Rattle.spec.specs.Lists.{concat_map}
-use Rattle.spec.specs.Numbers.{answer_number}
+use Rattle.spec.specs.Numbers.{answer_number, refusal_number, opening_number}
 use Rattle.spec.specs.Machine.{Machine, idle, task_of}
 use Rattle.spec.specs.Words.{overwrite}
 use Rattle.spec.specs.Sound.{sound}
 use Rattle.spec.specs.Entries.{Reply, opening}
 use Rattle.spec.specs.Schedule.{Event, starts, steps, event, run}
-use Rattle.laws.specs.Tests.{choose}
+use Rattle.spec.specs.declared.Progress.{Progress}
+use Rattle.laws.specs.Tests.{tf, choose}
+use Rattle.laws.specs.RefusalNumbers.{never_0}
 use Rattle.known_memory.specs.EventSound.{event_sound, opening_known}
 use Rattle.session.specs.Transcript.{task_in}
 use Rattle.schedule_words.proofs.Laws.{over_none}
@@ -35,18 +41,18 @@ use Rattle.mattered_replay.proofs.EventsLeft.{left, left_start, left_out, left_o
 -- ---- the call that an output ends
 
 module _ (k : ℕ) (c : Task) {o : Output} (n : ℕ) (w : List ℕ) where
-  pub none_at : (l : ℕ) → o ≡ At l → NotedAfter (ended_by k c o) n w n w
+  pub none_at : (l : ℕ) {p : Progress} → o ≡ Ok p → p ≡ At l → NotedAfter (ended_by k c o) n w n w
   unfolding ended_by concat_map
-  none_at l e = rw e (omega arith, sym (over_none w (4 * n)))
+  none_at l e f = rw (e, f) (omega arith, sym (over_none w (4 * n)))
 
-  pub none_refused : (r : ℕ) → o ≡ Refuse r → NotedAfter (ended_by k c o) n w n w
+  pub none_refused : (r : Refusal) → o ≡ Err r → NotedAfter (ended_by k c o) n w n w
   unfolding ended_by concat_map
   none_refused r e = rw e (omega arith, sym (over_none w (4 * n)))
 
-  pub one_ended : (a : Answer) (own x : ℕ) (full : Occupancy) → o ≡ End a own full → x ≡ answer_number a → (w' : List ℕ)
+  pub one_ended : (a : Answer) (own x : ℕ) (full : Option ℕ) {p : Progress} → o ≡ Ok p → p ≡ End a own full → x ≡ answer_number a → (w' : List ℕ)
       → w' ≡ overwrite w (4 * n) (k ∷ c.call ∷ c.tag ∷ x ∷ []) → NotedAfter (ended_by k c o) n w (n + 1) w'
   unfolding ended_by concat_map
-  one_ended a own x full e q w' f = rw (e, ← q) (omega arith, f)
+  one_ended a own x full e g q w' f = rw (e, g, ← q) (omega arith, f)
 
 -- ---- an event
 
@@ -118,8 +124,15 @@ run_noted ws k n y y' same w {m = m} {v = v} l h few short room =
 
 -- ---- whether memory is sound
 
-pub known_opened : (g : Config) (ns bs : List ℕ) {r : ℕ} {y : Machine} → r ≡ (opening g ns bs).refusal → y ≡ (opening g ns bs).machine → eqb r 0 ≡ sound y
-known_opened g ns bs e f = ap (λ (x : ℕ). eqb x 0) e ∙ sym (opening_known g ns bs) ∙ ap sound (sym f)
+pub known_opened : (g : Config) (ns bs : List ℕ) (why : Option Refusal) {y : Machine} → opening_number why ≡ (opening g ns bs).refusal
+    → y ≡ (opening g ns bs).machine → (ok : Bool) → is_some why ≡ not ok → ok ≡ sound y
+known_opened g ns bs why e f ok none = none_by_0 why ok none ∙ ap (λ (x : ℕ). eqb x 0) e ∙ sym (opening_known g ns bs) ∙ ap sound (sym f)
+  where
+    none_by_0 : (why : Option Refusal) (ok : Bool) → is_some why ≡ not ok → ok ≡ eqb (opening_number why) 0
+    none_by_0 None true n = refl
+    none_by_0 None false n = absurd (tf n refl)
+    none_by_0 (Some r) true n = absurd (tf refl n)
+    none_by_0 (Some r) false n = sym (ne_eqb (refusal_number r) 0 (never_0 r))
 
 pub known_after : (p q : Noted) (v : Event) → q ≡ on_event p v → sound q.machine ≡ sound p.machine
 unfolding on_event

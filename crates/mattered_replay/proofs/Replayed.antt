@@ -1,13 +1,14 @@
 -- What a replay leaves: the machine of the run, the count and the words of the calls that end (`replayed`), whatever calls are noted before.
 -- Assumes nothing.
+use Rattle.std.specs.Prelude.{Ok, Err}
 use Prim.Native.Nat.{ℕ, ◌+◌, ◌*◌, ◌≤◌}
 use mathlib.Core.Path.{◌≡◌, refl, sym, ap, ◌∙◌}
 use mathlib.Core.List.{List, [], ◌∷◌, ◌++◌}
 use native.Mathlib.Omega.{arith}
 use lib.ListN.{length, take, length-append}
 use lib.Seq.{take_at}
-use Rattle.spec.specs.declared.Output.{Output}
-use Rattle.spec.specs.declared.Output.TheVariants.{At, End, Refuse}
+use Rattle.spec.specs.Outputs.{Output}
+use Rattle.spec.specs.declared.Progress.TheVariants.{At, End}
 use Rattle.spec.specs.declared.Task.{Task}
 use Rattle.spec.specs.Lists.{concat_map}
 use Rattle.spec.specs.Machine.{Machine, task_of}
@@ -40,9 +41,9 @@ words_front w xs m e = take_at (all_words xs) _ (4 * m) (let h = words_length xs
 
 pub ends_one : (k : ℕ) (c : Task) (o : Output) → length (ended_by k c o) ≤ 1
 unfolding ended_by
-ends_one k c (At l) = omega arith
-ends_one k c (End a own full) = omega arith
-ends_one k c (Refuse r) = omega arith
+ends_one k c (Ok (At l)) = omega arith
+ends_one k c (Ok (End a own full)) = omega arith
+ends_one k c (Err r) = omega arith
 
 -- ---- the whole
 

@@ -15,12 +15,21 @@ ghost use Rattle.mattered.specs.Mattered.{without};
 ghost use Rattle.mattered_replay.specs.Replay.{NotedAfter, RunNoted, noted, on_event};
 
 use lines::Stepped;
-use schedule_events::Asked;
-use spec::{Config, Output, State, Task};
+use spec::{Config, Output, Progress, State, Task};
 
-// A run up to some event: the state, and how many calls are noted.
+// What is run, once and then without each step: after an opening with `config` the first `count` events of some words.
+#[derive(Clone, Copy)]
+pub struct Replay<'a> {
+    pub config: Config,
+    pub events: &'a [u32],
+    pub count: usize,
+    ghost few: { count ≤ 256 },
+}
+
+// A run up to some event: whether memory is sound, the state, and how many calls are noted.
 #[derive(Clone, Copy)]
 struct Run {
+    sound: bool,
     state: State,
     count: usize,
 }
@@ -29,103 +38,88 @@ struct Run {
 fn task_of(s: State, k: u32) -> Task
     ensures { result ≡ get_or s.task k idle }
 {
-    let j = k as usize;
-    if j < 8 {
-        return s.task[j];
-    }
-    state::idle()
-}
-
-// Runs one event, given by its words; `ok` says whether memory is sound.
-fn run_event(
-    ok: bool,
-    s: State,
-    kind: u32,
-    task: u32,
-    tag: u32,
-    ns: &mut [u32],
-    bs: &mut [u32],
-) -> Stepped
-    requires { ok ≡ sound (machine_of s ns.old bs.old) }
-    ensures { reply_of result ns.new bs.new ≡ event (machine_of s ns.old bs.old) (event_of kind task tag) }
-{
-    match schedule_events::asked_by(kind) {
-        Asked::Start(call) => known_memory::start(ok, s, task, call, tag),
-        Asked::Step => known_memory::step(ok, s, task, ns, bs),
+    match s.task.get(k as usize) {
+        Some(c) => *c,
+        None => state::idle(),
     }
 }
 
-// Notes the call that an output for task k ends, if it ends one, after n others; c is the task's record before. Gives how many are noted.
-fn note(calls: &mut [u32], n: usize, k: u32, c: Task, out: Output) -> usize
-    requires { (n < 256) × (4 * n + 4 ≤ length calls.old) }
-    ensures { NotedAfter (ended_by k c out) n calls.old result calls.new }
-{
-    match out {
-        Output::At(_) => n,
-        Output::End(a, _, _) => {
-            let x = schedule_words::answer_number(a);
-            schedule_words::write_words(calls, n, [k, c.call, c.tag, x]);
-            n + 1
+impl Run {
+    // What the next event gives, by its words.
+    fn event(self, kind: u32, task: u32, tag: u32, ns: &mut [u32], bs: &mut [u32]) -> Stepped
+        requires { self.sound ≡ sound (machine_of self.state ns.old bs.old) }
+        ensures { reply_of result ns.new bs.new ≡ event (machine_of self.state ns.old bs.old) (event_of kind task tag) }
+    {
+        match schedule_events::asked_by(kind) {
+            Some(call) => known_memory::start(self.sound, self.state, task, call, tag),
+            None => known_memory::step(self.sound, self.state, task, ns, bs),
         }
-        Output::Refuse(_) => n,
+    }
+
+    // Notes the call that an output for task k ends, if it ends one, after the others; c is the task's record before. Gives how many are noted.
+    fn note(self, k: u32, c: Task, out: Output, calls: &mut [u32]) -> usize
+        requires { (self.count < 256) × (4 * self.count + 4 ≤ length calls.old) }
+        ensures { NotedAfter (ended_by k c out) self.count calls.old result calls.new }
+    {
+        match out {
+            Ok(Progress::End(a, _, _)) => {
+                let x = schedule_words::answer_number(a);
+                schedule_words::write_words(calls, self.count, [k, c.call, c.tag, x]);
+                self.count + 1
+            }
+            Ok(Progress::At(_)) => self.count,
+            Err(_) => self.count,
+        }
+    }
+
+    // The run after event i of these words.
+    fn after(
+        self,
+        i: usize,
+        events: &[u32],
+        ns: &mut [u32],
+        bs: &mut [u32],
+        calls: &mut [u32],
+    ) -> Run
+        requires { (self.count ≤ i) × (i < 256) × (1024 ≤ length calls.old) × (self.sound ≡ sound (machine_of self.state ns.old bs.old)) }
+        ensures turn { (result.count ≤ self.count + 1)
+            × (noted (machine_of result.state ns.new bs.new) result.count calls.new
+            ≡ on_event (noted (machine_of self.state ns.old bs.old) self.count calls.old) (event_at events.now i)) }
+        ensures as_sound { result.sound ≡ self.sound }
+    {
+        let at = 4 * i;
+        let k = pool::word(events, at + 1);
+        let c = task_of(self.state, k);
+        let kind = pool::word(events, at);
+        let tag = pool::word(events, at + 2);
+        let d = self.event(kind, k, tag, ns, bs);
+        let count = self.note(k, c, d.out, calls);
+        Run {
+            state: d.state,
+            count,
+            ..self
+        }
     }
 }
 
-// Runs event i, where n calls are noted.
-fn run_one(
-    ok: bool,
-    s: State,
-    n: usize,
-    i: usize,
-    events: &[u32],
-    ns: &mut [u32],
-    bs: &mut [u32],
-    calls: &mut [u32],
-) -> Run
-    requires { (n ≤ i) × (i < 256) × (1024 ≤ length calls.old) × (ok ≡ sound (machine_of s ns.old bs.old)) }
-    ensures { (result.count ≤ n + 1)
-        × (noted (machine_of result.state ns.new bs.new) result.count calls.new
-        ≡ on_event (noted (machine_of s ns.old bs.old) n calls.old) (event_at events.now i)) }
-{
-    let at = 4 * i;
-    let k = pool::word(events, at + 1);
-    let c = task_of(s, k);
-    let kind = pool::word(events, at);
-    let tag = pool::word(events, at + 2);
-    let d = run_event(ok, s, kind, k, tag, ns, bs);
-    let out = d.out;
-    let count = note(calls, n, k, c, out);
-    let t = d.state;
-    Run { state: t, count }
-}
-
-// Opens with g, runs n events but for event k, all of them if k is n, and notes the calls that end. Gives how many ended.
-pub fn run_without(
-    g: Config,
-    k: usize,
-    n: usize,
-    events: &[u32],
-    ns: &mut [u32],
-    bs: &mut [u32],
-    calls: &mut [u32],
-) -> usize
-    requires { (n ≤ 256) × (1024 ≤ length calls.old) }
-    ensures { RunNoted (opening g ns.old bs.old).machine (without k (events_of n events.now)) n
+// Opens, runs the events but for event k, all of them if k is their number, and notes the calls that end. Gives how many ended, and
+// no slice of them: the clause tells the words past them too, and a lent slice that a result borrows from has no value at the return to tell.
+pub fn run_without(r: Replay, k: usize, ns: &mut [u32], bs: &mut [u32], calls: &mut [u32]) -> usize
+    requires { 1024 ≤ length calls.old }
+    ensures { RunNoted (opening r.entry.config ns.old bs.old).machine (without k (events_of r.entry.count r.entry.events.now)) r.entry.count
         calls.old result calls.new ns.new bs.new }
 {
-    let o = opening::open(g, ns, bs);
-    let ok = o.refusal == 0;
-    let mut t = o.state;
-    let mut count = 0;
-    let mut i = 0;
-    while i < n {
-        let next = i + 1;
-        if i != k {
-            let r = run_one(ok, t, count, i, events, ns, bs, calls);
-            count = r.count;
-            t = r.state;
+    let o = opening::open(r.config, ns, bs);
+    let mut run = Run {
+        sound: o.refusal.is_none(),
+        state: o.state,
+        count: 0,
+    };
+    for i in 0..r.count {
+        if i == k {
+            continue;
         }
-        i = next;
+        run = run.after(i, r.events, ns, bs, calls);
     }
-    count
+    run.count
 }

@@ -1,12 +1,14 @@
 -- Two lists of ended calls are the same exactly if their words are: `words_compared`. Assumes nothing.
-use Prim.Native.Nat.{suc, ◌*◌}
+use Rattle.std.specs.Prelude.{nat_eq}
+use Rattle.std.specs.Cmp.Lexicographic.{pointwise}
+use Prim.Native.Nat.{ℕ, suc, ◌*◌}
 use mathlib.Core.Path.{◌≡◌, refl, sym, ap, ◌∙◌}
 use mathlib.Core.List.{List, [], ◌∷◌}
 use mathlib.Core.Bool.{Bool, true, false, ◌&&◌}
 use native.Mathlib.Decide.{ℕ_discrete}
 use native.Mathlib.Omega.{arith}
 use borrow.Author.Tests.{eq-eqb, ne_eqb}
-use lib.Dec.{eqb}
+use lib.Dec.{eqb, eqb-suc-suc, eqb-suc-zero, eqb-zero-suc}
 use lib.ListN.{length}
 use Rattle.spec.specs.Lists.{concat_map}
 use Rattle.session.specs.Grammar.{starts_with, equals}
@@ -59,3 +61,19 @@ words_compared xs ys = go (ℕ_discrete (length xs) (length ys))
     go (no d) =
         let l : ¬ (length (all_words xs) ≡ length (all_words ys)) = λ e. d (omega (arith, a, b, e)) in
         rw (ne_eqb _ _ l) (sym (not_as_long xs ys d))
+
+-- what `==` says of two slices of words
+pub words_equal : (xs ys : List ℕ) → pointwise nat_eq xs ys ≡ equals ys xs
+unfolding equals starts_with
+words_equal [] [] = refl
+words_equal [] (y ∷ ys) = rw (eqb-zero-suc (length ys))
+words_equal (x ∷ xs) [] = rw (eqb-suc-zero (length xs))
+words_equal (x ∷ xs) (y ∷ ys) =
+    ap (λ (b : Bool). eqb x y && b) (words_equal xs ys)
+    ∙ swap (eqb x y) (eqb (length xs) (length ys)) (starts_with ys xs)
+    ∙ ap (λ (b : Bool). b && (eqb x y && starts_with ys xs)) (sym (eqb-suc-suc (length xs) (length ys)))
+  where
+    swap : (a l s : Bool) → (a && (l && s)) ≡ (l && (a && s))
+    swap true l s = refl
+    swap false true s = refl
+    swap false false s = refl

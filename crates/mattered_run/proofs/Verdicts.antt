@@ -8,6 +8,8 @@ use native.Mathlib.Omega.{arith}
 use borrow.Author.Tests.{lt-ltb, le-ltb, eq-eqb, ne_eqb}
 use lib.ListN.{length, get_or, take, drop}
 use lib.Seq.{get_or-drop}
+use Rattle.std.specs.declared.option.Option.{Option}
+use Rattle.std.specs.declared.option.Option.TheVariants.{Some, None}
 use Rattle.spec.specs.declared.Call.{Call}
 use Rattle.spec.specs.declared.Config.{Config}
 use Rattle.spec.specs.Machine.{Machine}
@@ -16,16 +18,14 @@ use Rattle.spec.specs.Entries.{Opened, opening}
 use Rattle.spec.specs.Schedule.{Event}
 use Rattle.session.specs.Grammar.{equals}
 use Rattle.session_lines.specs.Openings.{opening_same}
-use Rattle.schedule_events.specs.declared.Asked.{Asked}
-use Rattle.schedule_events.specs.declared.Asked.TheVariants.{Start, Step}
 use Rattle.schedule_events.specs.Events.{event_of, events_of, event_asked}
 use Rattle.schedule_events.specs.EventLaws.{events_length, event_at}
 use Rattle.mattered.specs.declared.Verdict.{Verdict}
-use Rattle.mattered.specs.declared.Verdict.TheVariants.{Place, NoStep, Refused}
+use Rattle.mattered.specs.declared.Verdict.TheVariants.{Place, Refused}
 use Rattle.mattered.specs.EndedCalls.{EndedCall, ended_calls}
 use Rattle.mattered.specs.Mattered.{is_step, step_at, without, alters, first_place, mattered}
 use Rattle.mattered.specs.SessionVerdict.{events_verdict, words_after}
-use Rattle.mattered_run.specs.Judged.{opened_events_verdict}
+use Rattle.mattered_run.specs.Judged.{said_of, opened_events_verdict}
 use Rattle.mattered_replay.specs.Replay.{all_words}
 use Rattle.mattered_replay.proofs.Replayed.{words_front}
 use Rattle.mattered_run.proofs.Compared.{words_compared}
@@ -48,16 +48,16 @@ step_there (suc k) (suc n) ws h =
     step_there k n (drop 4 ws) (omega arith) ∙ (λ i. is_step (event_of (first i) (at 1 i) (at 2 i)))
 
 -- its first word asks for a start, or for a step
-module _ (k n : ℕ) (ws : List ℕ) (h : k < n) {kind : ℕ} (at-kind : kind ≡ get_or ws (4 * k) 0) (a : Asked)
+module _ (k n : ℕ) (ws : List ℕ) (h : k < n) {kind : ℕ} (at-kind : kind ≡ get_or ws (4 * k) 0) (a : Option Call)
     (asks : (task tag : ℕ) → event_of kind task tag ≡ event_asked a task tag) (b : Bool) where
   first_word : event_at ws k ≡ event_asked a (get_or ws (4 * k + 1) 0) (get_or ws (4 * k + 2) 0)
   first_word = rw (← at-kind) (asks (get_or ws (4 * k + 1) 0) (get_or ws (4 * k + 2) 0))
 
-  pub no_step_there : (call : Call) → a ≡ Start call → false ≡ (step_at k (events_of n ws) && b)
+  pub no_step_there : (call : Call) → a ≡ Some call → false ≡ (step_at k (events_of n ws) && b)
   unfolding is_step event_asked
   no_step_there call e = rw (step_there k n ws h, first_word, e) refl
 
-  pub step_there_is : a ≡ Step → (s : Bool) → s ≡ b → s ≡ (step_at k (events_of n ws) && b)
+  pub step_there_is : a ≡ None → (s : Bool) → s ≡ b → s ≡ (step_at k (events_of n ws) && b)
   unfolding is_step event_asked
   step_there_is e s q = rw (step_there k n ws h, first_word, e) q
 
@@ -112,7 +112,7 @@ module _ (y : Machine) (es : List Event) (n : ℕ) where
     next : suc k ≡ k + 1
     next = omega arith
 
-    pub search_found : k < n → alters y es k ≡ true → Place (k + 1) ≡ mattered y es
+    pub search_found : k < n → alters y es k ≡ true → said_of (Some (k + 1)) ≡ mattered y es
     unfolding first_place
     search_found h a = sym (s.left ∙ rw (less h, a, next) refl)
 
@@ -120,7 +120,7 @@ module _ (y : Machine) (es : List Event) (n : ℕ) where
     unfolding first_place
     search_on h a = record { left = s.left ∙ rw (less h, a, next) refl }
 
-    pub search_end : n ≤ k → NoStep ≡ mattered y es
+    pub search_end : n ≤ k → said_of None ≡ mattered y es
     unfolding first_place
     search_end h = let z : n - k ≡ 0 = omega arith in sym (s.left ∙ rw z refl)
 

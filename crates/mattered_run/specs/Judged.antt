@@ -3,14 +3,21 @@
 use Rattle.std.specs.Prelude.{ℕ, ◌*◌, ◌+◌, ◌≤◌, ◌≡◌, refl, List, eqb, length, get_or, if◌then◌else◌}
 use Rattle.std.proofs.Common.{ap, ◌∙◌, arith}
 use Rattle.std.proofs.Math.ListN.{get_or-eq_default}
+use Rattle.std.specs.declared.option.Option.{Option}
+use Rattle.std.specs.declared.option.Option.TheVariants.{Some, None}
 use Rattle.spec.specs.declared.Config.{Config}
 use Rattle.spec.specs.Entries.{Opened, opening}
 use Rattle.spec.specs.Schedule.{Event, steps}
 use Rattle.schedule_events.specs.Events.{event_of}
 use Rattle.schedule_events.specs.EventLaws.{event_at}
 use Rattle.mattered.specs.declared.Verdict.{Verdict}
-use Rattle.mattered.specs.declared.Verdict.TheVariants.{Refused}
+use Rattle.mattered.specs.declared.Verdict.TheVariants.{Place, NoStep, Refused}
 use Rattle.mattered.specs.SessionVerdict.{events_verdict, words_after}
+
+-- what is said of a search: the place that it finds, or that there is none
+abbrev pub said_of : Option ℕ → Verdict
+said_of (Some place) = Place place
+said_of None = NoStep
 
 -- the opening's refusal; 15 for more than 256 events; the place, or none
 unfoldable pub opened_events_verdict : Opened → List Event → Verdict

@@ -9,109 +9,59 @@ ghost use Rattle.schedule_events.specs.Events.{events_of};
 ghost use Rattle.mattered.specs.EndedCalls.{ended_calls};
 ghost use Rattle.mattered.specs.Mattered.{step_at, without, mattered};
 ghost use Rattle.mattered_replay.specs.Replay.{all_words};
-ghost use Rattle.mattered_run.specs.Judged.{Judged};
+ghost use Rattle.mattered_run.specs.Judged.{said_of, Judged};
 
 use mattered::Verdict;
-use schedule_events::Asked;
+use mattered_replay::Replay;
 use spec::Config;
 
-// Room for the words of 256 ended calls. The `ensures` gives the length, which lending the array needs.
-fn room() -> [u32; 1024]
-    ensures { 1024 ≡ length result }
-{
-    [0; 1024]
-}
-
-// Whether two slices hold the same words.
-fn same_words(a: &[u32], b: &[u32]) -> bool
-    ensures { result ≡ equals b.now a.now }
-{
-    if a.len() != b.len() {
-        return false;
-    }
-    let mut i = 0;
-    while i < b.len() {
-        if a[i] != b[i] {
-            return false;
-        }
-        i += 1;
-    }
-    true
-}
-
-// Whether the calls that end without event k of n are those noted.
-fn same_without(
-    g: Config,
-    k: usize,
-    n: usize,
-    events: &[u32],
-    ns: &mut [u32],
-    bs: &mut [u32],
-    noted: &[u32],
-) -> bool
-    requires { n ≤ 256 }
+// Whether the calls that end without event k are those noted.
+fn same_without(r: Replay, k: usize, ns: &mut [u32], bs: &mut [u32], noted: &[u32]) -> bool
     ensures { result ≡ equals noted.now
-        (all_words (ended_calls (opening g ns.old bs.old).machine (without k (events_of n events.now)))) }
+        (all_words (ended_calls (opening r.entry.config ns.old bs.old).machine (without k (events_of r.entry.count r.entry.events.now)))) }
 {
-    let mut calls = room();
-    let m = mattered_replay::run_without(g, k, n, events, ns, bs, &mut calls);
-    let at = 4 * m;
-    same_words(&calls[..at], noted)
+    // four words for each of 256 ended calls
+    let mut calls = [0u32; 1024];
+    let m = mattered_replay::run_without(r, k, ns, bs, &mut calls);
+    &calls[..4 * m] == noted
 }
 
-// Whether event k of n is a step, and without it the calls that end are not those noted.
-fn matters(
-    g: Config,
-    k: usize,
-    n: usize,
-    events: &[u32],
-    ns: &mut [u32],
-    bs: &mut [u32],
-    noted: &[u32],
-) -> bool
-    requires { (k < n) × (n ≤ 256) }
-    ensures { result ≡ (step_at k (events_of n events.now)
+// Whether event k is a step, and without it the calls that end are not those noted.
+fn matters(r: Replay, k: usize, ns: &mut [u32], bs: &mut [u32], noted: &[u32]) -> bool
+    requires { k < r.count }
+    ensures { result ≡ (step_at k (events_of r.entry.count r.entry.events.now)
         && not (equals noted.now
-        (all_words (ended_calls (opening g ns.old bs.old).machine (without k (events_of n events.now)))))) }
+        (all_words (ended_calls (opening r.entry.config ns.old bs.old).machine (without k (events_of r.entry.count r.entry.events.now)))))) }
 {
-    match schedule_events::asked_by(pool::word(events, 4 * k)) {
-        Asked::Start(_) => false,
-        Asked::Step => !same_without(g, k, n, events, ns, bs, noted),
+    match schedule_events::asked_by(pool::word(r.events, 4 * k)) {
+        Some(_) => false,
+        None => !same_without(r, k, ns, bs, noted),
     }
 }
 
-// The first of n events that is such a step.
-fn search(
-    g: Config,
-    n: usize,
-    events: &[u32],
-    ns: &mut [u32],
-    bs: &mut [u32],
-    noted: &[u32],
-) -> Verdict
-    requires { (n ≤ 256) × ((opening g ns.old bs.old).refusal ≡ 0)
-        × (noted.now ≡ all_words (ended_calls (opening g ns.old bs.old).machine (events_of n events.now))) }
-    ensures { result ≡ mattered (opening g ns.old bs.old).machine (events_of n events.now) }
+// The place, from 1, of the first event that is such a step.
+fn search(r: Replay, ns: &mut [u32], bs: &mut [u32], noted: &[u32]) -> Option<u32>
+    requires { ((opening r.config ns.old bs.old).refusal ≡ 0)
+        × (noted.now ≡ all_words (ended_calls (opening r.config ns.old bs.old).machine (events_of r.count r.events.now))) }
+    ensures { said_of result ≡ mattered (opening r.entry.config ns.old bs.old).machine (events_of r.entry.count r.entry.events.now) }
 {
-    let mut k: usize = 0;
-    while k < n {
-        if matters(g, k, n, events, ns, bs, noted) {
-            return Verdict::Place(k as u32 + 1);
+    for k in 0..r.count {
+        if matters(r, k, ns, bs, noted) {
+            return Some(k as u32 + 1);
         }
-        k += 1;
     }
-    Verdict::NoStep
+    None
 }
 
-// The earliest of n events that is a step whose omission alters the list of ended calls, after an opening with g and these pools.
-fn first_step(g: Config, n: usize, events: &[u32], ns: &mut [u32], bs: &mut [u32]) -> Verdict
-    requires { (n ≤ 256) × ((opening g ns.old bs.old).refusal ≡ 0) }
-    ensures { result ≡ mattered (opening g ns.old bs.old).machine (events_of n events.now) }
+// The place of the earliest event that is a step whose omission alters the list of ended calls, after an opening with these pools.
+fn first_step(r: Replay, ns: &mut [u32], bs: &mut [u32]) -> Option<u32>
+    requires { (opening r.config ns.old bs.old).refusal ≡ 0 }
+    ensures { said_of result ≡ mattered (opening r.entry.config ns.old bs.old).machine (events_of r.entry.count r.entry.events.now) }
 {
-    let mut calls = room();
-    let m = mattered_replay::run_without(g, n, n, events, ns, bs, &mut calls);
-    let at = 4 * m;
-    search(g, n, events, ns, bs, &calls[..at])
+    // four words for each of 256 ended calls
+    let mut calls = [0u32; 1024];
+    let m = mattered_replay::run_without(r, r.count, ns, bs, &mut calls);
+    search(r, ns, bs, &calls[..4 * m])
 }
 
 // Opens with g, which leaves nothing of the runs before it.
@@ -128,14 +78,21 @@ fn open_again(g: Config, ns: &mut [u32], bs: &mut [u32])
 pub fn earliest(g: Config, ns: &mut [u32], bs: &mut [u32], events: &[u32], n: usize) -> Verdict
     ensures { Judged g ns.old bs.old (events_of n events.now) result ns.new bs.new }
 {
-    let refusal = opening::refusal(g, ns.len(), bs.len());
-    if refusal != 0 {
-        return Verdict::Refused(refusal);
+    if let Some(why) = opening::refusal(g, ns.len(), bs.len()) {
+        return Verdict::Refused(why.number());
     }
     if mattered_standing::too_many(n) {
         return Verdict::Refused(15);
     }
-    let v = first_step(g, n, events, ns, bs);
+    let r = Replay {
+        config: g,
+        events,
+        count: n,
+    };
+    let found = first_step(r, ns, bs);
     open_again(g, ns, bs);
-    v
+    match found {
+        Some(place) => Verdict::Place(place),
+        None => Verdict::NoStep,
+    }
 }

@@ -2,7 +2,7 @@
 // where it stands after one line more. The words of the events are kept in mattered_text.
 #![tactic(auto)]
 
-ghost use Rattle.std.specs.Prelude.{◌≡◌, ◌+◌, min, ltb};
+ghost use Rattle.std.specs.Prelude.{◌≡◌, ◌+◌, min, ltb, false};
 ghost use Rattle.mattered_standing.specs.Standings.{standing, new_standing, after_event, after_header};
 
 use session::{Header, HeaderLine, HeaderStep};
@@ -18,38 +18,36 @@ pub struct Standing {
     pub count: usize,
 }
 
-fn stands(phase: Phase, header: Header, outside: bool, count: usize) -> Standing
-    ensures { result ≡ standing phase header outside count }
+// No event is read yet.
+fn begun(phase: Phase, header: Header) -> Standing
+    ensures { result ≡ standing phase header false 0 }
 {
     Standing {
         phase,
         header,
-        outside,
-        count,
+        outside: false,
+        count: 0,
     }
 }
 
 // No line is read yet.
+#[tactic(auto, unfolding(crate::specs::Standings::new_standing, session::specs::Header::empty_header))]
 pub fn new_standing() -> Standing
     ensures { result ≡ new_standing }
 {
-    let config = state::zero_config();
     let header = Header {
-        config,
+        config: state::zero_config(),
         nodes: 0,
         buckets: 0,
     };
-    stands(Phase::Due(HeaderLine::Tasks), header, false, 0)
+    begun(Phase::Due(HeaderLine::Tasks), header)
 }
 
 // One event more. Past 256 their number stays at 257.
 fn counted(n: usize) -> usize
     ensures { result ≡ min 257 (n + 1) }
 {
-    if n < 256 {
-        return n + 1;
-    }
-    257
+    n.min(256) + 1
 }
 
 // Of so many events no step is sought.
@@ -60,24 +58,35 @@ pub fn too_many(n: usize) -> bool
 }
 
 // After a line that is no header line: it is an event's, or outside the grammar.
-pub fn after_event(event: bool, h: Header, outside: bool, n: usize) -> Standing
-    ensures { result ≡ after_event event h outside n }
+#[tactic(auto, unfolding(crate::specs::Standings::after_event))]
+pub fn after_event(t: Standing, event: bool) -> Standing
+    ensures { result ≡ after_event event t.header t.outside t.count }
 {
+    let phase = Phase::Events;
     if event {
-        let next = counted(n);
-        return stands(Phase::Events, h, outside, next);
+        Standing {
+            phase,
+            count: counted(t.count),
+            ..t
+        }
+    } else {
+        Standing {
+            phase,
+            outside: true,
+            ..t
+        }
     }
-    stands(Phase::Events, h, true, n)
 }
 
 // After a line where a header line is due, by what it says. One that stands in the place of a header line that may be left out is an event's.
+#[tactic(auto, unfolding(crate::specs::Standings::after_header))]
 pub fn after_header(step: HeaderStep, header: Header, event: bool) -> Standing
     ensures { result ≡ after_header step header event }
 {
     match step {
-        HeaderStep::Next(due, h) => stands(Phase::Due(due), h, false, 0),
-        HeaderStep::Complete(h) => stands(Phase::Events, h, false, 0),
-        HeaderStep::Absent(h) => after_event(event, h, false, 0),
-        HeaderStep::Missing => stands(Phase::Stopped, header, false, 0),
+        HeaderStep::Next(due, h) => begun(Phase::Due(due), h),
+        HeaderStep::Complete(h) => begun(Phase::Events, h),
+        HeaderStep::Absent(h) => after_event(begun(Phase::Events, h), event),
+        HeaderStep::Missing => begun(Phase::Stopped, header),
     }
 }

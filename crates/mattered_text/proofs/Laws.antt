@@ -1,13 +1,18 @@
 -- A line taken, and the end of the input, by what the code's calls gave. Assumes nothing.
-use Prim.Native.Nat.{ℕ, ◌+◌, ◌*◌, ◌<◌, ◌≤◌}
+use Rattle.std.specs.Option.{is_some}
+use Rattle.std.specs.declared.option.Option.TheVariants.{Some, None}
+use Prim.Native.Nat.{ℕ, ◌*◌, ◌≤◌}
 use mathlib.Core.Path.{◌≡◌, refl, sym, ap, ◌∙◌}
 use mathlib.Core.List.{List}
 use mathlib.Core.Bool.{Bool, true, false, not, ◌||◌}
 use native.Mathlib.Omega.{arith}
-use borrow.Author.Tests.{le-leb, lt-leb, lt-ltb, le-ltb, eq-eqb, ne_eqb, eqb-true, eqb-false}
+use borrow.Author.Tests.{eq-eqb, ne_eqb, eqb-true, eqb-false}
 use lib.Dec.{eqb}
 use lib.ListN.{length, take, replicate, length-replicate}
-use Rattle.spec.specs.Words.{overwrite}
+use Rattle.std.specs.declared.option.Option.{Option}
+use Rattle.spec.specs.declared.Refusal.{Refusal}
+use Rattle.spec.specs.Numbers.{refusal_number, opening_number}
+use Rattle.laws.specs.RefusalNumbers.{accepts, refuses, never_0, not_0}
 use Rattle.spec.specs.Entries.{Opened, opening}
 use Rattle.spec.specs.Schedule.{Event}
 use Rattle.schedule_events.specs.Events.{events_of}
@@ -20,22 +25,7 @@ use Rattle.mattered.specs.declared.Verdict.{Verdict}
 use Rattle.mattered.specs.declared.Verdict.TheVariants.{Refused}
 use Rattle.mattered_run.specs.Judged.{Judged, opened_events_verdict}
 use Rattle.mattered_standing.specs.declared.Standing.{Standing}
-use Rattle.mattered_text.specs.Reading.{place, stored}
-use Rattle.mattered_text.specs.Reading.{header_complete, opened_says, said_at_end}
-
--- ---- an event's words, by how many events there were and how long the slice is
-module _ (w : List ℕ) (n : ℕ) (e : List ℕ) where
-  pub past_256 : 256 ≤ n → w ≡ stored w n e
-  unfolding stored
-  past_256 h = rw (le-ltb n 256 h)
-
-  pub no_room : n < 256 → length w < 4 * n + 4 → w ≡ stored w n e
-  unfolding stored
-  no_room h l = rw (lt-ltb n 256 h, lt-leb _ _ l)
-
-  pub over_written : n < 256 → 4 * n + 4 ≤ length w → (v : List ℕ) → v ≡ overwrite w (4 * n) e → v ≡ stored w n e
-  unfolding stored
-  over_written h l v g = g ∙ rw (lt-ltb n 256 h, le-leb _ _ l)
+use Rattle.mattered_text.specs.Reading.{place, header_complete, opened_says, said_at_end}
 
 -- ---- the opening
 
@@ -55,17 +45,22 @@ refused_at_opening h a b ea eb why e =
     ∙ ap (refusal_of h.config _) (eb ∙ pool_extent 66 200 h.buckets 13200 (omega arith) (λ l. omega arith))
     ∙ sym (opening_refusal h.config _ _)
 
+-- it gives no refusal, or one
+pub some_given : (why : Option Refusal) (n : ℕ) → opening_number why ≡ n → is_some why ≡ not (eqb n 0)
+some_given None n e = rw (eq-eqb n 0 (sym e))
+some_given (Some r) n e = rw (ne_eqb n 0 (not_0 e refl))
+
 -- ---- the end, after a complete header
 
 -- a line was outside the grammar: the opening's own number, or 10
-module _ (o : Opened) (outside : Bool) (es : List Event) (e : outside ≡ true) (why : ℕ) (same : why ≡ o.refusal) where
-  pub refused_with : (why ≡ 0 → ⊥) → Refused why ≡ opened_says o outside es
+module _ (o : Opened) (outside : Bool) (es : List Event) (given : outside ≡ true) {why : Option Refusal} (number : opening_number why ≡ o.refusal) where
+  pub opened_outside : why ≡ None → Refused 10 ≡ opened_says o outside es
   unfolding opened_says
-  refused_with r = rw (e, sym same, ne_eqb why 0 r)
+  opened_outside e = rw (given, eq-eqb o.refusal 0 (accepts number e))
 
-  pub refused_10 : why ≡ 0 → Refused 10 ≡ opened_says o outside es
+  pub refused_outside : (r : Refusal) → why ≡ Some r → Refused (refusal_number r) ≡ opened_says o outside es
   unfolding opened_says
-  refused_10 z = rw (e, sym same, eq-eqb why 0 z)
+  refused_outside r e = rw (given, ← refuses number e, ne_eqb (refusal_number r) 0 (never_0 r))
 
 -- none was: what was done over the session's part of the pools
 

@@ -1,6 +1,6 @@
 -- The events that the words keep are those that were read, as long as these are at most 256; so what is said of them is the same: `kept_verdict`.
 -- Assumes nothing.
-use Rattle.std.specs.Prelude.{ℕ, zero, suc, ◌+◌, ◌*◌, ◌<◌, ◌≤◌, min, ◌≡◌, refl, List, [], ◌∷◌, ◌++◌, Bool, true, false, ◌&&◌, ltb, leb, length, get_or, drop, if◌then◌else◌}
+use Rattle.std.specs.Prelude.{ℕ, zero, suc, ◌+◌, ◌*◌, ◌<◌, ◌≤◌, min, ◌≡◌, refl, List, [], ◌∷◌, ◌++◌, Bool, true, false, ◌&&◌, ltb, leb, length, get_or, drop, if◌then◌else◌, Option, Some, None}
 use Rattle.std.proofs.Common.{sym, ap, ◌∙◌, arith, le-leb, leb-true, lt-ltb, ltb-true, ltb-false, length-append, get_or-drop}
 use Rattle.spec.specs.Numbers.{call_number}
 use Rattle.spec.specs.Machine.{Machine}
@@ -10,7 +10,7 @@ use Rattle.laws.specs.Overwrite.{over_length, over_before, over_in}
 use Rattle.schedule_events.specs.Events.{event_of, events_of}
 use Rattle.schedule_events.specs.EventLaws.{event_at, events_length}
 use Rattle.session.specs.declared.EventLine.{EventLine}
-use Rattle.session.specs.declared.EventLine.TheVariants.{Start, Step, Outside}
+use Rattle.session.specs.declared.EventLine.TheVariants.{Start, Step}
 use Rattle.mattered.specs.SessionVerdict.{events_verdict}
 use Rattle.mattered_text.specs.Reading.{event_words, stored}
 
@@ -73,11 +73,11 @@ stored_length w n a b c = go (ltb n 256) (leb (4 * n + 4) (length w)) refl
     go false y e = refl
 
 -- whatever line it is
-pub words_length : (w : List ℕ) (n : ℕ) (x : EventLine) → length (stored w n (event_words x)) ≡ length w
+pub words_length : (w : List ℕ) (n : ℕ) (x : Option EventLine) → length (stored w n (event_words x)) ≡ length w
 unfolding event_words
-words_length w n (Start k call tag) = stored_length w n (call_number call) k tag
-words_length w n (Step k) = stored_length w n 0 k 0
-words_length w n Outside = stored_length w n 0 0 0
+words_length w n (Some (Start k call tag)) = stored_length w n (call_number call) k tag
+words_length w n (Some (Step k)) = stored_length w n 0 k 0
+words_length w n None = stored_length w n 0 0 0
 
 -- ---- n events are counted and words kept, and these are the events that were read
 

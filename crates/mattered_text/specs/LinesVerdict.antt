@@ -1,6 +1,6 @@
 -- Taken one after the other, with at least 1,024 words for events, whatever these hold, the lines of a session give its verdict:
 -- `lines_give_verdict`. Assumes nothing.
-use Rattle.std.specs.Prelude.{ℕ, ◌+◌, ◌≤◌, min, ◌≡◌, Bool, not, ◌&&◌, eqb, length, if◌then◌else◌}
+use Rattle.std.specs.Prelude.{ℕ, ◌+◌, ◌≤◌, min, ◌≡◌, Bool, not, ◌&&◌, eqb, length, if◌then◌else◌, Option, Some, None}
 use Rattle.std.proofs.Math.Path.{refl, ap}
 use Rattle.std.proofs.Common.{sym, ◌∙◌, arith}
 use mathlib.Core.List.{List, [], ◌∷◌, ◌++◌, append_assoc, append-nil}
@@ -13,7 +13,7 @@ use Rattle.spec.specs.Entries.{Opened}
 use Rattle.spec.specs.Schedule.{Event, starts, steps}
 use Rattle.schedule_events.specs.Events.{event_of, events_of}
 use Rattle.session.specs.declared.EventLine.{EventLine}
-use Rattle.session.specs.declared.EventLine.TheVariants.{Start, Step, Outside}
+use Rattle.session.specs.declared.EventLine.TheVariants.{Start, Step}
 use Rattle.session.specs.declared.Header.{Header}
 use Rattle.session.specs.declared.HeaderLine.{HeaderLine}
 use Rattle.session.specs.declared.HeaderLine.TheVariants.{Tasks}
@@ -84,11 +84,11 @@ module _ (h : Header) where
   outside_answered [] n w = refl
   outside_answered (l ∷ ls) n w = go (λ m v. outside_answered ls m v) (parse_event_line l)
     where
-      go : ((m : ℕ) (v : List ℕ) → answered (place (standing Events h true m) v) ls ≡ opened_says opened true []) → (x : EventLine)
+      go : ((m : ℕ) (v : List ℕ) → answered (place (standing Events h true m) v) ls ≡ opened_says opened true []) → (x : Option EventLine)
           → answered (place (after_event (is_event x) h true n) (stored w n (event_words x))) ls ≡ opened_says opened true []
-      go ih (Start k call tag) = ih _ _
-      go ih (Step k) = ih _ _
-      go ih Outside = ih _ _
+      go ih (Some (Start k call tag)) = ih _ _
+      go ih (Some (Step k)) = ih _ _
+      go ih None = ih _ _
 
   -- the opening was refused
   module _ (r : not (eqb opened.refusal 0) ≡ true) where
@@ -99,7 +99,7 @@ module _ (h : Header) where
     refused_answered [] false n w = rw (not-true (eqb opened.refusal 0) r)
     refused_answered (l ∷ ls) outside n w = go (λ o m v. refused_answered ls o m v) (is_event (parse_event_line l))
       where
-        x : EventLine
+        x : Option EventLine
         x = parse_event_line l
 
         go : ((o : Bool) (m : ℕ) (v : List ℕ) → answered (place (standing Events h o m) v) ls ≡ Refused opened.refusal) → (b : Bool)
@@ -122,13 +122,13 @@ module _ (h : Header) where
         ∙ ap (opened_says opened (not (all_events ls))) (append_assoc es (event_of a b c ∷ []) (events ls))
         ∙ ap (λ (x : Event). opened_says opened (not (all_events ls)) (es ++ (x ∷ events ls))) same
 
-    line_answered : (x : EventLine)
+    line_answered : (x : Option EventLine)
         → answered (place (after_event (is_event x) h false n) (stored w n (event_words x))) ls
         ≡ opened_says opened (not (is_event x && all_events ls)) (es ++ add_event x (events ls))
     unfolding after_event event_words opened_says is_event add_event
-    line_answered (Start t call tag) = event_answered (call_number call) t tag (starts t call tag) (start_words t call tag)
-    line_answered (Step t) = event_answered 0 t 0 (steps t) (step_words t)
-    line_answered Outside = outside_answered ls n _
+    line_answered (Some (Start t call tag)) = event_answered (call_number call) t tag (starts t call tag) (start_words t call tag)
+    line_answered (Some (Step t)) = event_answered 0 t 0 (steps t) (step_words t)
+    line_answered None = outside_answered ls n _
 
   events_answered : (ls : List InputLine) → Answers ls
   unfolding after_lines on_line after_line said_at_end header_complete all_events events
@@ -163,7 +163,7 @@ header_answered [] due h w fits = go (optional due)
     go false = refl
 header_answered (l ∷ ls) due h w fits = go (header_answered ls) (header_step due h l)
   where
-    x : EventLine
+    x : Option EventLine
     x = parse_event_line l
 
     next : List ℕ

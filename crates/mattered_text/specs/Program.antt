@@ -64,7 +64,7 @@ mattered_decides p d ls =
     let t = p.standing in ap verdict_line (verdict_decided t.phase t.header t.outside t.count p.words d ls)
 
 -- what is said at the end, after a line that is too long or not closed, or not
-ended_says : (q : Input) (p : Place) → said_at_end (not (cut_off q)) p ≡ answered p (last_lines q)
+pub ended_says : (q : Input) (p : Place) → said_at_end (not (cut_off q)) p ≡ answered p (last_lines q)
 unfolding last_lines admissible after_lines
 ended_says q p = go (cut_off q)
   where
@@ -85,10 +85,13 @@ answer_short (AtPlace n) =
 answer_short NoStep = omega arith
 answer_short (Refused r) = refusal_length r
 
+pub says_short : (p : Place) (q : Input) → length (says p (last_lines q)) ≤ 28
+says_short p q = answer_short (answered p (last_lines q))
+
 -- ---- the whole input, from whatever the lent words of events hold
 
 module _ (w : List ℕ) (fit : 1024 ≤ length w) where
-  whole_answer : (xs : List ℕ) → mattered_answer xs ≡ says (place new_standing w) (input_lines xs)
+  pub whole_answer : (xs : List ℕ) → mattered_answer xs ≡ says (place new_standing w) (input_lines xs)
   unfolding mattered_answer verdict
   whole_answer xs = sym (ap verdict_line (lines_give_verdict w fit (input_lines xs)))
 

@@ -1,13 +1,15 @@
 -- A session whose lines are read one after the other, with the words of at most 256 events kept, and what is said at the end: the definitions that
 -- the code is held to. That they give the verdict is shown in LinesVerdict. Assumes nothing.
-use Rattle.std.specs.Prelude.{ℕ, ◌+◌, ◌*◌, ◌≡◌, List, [], ◌∷◌, Bool, true, false, not, ◌&&◌, ◌||◌, eqb, ltb, leb, length, if◌then◌else◌}
+use Rattle.std.specs.Prelude.{ℕ, ◌+◌, ◌*◌, ◌≡◌, List, [], ◌∷◌, Bool, true, false, not, ◌&&◌, ◌||◌, eqb, ltb, leb, length, if◌then◌else◌, Option, Some, None}
+use Rattle.std.specs.declared.option.Option.{Option}
+use Rattle.std.specs.declared.option.Option.TheVariants.{Some, None}
 use Rattle.spec.specs.Numbers.{call_number}
 use Rattle.spec.specs.Words.{overwrite}
 use Rattle.spec.specs.Entries.{Opened}
 use Rattle.spec.specs.Schedule.{Event}
 use Rattle.schedule_events.specs.Events.{events_of}
 use Rattle.session.specs.declared.EventLine.{EventLine}
-use Rattle.session.specs.declared.EventLine.TheVariants.{Start, Step, Outside}
+use Rattle.session.specs.declared.EventLine.TheVariants.{Start, Step}
 use Rattle.session.specs.Grammar.{InputLine, parse_event_line}
 use Rattle.session.specs.Header.{optional, header_step}
 use Rattle.session.specs.Transcript.{is_event, session_opening}
@@ -30,10 +32,10 @@ place t w = record { standing = t; words = w }
 -- ---- the words of an event
 
 -- a kind, a task, a tag, and one that is not read (Events of schedule_events)
-unfoldable pub event_words : EventLine → List ℕ
-event_words (Start k call tag) = call_number call ∷ k ∷ tag ∷ 0 ∷ []
-event_words (Step k) = 0 ∷ k ∷ 0 ∷ 0 ∷ []
-event_words Outside = 0 ∷ 0 ∷ 0 ∷ 0 ∷ []
+unfoldable pub event_words : Option EventLine → List ℕ
+event_words (Some (Start k call tag)) = call_number call ∷ k ∷ tag ∷ 0 ∷ []
+event_words (Some (Step k)) = 0 ∷ k ∷ 0 ∷ 0 ∷ []
+event_words None = 0 ∷ 0 ∷ 0 ∷ 0 ∷ []
 
 -- the words with those of event n, from 0; past 256 events, or where the slice has no room, they are not kept
 unfoldable pub stored : List ℕ → ℕ → List ℕ → List ℕ

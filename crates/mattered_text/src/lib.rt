@@ -7,7 +7,6 @@ mod ending;
 pub mod program;
 
 ghost use Rattle.std.specs.Prelude.{◌≡◌};
-ghost use Rattle.spec.specs.Numbers.{call_number};
 ghost use Rattle.session.specs.Grammar.{closed_line};
 ghost use Rattle.session.specs.Transcript.{is_event};
 ghost use Rattle.mattered_text.specs.Reading.{event_words, stored, after_line, place, on_line, StandsAt};
@@ -15,78 +14,58 @@ ghost use Rattle.mattered_text.specs.Reading.{event_words, stored, after_line, p
 use mattered_standing::Standing;
 use session::EventLine;
 use session_state::Phase;
-use spec::Call;
-
-fn call_number(call: Call) -> u32
-    ensures { result ≡ call_number call }
-{
-    match call {
-        Call::Insert => 1,
-        Call::Remove => 2,
-        Call::Contains => 3,
-        Call::Grow => 4,
-        Call::Shrink => 5,
-    }
-}
 
 // The words that keep an event: a kind, a task, a tag, and one that is not read. A line outside the grammar has zeros.
-fn event_words(x: EventLine) -> [u32; 4]
+#[tactic(auto, unfolding(crate::specs::Reading::event_words))]
+fn event_words(x: Option<EventLine>) -> [u32; 4]
     ensures { result ≡ event_words x }
 {
     match x {
-        EventLine::Start(k, call, tag) => [call_number(call), k, tag, 0],
-        EventLine::Step(k) => [0, k, 0, 0],
-        EventLine::Outside => [0, 0, 0, 0],
+        Some(EventLine::Start(k, call, tag)) => [call.number(), k, tag, 0],
+        Some(EventLine::Step(k)) => [0, k, 0, 0],
+        None => [0, 0, 0, 0],
     }
 }
 
-fn is_event(x: EventLine) -> bool
+#[tactic(auto, unfolding(session::specs::Transcript::is_event))]
+fn is_event(x: Option<EventLine>) -> bool
     ensures { result ≡ is_event x }
 {
-    match x {
-        EventLine::Start(_, _, _) => true,
-        EventLine::Step(_) => true,
-        EventLine::Outside => false,
-    }
+    !matches!(x, None)
 }
 
 // Writes the words of event n, from 0. Past 256 events they are not kept.
+#[tactic(auto, unfolding(crate::specs::Reading::stored))]
 fn store(events: &mut [u32], n: usize, w: [u32; 4])
     ensures { events.new ≡ stored events.old n w }
 {
-    if 256 <= n {
-        return;
+    if n < 256 && 4 * n + 4 <= events.len() {
+        schedule_words::write_words(events, n, w);
     }
-    if events.len() < 4 * n + 4 {
-        return;
-    }
-    schedule_words::write_words(events, n, w);
 }
 
 // After a closed line, given without its closing byte 10, and whether it is of the form of an event's.
+#[tactic(auto, unfolding(crate::specs::Reading::after_line))]
 fn after_line(t: Standing, event: bool, line: &[u8]) -> Standing
     ensures { result ≡ after_line t.phase t event (closed_line line.now) }
 {
-    let phase = t.phase;
-    let header = t.header;
-    match phase {
+    match t.phase {
         Phase::Due(due) => mattered_standing::after_header(
-            session_parse::header_line(due, header, line),
-            header,
+            session_parse::header_line(due, t.header, line),
+            t.header,
             event,
         ),
-        Phase::Events => mattered_standing::after_event(event, header, t.outside, t.count),
+        Phase::Events => mattered_standing::after_event(t, event),
         Phase::Stopped => t,
     }
 }
 
 // One closed line, without its closing byte 10. The words of the next event are written whatever the line is: they are read only if it is counted.
+#[tactic(auto, unfolding(crate::specs::Reading::on_line))]
 pub fn take_line(t: Standing, events: &mut [u32], line: &[u8]) -> Standing
     ensures { StandsAt (on_line (place t events.old) (closed_line line.now)) result events.new }
 {
     let x = session_parse::event_line(line);
-    let w = event_words(x);
-    store(events, t.count, w);
-    let event = is_event(x);
-    after_line(t, event, line)
+    store(events, t.count, event_words(x));
+    after_line(t, is_event(x), line)
 }

@@ -1,13 +1,16 @@
--- The calls of a list from a place on, whether a resize is among them, and whether a tag is inside after one call more. Assumes nothing.
-use Prim.Native.Nat.{ℕ, suc, ◌+◌, ◌-◌, ◌≤◌, ◌<◌}
+-- The calls of a list, whether a resize is among them, and whether a tag is inside after one call more. Assumes nothing.
+use Prim.Native.Nat.{ℕ, ◌+◌, ◌≤◌, ◌<◌}
 use native.Mathlib.Numerals.{add-one}
 use native.Mathlib.Omega.{arith}
 use mathlib.Core.Path.{◌≡◌, refl, sym, ap, ◌∙◌}
-use mathlib.Core.List.{List, [], ◌∷◌, ◌++◌, map}
+use mathlib.Core.List.{List, [], ◌∷◌, ◌++◌}
 use mathlib.Core.Bool.{Bool, true, false, not}
-use borrow.Author.Tests.{lt-ltb, le-ltb}
-use lib.ListN.{length, get_or, take, drop_of_length-le}
-use lib.Seq.{take-suc, slice-cons, length-slice, length-take-le}
+use borrow.Author.Tests.{lt-ltb, le-ltb, ltb-false}
+use lib.Dec.{ltb}
+use Rattle.laws.specs.Tests.{or_none}
+use lib.ListN.{length, get_or, take}
+use lib.Seq.{take-suc, length-take-le}
+use Rattle.std.specs.List.{list_all}
 use Rattle.spec.specs.declared.Call.{Call}
 use Rattle.spec.specs.declared.Call.TheVariants.{Insert, Remove, Contains, Grow, Shrink}
 use Rattle.spec.specs.Lists.{every}
@@ -16,15 +19,6 @@ use Rattle.notes.specs.declared.Note.{Note}
 use Rattle.notes.specs.declared.Notes.{Notes}
 use Rattle.notes.specs.Merge.{unfit, list_of}
 use Rattle.merge.specs.Inside.{of_set, turns, differ, toggled, inside}
-use Rattle.merge.specs.Trying.{first_six, rest}
-
--- an array of records is as long as what stands for it
-pub length_mapped : {A B : Type 0} (f : A → B) (l : List A) (n : ℕ) → length (map f l) ≡ n → length l ≡ n
-length_mapped f l n e = sym (go f l) ∙ e
-  where
-    go : {A B : Type 0} (f : A → B) (l : List A) → length (map f l) ≡ length l
-    go f [] = refl
-    go f (x ∷ xs) = ap suc (go f xs)
 
 abbrev pub all_of_set : List Note → Bool
 all_of_set = every (λ (x : Note). set_call x.call)
@@ -37,48 +31,31 @@ set_same Contains = refl
 set_same Grow = refl
 set_same Shrink = refl
 
+all_same : (xs : List Note) → list_all (λ (x : Note). of_set x.call) xs ≡ all_of_set xs
+unfolding every
+all_same [] = refl
+all_same (x ∷ xs) = rw (set_same x.call, all_same xs)
+
 -- ---- a list that is not too long
 
-module _ (l : Notes) (short : l.count ≤ 6) where
-  pub list_short : list_of l ≡ first_six l
-  unfolding list_of
-  list_short = rw (le-ltb _ _ short)
+pub list_short : (l : Notes) → l.count ≤ 6 → list_of l ≡ take l.count l.note
+unfolding list_of
+list_short l h = rw (le-ltb _ _ h)
 
 pub list_long : (l : Notes) → 6 < l.count → unfit (list_of l) ≡ true
 unfolding list_of unfit
 list_long l h = rw (lt-ltb _ _ h)
 
-module _ (l : Notes) (len : length l.note ≡ 6) (short : l.count ≤ 6) where
-  pub rest_next : (i : ℕ) (d : Note) → i < l.count → rest l i ≡ get_or l.note i d ∷ rest l (i + 1)
-  rest_next i d h = rw (add-one i) (slice-cons i l.count l.note d h (omega arith))
+pub unfit_short : (l : Notes) → l.count ≤ 6 → length l.note ≡ 6 → (r : Bool) → r ≡ list_all (λ (x : Note). of_set x.call) (take l.count l.note)
+    → unfit (list_of l) ≡ not r
+unfolding unfit
+unfit_short l h len r e =
+    let few : length (take l.count l.note) ≤ 6 = omega (arith, length-take-le l.count l.note (omega arith)) in
+    rw (list_short l h, e, all_same (take l.count l.note), le-ltb _ _ few)
 
-  pub rest_none : (i : ℕ) → l.count ≤ i → rest l i ≡ []
-  rest_none i h = drop_of_length-le (take l.count l.note) {i = i} (rw (length-take-le l.count l.note (omega arith)) h)
-
-  pub rest_length : (i : ℕ) → length (rest l i) ≡ l.count - i
-  rest_length i = length-slice i l.count l.note (omega arith)
-
-  -- ---- whether a resize stands in it, told by the calls from place i on
-
-  module _ (i : ℕ) (same : all_of_set (rest l i) ≡ all_of_set (first_six l)) where
-    fits : unfit (list_of l) ≡ not (all_of_set (first_six l))
-    unfolding unfit
-    fits =
-        let few : length (first_six l) ≤ 6 = rw (length-take-le l.count l.note (omega arith)) short in
-        rw (list_short l short, le-ltb _ _ few)
-
-    pub resize_found : (d : Note) → i < l.count → of_set (get_or l.note i d).call ≡ false → true ≡ unfit (list_of l)
-    unfolding every
-    resize_found d h f = sym (fits ∙ rw (← same, rest_next i d h, ← set_same, f))
-
-    pub resize_not_here : (d : Note) → i < l.count → of_set (get_or l.note i d).call ≡ true
-        → all_of_set (rest l (i + 1)) ≡ all_of_set (first_six l)
-    unfolding every
-    resize_not_here d h f = sym (rw (rest_next i d h, ← set_same, f)) ∙ same
-
-    pub no_resize : l.count ≤ i → false ≡ unfit (list_of l)
-    unfolding every
-    no_resize h = sym (fits ∙ rw (← same, rest_none i h))
+pub fit_short : (xs : List Note) → unfit xs ≡ false → length xs ≤ 6
+unfolding unfit
+fit_short xs e = ltb-false 6 (length xs) (or_none (ltb 6 (length xs)) (not (all_of_set xs)) e).0
 
 -- ---- a tag after one call more
 
@@ -106,15 +83,15 @@ module _ (k : ℕ) where
   toggled_next r xs i d h =
       ap (λ (n : ℕ). toggled k r (take n xs)) (add-one i) ∙ ap (toggled k r) (take-suc xs i d h) ∙ toggled_last r (take i xs) (get_or xs i d)
 
-  pub toggled_turn : (before : Bool) (xs : List Note) (i : ℕ) (d : Note) → i < length xs → (t r q : Bool) → t ≡ turns k (get_or xs i d)
-      → r ≡ toggled k before (take i xs) → q ≡ differ t r → q ≡ toggled k before (take (i + 1) xs)
-  toggled_turn before xs i d h t r q e f g = g ∙ rw (e, f) (sym (toggled_next before xs i d h))
+  pub toggled_on : (before : Bool) (xs : List Note) (i : ℕ) (d : Note) → i < length xs → (t : Bool) → t ≡ turns k (get_or xs i d)
+      → (r : Bool) → r ≡ toggled k before (take i xs) → (q : Bool) → q ≡ differ t r → q ≡ toggled k before (take (i + 1) xs)
+  toggled_on before xs i d h t e r f q g = g ∙ rw (e, f) (sym (toggled_next before xs i d h))
 
-  module _ (a b : Notes) (i j : ℕ) (d : Note) where
-    pub first_inside : i < length a.note → inside a b (i + 1) j k ≡ differ (turns k (get_or a.note i d)) (inside a b i j k)
+  module _ (a b : List Note) (i j : ℕ) (d : Note) where
+    pub first_inside : i < length a → inside (take (i + 1) a) (take j b) k ≡ differ (turns k (get_or a i d)) (inside (take i a) (take j b) k)
     first_inside h =
-        ap (λ (r : Bool). toggled k r (take j b.note)) (toggled_next false a.note i d h)
-        ∙ toggled_before (turns k (get_or a.note i d)) (toggled k false (take i a.note)) (take j b.note)
+        ap (λ (r : Bool). toggled k r (take j b)) (toggled_next false a i d h)
+        ∙ toggled_before (turns k (get_or a i d)) (toggled k false (take i a)) (take j b)
 
-    pub second_inside : j < length b.note → inside a b i (j + 1) k ≡ differ (turns k (get_or b.note j d)) (inside a b i j k)
-    second_inside h = toggled_next (toggled k false (take i a.note)) b.note j d h
+    pub second_inside : j < length b → inside (take i a) (take (j + 1) b) k ≡ differ (turns k (get_or b j d)) (inside (take i a) (take j b) k)
+    second_inside h = toggled_next (toggled k false (take i a)) b j d h

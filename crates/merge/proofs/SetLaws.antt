@@ -18,7 +18,7 @@ use Rattle.spec.specs.Plain.{found_answer, inserted, plain_insert, plain_remove,
 use Rattle.laws.specs.Tests.{bool?}
 use Rattle.laws.specs.Answers.{insert_no, insert_yes}
 use Rattle.laws.specs.Ascending.{Rising, member_add, member_remove, length_add, length_remove}
-use Rattle.merge.specs.Inside.{yes_or_no, said, moves, differ}
+use Rattle.merge.specs.Inside.{said, moves, differ}
 
 module _ (S : List ℕ) (t : ℕ) where
   insert_there : member t S ≡ true → plain S Insert t ≡ record { answer = No; tags = S }
@@ -29,24 +29,15 @@ module _ (S : List ℕ) (t : ℕ) where
   unfolding plain plain_insert inserted
   insert_new h e = rw (insert_yes (length S) (member t S) h e)
 
-  -- the answer's number
-  pub answers : (c : Call) → length S < 64 → answer_number (plain S c t).answer ≡ said c (member t S)
+  pub answers : (c : Call) → length S < 64 → (plain S c t).answer ≡ said c (member t S)
   unfolding plain plain_remove plain_contains
   answers Insert h = go (bool? (member t S))
     where
-      go : (member t S ≡ true) ⊎ (member t S ≡ false) → answer_number (plain S Insert t).answer ≡ said Insert (member t S)
+      go : (member t S ≡ true) ⊎ (member t S ≡ false) → (plain S Insert t).answer ≡ said Insert (member t S)
       go (inl e) = rw (insert_there e, e)
       go (inr e) = rw (insert_new h e, e)
-  answers Remove h = found (member t S)
-    where
-      found : (b : Bool) → answer_number (found_answer b) ≡ yes_or_no b
-      found true = refl
-      found false = refl
-  answers Contains h = found (member t S)
-    where
-      found : (b : Bool) → answer_number (found_answer b) ≡ yes_or_no b
-      found true = refl
-      found false = refl
+  answers Remove h = refl
+  answers Contains h = refl
   answers Grow h = refl
   answers Shrink h = refl
 
@@ -66,7 +57,7 @@ module _ (S : List ℕ) (t : ℕ) where
   module _ (k : ℕ) where
     -- the call turns the tag k
     abbrev turned : Call → Bool
-    turned c = eqb t k && (eqb (said c (member t S)) 1 && moves c)
+    turned c = eqb t k && (eqb (answer_number (said c (member t S))) 1 && moves c)
 
     other : eqb t k ≡ false → eqb k t ≡ false
     other e = ne_eqb k t (λ q. eqb-false t k e (sym q))
@@ -97,7 +88,7 @@ module _ (S : List ℕ) (t : ℕ) where
             let same : t ≡ k = eqb-true t k s in
             rw (member_remove k t S r, eq-eqb k t (sym same), s, e, ← same, e)
         go m (inr s) = rw (member_remove k t S r, other s, s)
-    members Contains r h = go (eqb t k) (eqb (yes_or_no (member t S)) 1)
+    members Contains r h = go (eqb t k) (eqb (answer_number (found_answer (member t S))) 1)
       where
         go : (a b : Bool) → member k S ≡ differ (a && (b && false)) (member k S)
         go true true = refl

@@ -1,25 +1,23 @@
 -- Whether a tag is inside after calls that were all answered rightly: if an odd number of them put it in or took it out, since these two
 -- take turns. What the plain set then answers. Assumes nothing.
-use Rattle.std.specs.Prelude.{ℕ, ◌+◌, ◌≤◌, ◌≡◌, List, [], ◌∷◌, Bool, true, false, not, ◌&&◌, eqb, length, take, if◌then◌else◌}
+use Rattle.std.specs.Prelude.{ℕ, ◌+◌, ◌≤◌, ◌≡◌, List, [], ◌∷◌, Bool, true, false, not, ◌&&◌, eqb, length, if◌then◌else◌}
 use Rattle.spec.specs.declared.Call.{Call}
 use Rattle.spec.specs.declared.Call.TheVariants.{Insert, Remove, Contains, Grow, Shrink}
+use Rattle.spec.specs.declared.Answer.{Answer}
+use Rattle.spec.specs.declared.Answer.TheVariants.{Done}
 use Rattle.spec.specs.Lists.{member}
 use Rattle.spec.specs.Numbers.{answer_number}
+use Rattle.spec.specs.Plain.{found_answer}
 use Rattle.laws.specs.Ascending.{Rising}
 use Rattle.notes.specs.declared.Note.{Note}
-use Rattle.notes.specs.declared.Notes.{Notes}
 
--- the numbers of yes and no
-abbrev pub yes_or_no : Bool → ℕ
-yes_or_no b = if b then 1 else 2
-
--- the number of the answer to a call, by whether its tag is inside
-abbrev pub said : Call → Bool → ℕ
-said Insert inside = yes_or_no (not inside)
-said Remove inside = yes_or_no inside
-said Contains inside = yes_or_no inside
-said Grow inside = 4
-said Shrink inside = 4
+-- the answer to a call, by whether its tag is inside
+abbrev pub said : Call → Bool → Answer
+said Insert inside = found_answer (not inside)
+said Remove inside = found_answer inside
+said Contains inside = found_answer inside
+said Grow inside = Done
+said Shrink inside = Done
 
 -- the calls of the set: spec's `set_call`
 abbrev pub of_set : Call → Bool
@@ -49,12 +47,12 @@ unfoldable pub toggled : ℕ → Bool → List Note → Bool
 toggled k r [] = r
 toggled k r (x ∷ xs) = toggled k (differ (turns k x) r) xs
 
--- after the first i calls of a and the first j of b
-abbrev pub inside : Notes → Notes → ℕ → ℕ → ℕ → Bool
-inside a b i j k = toggled k (toggled k false (take i a.note)) (take j b.note)
+-- after these calls of both lists
+abbrev pub inside : List Note → List Note → ℕ → Bool
+inside xs ys k = toggled k (toggled k false xs) ys
 
 -- S is a set that these calls may have left
-pub record Stands (a b : Notes) (i j : ℕ) (S : List ℕ) : Type 0 where
-  pub holds : (k : ℕ) → member k S ≡ inside a b i j k
+pub record Stands (xs ys : List Note) (S : List ℕ) : Type 0 where
+  pub holds : (k : ℕ) → member k S ≡ inside xs ys k
   pub rising : Rising S
-  pub few : length S ≤ i + j
+  pub few : length S ≤ length xs + length ys

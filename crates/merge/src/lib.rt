@@ -3,52 +3,24 @@
 // No set is kept: where all calls so far were answered rightly, a tag is inside if an odd number of them put it in or took it out.
 #![tactic(auto)]
 
-ghost use Rattle.std.specs.Prelude.{◌≡◌, List, ℕ, ◌+◌, ◌≤◌, ◌<◌, take};
-ghost use Rattle.spec.specs.Numbers.{answer_number};
-ghost use Rattle.notes.specs.Orders.{Lane};
-ghost use Rattle.notes.specs.Merge.{Found, preceded, search, unfit, merge, list_of, lane_number, merged};
-ghost use Rattle.merge.specs.Inside.{of_set, yes_or_no, said, moves, turns, differ, toggled, Stands};
-ghost use Rattle.merge.specs.Trying.{rest, left, RightNext, Standing, tried};
+ghost use Rattle.std.specs.Prelude.{◌≡◌, List, ℕ, ◌+◌, ◌≤◌, ◌<◌, length, drop, set, Some, true, false, MatchResult};
+ghost use Rattle.std.specs.List.{list_all};
+ghost use Rattle.notes.specs.declared.Unfit.TheVariants.{LongerOrResize};
+ghost use Rattle.notes.specs.Merge.{search, unfit, merge, list_of, merged};
+ghost use Rattle.merge.specs.Inside.{of_set, said, moves, turns, toggled};
+ghost use Rattle.merge.specs.Trying.{left, RightNext, Standing, StandsAt, tried};
 
-use notes::{Merged, Note, Notes, Verdict};
+use notes::{Lane, Note, Notes, Unfit};
 use spec::{Answer, Call};
 
-// Whether an order of the calls that are left was found, and its lanes, from the place of the first of these calls on.
-#[derive(Clone, Copy)]
-struct Tried {
-    found: bool,
-    lane: [u8; 12],
-}
-
-fn number(a: Answer) -> u32
-    ensures { result ≡ answer_number a }
-{
-    match a {
-        Answer::Yes => 1,
-        Answer::No => 2,
-        Answer::Full => 3,
-        Answer::Done => 4,
-        Answer::Lost => 5,
-        Answer::Limit => 6,
-    }
-}
-
-fn yes_or_no(yes: bool) -> u32
-    ensures { result ≡ yes_or_no yes }
-{
-    if yes { 1 } else { 2 }
-}
-
-// The number of the answer to a call, by whether its tag is inside.
-fn said(call: Call, inside: bool) -> u32
+// The answer to a call, by whether its tag is inside.
+fn said(call: Call, inside: bool) -> Answer
     ensures { result ≡ said call inside }
 {
     match call {
-        Call::Insert => yes_or_no(!inside),
-        Call::Remove => yes_or_no(inside),
-        Call::Contains => yes_or_no(inside),
-        Call::Grow => 4,
-        Call::Shrink => 4,
+        Call::Insert => Answer::from(!inside),
+        Call::Remove | Call::Contains => Answer::from(inside),
+        Call::Grow | Call::Shrink => Answer::Done,
     }
 }
 
@@ -56,173 +28,104 @@ fn said(call: Call, inside: bool) -> u32
 fn moves(call: Call) -> bool
     ensures { result ≡ moves call }
 {
-    match call {
-        Call::Insert => true,
-        Call::Remove => true,
-        Call::Contains => false,
-        Call::Grow => false,
-        Call::Shrink => false,
-    }
+    matches!(call, Call::Insert | Call::Remove)
 }
 
 // Whether a call, as it was answered, put the tag in or took it out.
+#[tactic(auto, unfolding(crate::specs::Inside::turns))]
 fn turns(x: Note, tag: u32) -> bool
     ensures { result ≡ turns tag x }
 {
-    if x.tag != tag {
-        return false;
-    }
-    let answer = x.answer;
-    if number(answer) != 1 {
-        return false;
-    }
-    let call = x.call;
-    moves(call)
+    x.tag == tag && matches!(x.answer, Answer::Yes) && moves(x.call)
 }
 
-fn differ(a: bool, b: bool) -> bool
-    ensures { result ≡ differ a b }
+// Whether a tag is inside after some calls, by whether it was inside before them.
+#[tactic(auto, unfolding(crate::specs::Inside::toggled))]
+fn toggled(calls: &[Note], tag: u32, before: bool) -> bool
+    ensures { result ≡ toggled tag before calls.now }
 {
-    if a { !b } else { b }
-}
-
-// Whether a tag is inside after the first n calls of a list, by whether it was inside before them.
-fn toggled(l: Notes, n: usize, tag: u32, before: bool) -> bool
-    requires { n ≤ 6 }
-    ensures { result ≡ toggled tag before (take n l.note) }
-{
-    let mut r = before;
-    let mut i = 0;
-    while i < n {
-        let t = turns(l.note[i], tag);
-        r = differ(t, r);
-        i += 1;
+    let mut inside = before;
+    for x in calls {
+        inside = if turns(*x, tag) { !inside } else { inside };
     }
-    r
+    inside
 }
 
-// Whether the list l has a k-th call that is answered rightly after i calls of a and j of b.
-fn right(l: Notes, k: usize, a: Notes, i: usize, b: Notes, j: usize) -> bool
-    requires { (l.count ≤ 6) × (i ≤ 6) × (j ≤ 6) }
-    ensures { RightNext l k a i b j result }
+// Whether the list l has a k-th call that is answered rightly after the calls a and b.
+fn right(l: &[Note], k: usize, a: &[Note], b: &[Note]) -> bool
+    requires { (length a.now ≤ 6) × (length b.now ≤ 6) }
+    ensures { RightNext l.now k a.now b.now result }
 {
-    let n = l.count;
-    if n <= k {
+    let Some(&x) = l.get(k) else {
         return false;
-    }
-    let x = l.note[k];
-    let tag = x.tag;
-    let one = toggled(a, i, tag, false);
-    let inside = toggled(b, j, tag, one);
-    let call = x.call;
-    let answer = x.answer;
-    said(call, inside) == number(answer)
+    };
+    let inside = toggled(b, x.tag, toggled(a, x.tag, false));
+    said(x.call, inside) == x.answer
 }
 
-// An order with a lane before it, if one was found.
-fn with_lane(t: Tried, k: usize, lane: u8) -> Tried
+// An order with a lane at this place.
+fn with_lane(mut order: [Option<Lane>; 12], k: usize, lane: Lane) -> [Option<Lane>; 12]
     requires { k < 12 }
-    ensures { (l : Lane) (f : Found) → lane ≡ lane_number l → t ≡ tried (k + 1) f → result ≡ tried k (preceded l f) }
+    ensures { result ≡ set order k (Some lane) }
 {
-    if t.found {
-        let mut w = t.lane;
-        w[k] = lane;
-        return Tried {
-            found: true,
-            lane: w,
-        };
-    }
-    t
+    order[k] = Some(lane);
+    order
 }
 
-// An order of the calls from the i-th of a and the j-th of b on.
-fn search(a: Notes, b: Notes, i: usize, j: usize) -> Tried
-    requires { Standing a b i j }
-    ensures { (S : List ℕ) → Stands a b i j S → result ≡ tried (i + j) (search (left a b i j) S (rest a i) (rest b j)) }
+// An order of the calls from the i-th of a and the j-th of b on: its lanes, from the place of the first of these calls on.
+fn search(a: &[Note], b: &[Note], i: usize, j: usize) -> Option<[Option<Lane>; 12]>
+    requires { Standing a.now b.now i j }
+    ensures { (S : List ℕ) → StandsAt a.now b.now i j S
+        → result ≡ tried (i + j) (search (left a.now b.now i j) S (drop i a.now) (drop j b.now)) }
 {
-    let m = a.count;
-    let n = b.count;
+    let m = a.len();
+    let n = b.len();
     let k = i + j;
     if m + n <= k {
-        return Tried {
-            found: true,
-            lane: [0; 12],
-        };
+        return Some([None; 12]);
     }
-    if right(a, i, a, i, b, j) {
-        let t = search(a, b, i + 1, j);
-        if t.found {
-            return with_lane(t, k, 1);
+    if right(a, i, &a[..i], &b[..j]) {
+        if let Some(order) = search(a, b, i + 1, j) {
+            return Some(with_lane(order, k, Lane::First));
         }
     }
-    if right(b, j, a, i, b, j) {
-        let t = search(a, b, i, j + 1);
-        return with_lane(t, k, 2);
+    if right(b, j, &a[..i], &b[..j]) {
+        if let Some(order) = search(a, b, i, j + 1) {
+            return Some(with_lane(order, k, Lane::Second));
+        }
     }
-    Tried {
-        found: false,
-        lane: [0; 12],
-    }
+    None
 }
 
 fn is_set_call(call: Call) -> bool
     ensures { result ≡ of_set call }
 {
-    match call {
-        Call::Insert => true,
-        Call::Remove => true,
-        Call::Contains => true,
-        Call::Grow => false,
-        Call::Shrink => false,
-    }
+    matches!(call, Call::Insert | Call::Remove | Call::Contains)
 }
 
-// The list is longer than six, or has a resize.
-fn unfit(l: Notes) -> bool
-    ensures { result ≡ unfit (list_of l) }
+// Whether no call of a list is a resize.
+fn has_no_resize(calls: &[Note]) -> bool
+    ensures { result ≡ list_all (λ x. of_set x.call) calls.now }
 {
-    let n = l.count;
-    if 6 < n {
-        return true;
-    }
-    let mut i = 0;
-    while i < n {
-        let x = l.note[i];
-        let call = x.call;
-        if !is_set_call(call) {
-            return true;
-        }
-        i += 1;
-    }
-    false
+    calls.iter().all(|x| is_set_call(x.call))
 }
 
-// The order of both lists from an empty set that takes the first lane's call wherever both choices can still succeed.
-pub fn merge(a: Notes, b: Notes) -> Merged
+// The calls of a list that has at most six, and no resize.
+fn fit(l: &Notes) -> Result<&[Note], Unfit>
+    ensures { MatchResult result (λ s. (s.now ≡ list_of l.now) × (unfit (list_of l.now) ≡ false))
+        (λ e. (e ≡ LongerOrResize) × (unfit (list_of l.now) ≡ true)) }
+{
+    match l.note.get(..l.count) {
+        Some(calls) if has_no_resize(calls) => Ok(calls),
+        _ => Err(Unfit::LongerOrResize),
+    }
+}
+
+// The order of both lists from an empty set that takes the first lane's call wherever both choices can still succeed, if there is one.
+pub fn merge(a: Notes, b: Notes) -> Result<Option<[Option<Lane>; 12]>, Unfit>
     ensures { result ≡ merged (merge (list_of a) (list_of b)) }
 {
-    if unfit(a) {
-        return Merged {
-            says: Verdict::Refused(13),
-            lane: [0; 12],
-        };
-    }
-    if unfit(b) {
-        return Merged {
-            says: Verdict::Refused(13),
-            lane: [0; 12],
-        };
-    }
-    let t = search(a, b, 0, 0);
-    let lane = t.lane;
-    if t.found {
-        return Merged {
-            says: Verdict::Order,
-            lane,
-        };
-    }
-    Merged {
-        says: Verdict::NoOrder,
-        lane,
-    }
+    let a = fit(&a)?;
+    let b = fit(&b)?;
+    Ok(search(a, b, 0, 0))
 }

@@ -1,6 +1,7 @@
 -- Paper 02, U8: "Given two lists of at most six calls each, say whether some order that keeps both lists gives those answers from an
 -- empty set. If so, write it, taking the first lane's call wherever both choices can still succeed." Assumes nothing.
 use Rattle.std.specs.Prelude.{ℕ, zero, suc, ◌+◌, ◌-◌, List, [], ◌∷◌, ◌++◌, map, Bool, not, ◌||◌, ltb, eqb, length, take, replicate, if◌then◌else◌}
+use Rattle.std.specs.Prelude.{Option, Some, None, Result, Ok, Err}
 use Rattle.spec.specs.declared.Answer.TheVariants.{No}
 use Rattle.spec.specs.declared.Call.TheVariants.{Contains}
 use Rattle.spec.specs.Lists.{every}
@@ -8,9 +9,10 @@ use Rattle.spec.specs.Numbers.{answer_number}
 use Rattle.spec.specs.History.{set_call}
 use Rattle.notes.specs.declared.Note.{Note}
 use Rattle.notes.specs.declared.Notes.{Notes}
-use Rattle.notes.specs.declared.Verdict.{Verdict}
-use Rattle.notes.specs.declared.Verdict.TheVariants.{Order, NoOrder, Refused}
-use Rattle.notes.specs.declared.Merged.{Merged}
+use Rattle.notes.specs.declared.Lane.{Lane as LaneTaken}
+use Rattle.notes.specs.declared.Lane.TheVariants.{First, Second}
+use Rattle.notes.specs.declared.Unfit.{Unfit}
+use Rattle.notes.specs.declared.Unfit.TheVariants.{LongerOrResize}
 use Rattle.notes.specs.Orders.{note, Lane, first, second, asked}
 
 -- ---- the search
@@ -75,24 +77,29 @@ unfit xs = ltb 6 (length xs) || not (every (λ (x : Note). set_call x.call) xs)
 unfoldable pub merge : List Note → List Note → Outcome
 merge xs ys = if unfit xs || unfit ys then refused 13 else searched (search_all xs ys)
 
--- ---- the same as words
+-- ---- the same as the code has it
 
 -- a list's calls. A count over six is a longer list, whatever its calls are
 unfoldable pub list_of : Notes → List Note
 list_of l = if ltb 6 l.count then replicate 7 (note Contains 0 No) else take l.count l.note
 
-abbrev pub lane_number : Lane → ℕ
-lane_number first = 1
-lane_number second = 2
+-- a lane's number in a line of notes
+abbrev pub number_of : LaneTaken → ℕ
+number_of First = 1
+number_of Second = 2
 
--- a lane's number for each call, then zeros
-unfoldable pub lane_words : List Lane → List ℕ
-lane_words L = map lane_number L ++ replicate (12 - length L) 0
+abbrev pub lane_of : Lane → Option LaneTaken
+lane_of first = Some First
+lane_of second = Some Second
 
-abbrev pub no_lanes : Verdict → Merged
-no_lanes v = record { says = v; lane = replicate 12 0 }
+-- the lane of each call, then none
+unfoldable pub lanes_of : List Lane → List (Option LaneTaken)
+lanes_of L = map lane_of L ++ replicate (12 - length L) None
+
+abbrev pub Merged : Type 0
+Merged = Result (Option (List (Option LaneTaken))) Unfit
 
 unfoldable pub merged : Outcome → Merged
-merged (searched (order L)) = record { says = Order; lane = lane_words L }
-merged (searched none) = no_lanes NoOrder
-merged (refused r) = no_lanes (Refused r)
+merged (searched (order L)) = Ok (Some (lanes_of L))
+merged (searched none) = Ok None
+merged (refused r) = Err LongerOrResize

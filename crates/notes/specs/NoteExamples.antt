@@ -1,6 +1,6 @@
 -- Examples for two lanes' notes (paper 02, U8): what keeps both lists and what does not, which order comes first, the words of the six answers,
 -- the lanes' numbers, and lists given as arrays. Assumes nothing.
-use Rattle.std.specs.Prelude.{ℕ, ◌+◌, ◌≡◌, refl, ◌⊎◌, List, [], ◌∷◌, map, length, replicate}
+use Rattle.std.specs.Prelude.{ℕ, ◌+◌, ◌≡◌, refl, ◌⊎◌, List, [], ◌∷◌, map, length, replicate, Some, None, Ok, Err}
 use Rattle.std.proofs.Common.{ap, inl, inr, arith}
 use Rattle.spec.specs.declared.Answer.TheVariants.{Yes, No, Full, Done, Lost, Limit}
 use Rattle.spec.specs.declared.Call.TheVariants.{Insert, Remove, Contains, Grow, Shrink}
@@ -8,12 +8,12 @@ use Rattle.spec.specs.Everything.{everything}
 use Rattle.session.specs.Ascii.{codes, ascii}
 use Rattle.session.specs.Everything.{session_definitions}
 use Rattle.notes.specs.declared.Note.{Note}
-use Rattle.notes.specs.declared.Verdict.TheVariants.{Order, NoOrder, Refused}
-use Rattle.notes.specs.declared.AnswerWord.TheVariants.{Word, NoWord}
-use Rattle.notes.specs.declared.NoteLine.TheVariants.{First, Second, Outside}
+use Rattle.notes.specs.declared.Lane.TheVariants.{First as FirstTaken, Second as SecondTaken}
+use Rattle.notes.specs.declared.Unfit.TheVariants.{LongerOrResize}
+use Rattle.notes.specs.declared.NoteLine.TheVariants.{First, Second}
 use Rattle.notes.specs.Orders.{note, Lane, first, second, from_first, from_second, Interleaves, none_left, taking, Right, Sooner, here, there}
 use Rattle.notes.specs.Orders.{RightOrder, FirstRight}
-use Rattle.notes.specs.Merge.{order, none, searched, refused, list_of, lane_words, merged}
+use Rattle.notes.specs.Merge.{order, none, searched, refused, list_of, lanes_of, merged}
 use Rattle.notes.specs.Text.{parse_answer, last_comma_from, last_comma, noted, parse_noted, parse_note, call_field, note_line}
 
 -- ---- "some order that keeps both lists"
@@ -142,7 +142,7 @@ not_the_first f = go (f.soonest (first ∷ second ∷ []) other)
 -- the six words, and words with one letter more or less
 pub answer_words :
     map (λ s. parse_answer (ascii s)) ("yes" ∷ "no" ∷ "full" ∷ "done" ∷ "lost" ∷ "limit" ∷ "yess" ∷ "ye" ∷ "limits" ∷ "limi" ∷ "" ∷ "Yes" ∷ [])
-    ≡ Word Yes ∷ Word No ∷ Word Full ∷ Word Done ∷ Word Lost ∷ Word Limit ∷ NoWord ∷ NoWord ∷ NoWord ∷ NoWord ∷ NoWord ∷ NoWord ∷ []
+    ≡ Some Yes ∷ Some No ∷ Some Full ∷ Some Done ∷ Some Lost ∷ Some Limit ∷ None ∷ None ∷ None ∷ None ∷ None ∷ None ∷ []
 unfolding everything session_definitions codes ascii parse_answer
 answer_words = refl
 
@@ -151,8 +151,8 @@ pub notes_read :
     map (λ s. parse_note (ascii s))
     ("note=0,insert,5,yes" ∷ "note=1,insert,5,yes" ∷ "note=2,remove,6,no" ∷ "note=3,insert,5,yes" ∷ "note=1,contains,7,full" ∷ "note=2,grow,limit"
     ∷ "note=1,shrink,lost" ∷ "note=1,inserts,5,yes" ∷ "note=1,grows,done" ∷ "notes=1,insert,5,yes" ∷ "note=1,step,yes" ∷ [])
-    ≡ Outside ∷ First (note Insert 5 Yes) ∷ Second (note Remove 6 No) ∷ Outside ∷ First (note Contains 7 Full) ∷ Second (note Grow 0 Limit)
-    ∷ First (note Shrink 0 Lost) ∷ Outside ∷ Outside ∷ Outside ∷ Outside ∷ []
+    ≡ None ∷ Some (First (note Insert 5 Yes)) ∷ Some (Second (note Remove 6 No)) ∷ None ∷ Some (First (note Contains 7 Full))
+    ∷ Some (Second (note Grow 0 Limit)) ∷ Some (First (note Shrink 0 Lost)) ∷ None ∷ None ∷ None ∷ None ∷ []
 unfolding everything session_definitions codes ascii parse_answer last_comma_from last_comma noted parse_noted parse_note
 notes_read = refl
 
@@ -164,18 +164,18 @@ pub notes_printed :
 unfolding everything session_definitions codes ascii call_field note_line
 notes_printed = refl
 
--- ---- as words: 1 for the first lane, 2 for the second, then zeros
+-- ---- as the code has it: the lane of each call, then none
 
-pub words :
-    (lane_words (first ∷ second ∷ second ∷ []) ≡ 1 ∷ 2 ∷ 2 ∷ replicate 9 0) × (lane_words (replicate 12 second) ≡ replicate 12 2)
-unfolding lane_words
-words = (refl, refl)
+pub lanes :
+    (lanes_of (first ∷ second ∷ second ∷ []) ≡ Some FirstTaken ∷ Some SecondTaken ∷ Some SecondTaken ∷ replicate 9 None)
+    × (lanes_of (replicate 12 second) ≡ replicate 12 (Some SecondTaken))
+unfolding lanes_of
+lanes = (refl, refl)
 
 pub merged_rows :
     merged (searched (order (second ∷ []))) ∷ merged (searched (order [])) ∷ merged (searched none) ∷ merged (refused 13) ∷ []
-    ≡ record { says = Order; lane = 2 ∷ replicate 11 0 } ∷ record { says = Order; lane = replicate 12 0 } ∷ record { says = NoOrder; lane = replicate 12 0 }
-    ∷ record { says = Refused 13; lane = replicate 12 0 } ∷ []
-unfolding lane_words merged
+    ≡ Ok (Some (Some SecondTaken ∷ replicate 11 None)) ∷ Ok (Some (replicate 12 None)) ∷ Ok None ∷ Err LongerOrResize ∷ []
+unfolding lanes_of merged
 merged_rows = refl
 
 -- a list of six has six calls, its own; a count over six is a longer list

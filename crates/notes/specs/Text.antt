@@ -1,22 +1,21 @@
 -- Two lanes' notes as text, and what the program `yardnotes` prints for a whole input: lines `note=LANE,insert,TAG,ANSWER` (also remove and
 -- contains) and `note=LANE,grow,ANSWER` (also shrink), LANE 1 or 2, in any mixture of the lanes; lines and numbers are as in a session.
 -- It prints the order as such lines, or `none`, or `refuse=10`, else `refuse=13`. Assumes nothing.
-use Rattle.std.specs.Prelude.{ℕ, ◌+◌, ◌≡◌, refl, List, [], ◌∷◌, ◌++◌, Bool, true, false, ◌&&◌, eqb, length, take, drop, if◌then◌else◌}
+use Rattle.std.specs.Prelude.{ℕ, ◌+◌, ◌≡◌, refl, List, [], ◌∷◌, ◌++◌, Bool, true, false, ◌&&◌, eqb, length, take, drop, if◌then◌else◌, Option, Some, None}
 use Rattle.spec.specs.declared.Answer.TheVariants.{Yes, No, Full, Done, Lost, Limit}
 use Rattle.spec.specs.declared.Call.{Call}
 use Rattle.spec.specs.declared.Call.TheVariants.{Insert, Remove, Contains, Grow, Shrink}
 use Rattle.session.specs.declared.EventLine.{EventLine}
-use Rattle.session.specs.declared.EventLine.TheVariants.{Start, Step, Outside as NoEvent}
+use Rattle.session.specs.declared.EventLine.TheVariants.{Start, Step}
 use Rattle.session.specs.Ascii.{codes, ascii}
 use Rattle.session.specs.Keys.{newline, comma, insert_key, remove_key, contains_key, grow_word, shrink_word, yes_word, no_word, full_word, done_word}
 use Rattle.session.specs.Keys.{lost_word, limit_word}
 use Rattle.session.specs.Grammar.{starts_with, equals, parse_start, InputLine, input_lines, admissible}
 use Rattle.session.specs.Print.{decimal, answer_word, refusal_line}
 use Rattle.notes.specs.declared.Note.{Note}
-use Rattle.notes.specs.declared.AnswerWord.{AnswerWord}
-use Rattle.notes.specs.declared.AnswerWord.TheVariants.{Word, NoWord}
+use Rattle.spec.specs.declared.Answer.{Answer}
 use Rattle.notes.specs.declared.NoteLine.{NoteLine}
-use Rattle.notes.specs.declared.NoteLine.TheVariants.{First, Second, Outside}
+use Rattle.notes.specs.declared.NoteLine.TheVariants.{First, Second}
 use Rattle.notes.specs.Orders.{note, Lane, first, second}
 use Rattle.notes.specs.Merge.{order, none, Outcome, searched, refused, merge}
 
@@ -35,15 +34,15 @@ spelled = refl
 -- ---- a line that is read
 
 -- an answer's word, of all six answers
-unfoldable pub parse_answer : List ℕ → AnswerWord
+unfoldable pub parse_answer : List ℕ → Option Answer
 parse_answer s =
-    if equals yes_word s then Word Yes
-    else if equals no_word s then Word No
-    else if equals full_word s then Word Full
-    else if equals done_word s then Word Done
-    else if equals lost_word s then Word Lost
-    else if equals limit_word s then Word Limit
-    else NoWord
+    if equals yes_word s then Some Yes
+    else if equals no_word s then Some No
+    else if equals full_word s then Some Full
+    else if equals done_word s then Some Done
+    else if equals lost_word s then Some Lost
+    else if equals limit_word s then Some Limit
+    else None
 
 -- where the last comma of some bytes stands, the first of which stands at place n; `best` if they have none
 unfoldable pub last_comma_from : ℕ → ℕ → List ℕ → ℕ
@@ -55,22 +54,22 @@ unfoldable pub last_comma : List ℕ → ℕ
 last_comma s = last_comma_from 0 (length s) s
 
 -- a start with an answer: the task's number is the lane's, 1 or 2
-unfoldable pub noted : EventLine → AnswerWord → NoteLine
-noted (Start k call tag) (Word a) = if eqb k 1 then First (note call tag a) else if eqb k 2 then Second (note call tag a) else Outside
-noted (Start k call tag) NoWord = Outside
-noted (Step k) a = Outside
-noted NoEvent a = Outside
+unfoldable pub noted : Option EventLine → Option Answer → Option NoteLine
+noted (Some (Start k call tag)) (Some a) = if eqb k 1 then Some (First (note call tag a)) else if eqb k 2 then Some (Second (note call tag a)) else None
+noted (Some (Start k call tag)) None = None
+noted (Some (Step k)) a = None
+noted None a = None
 
 -- what stands after `note=`: up to the last comma the form of what stands after a session's `start=`, then the answer
-unfoldable pub parse_noted : List ℕ → NoteLine
+unfoldable pub parse_noted : List ℕ → Option NoteLine
 parse_noted s = noted (parse_start (take (last_comma s) s)) (parse_answer (drop (last_comma s + 1) s))
 
-unfoldable pub parse_note : List ℕ → NoteLine
-parse_note s = if starts_with note_key s then parse_noted (drop 5 s) else Outside
+unfoldable pub parse_note : List ℕ → Option NoteLine
+parse_note s = if starts_with note_key s then parse_noted (drop 5 s) else None
 
 -- as in a session, "lines of at most 40 bytes, each closed by byte 10"
-unfoldable pub parse_note_line : InputLine → NoteLine
-parse_note_line l = if admissible l then parse_note l.bytes else Outside
+unfoldable pub parse_note_line : InputLine → Option NoteLine
+parse_note_line l = if admissible l then parse_note l.bytes else None
 
 -- ---- a line that is printed
 
@@ -103,28 +102,28 @@ unfoldable pub merge_lines : List Note → List Note → List ℕ
 merge_lines xs ys = outcome_lines (merge xs ys) xs ys
 
 -- each lane's notes, in their order
-unfoldable pub add_first : NoteLine → List Note → List Note
-add_first (First x) xs = x ∷ xs
-add_first (Second x) xs = xs
-add_first Outside xs = xs
+unfoldable pub add_first : Option NoteLine → List Note → List Note
+add_first (Some (First x)) xs = x ∷ xs
+add_first (Some (Second x)) xs = xs
+add_first None xs = xs
 
 unfoldable pub first_notes : List InputLine → List Note
 first_notes [] = []
 first_notes (l ∷ ls) = add_first (parse_note_line l) (first_notes ls)
 
-unfoldable pub add_second : NoteLine → List Note → List Note
-add_second (First x) ys = ys
-add_second (Second x) ys = x ∷ ys
-add_second Outside ys = ys
+unfoldable pub add_second : Option NoteLine → List Note → List Note
+add_second (Some (First x)) ys = ys
+add_second (Some (Second x)) ys = x ∷ ys
+add_second None ys = ys
 
 unfoldable pub second_notes : List InputLine → List Note
 second_notes [] = []
 second_notes (l ∷ ls) = add_second (parse_note_line l) (second_notes ls)
 
-unfoldable pub is_note : NoteLine → Bool
-is_note (First x) = true
-is_note (Second x) = true
-is_note Outside = false
+unfoldable pub is_note : Option NoteLine → Bool
+is_note (Some (First x)) = true
+is_note (Some (Second x)) = true
+is_note None = false
 
 unfoldable pub all_notes : List InputLine → Bool
 all_notes [] = true

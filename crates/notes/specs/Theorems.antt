@@ -1,6 +1,7 @@
 -- What is promised of two lanes' notes (paper 02, U8), of any two lists.
 --
 --   refused_13                13 exactly if a list is longer than six or has a resize, whatever a search would find
+--   only_13                   no refusal has another number
 --   order_iff                 of two other lists an order is given exactly if it keeps both, gives the answers from an empty set, and takes the
 --                             first lane's call sooner than every other that does
 --   only_order (Search)       there is one such order at most
@@ -8,7 +9,7 @@
 --   first_lane_where_it_can   where the order given takes the second lane's call, no right order takes the first's after the same calls
 --
 -- They hold because the search tries both choices, the first lane's first, with every call that is left (Search). Assumes nothing.
-use Rattle.std.specs.Prelude.{ℕ, ◌<◌, ◌≡◌, ◌⊎◌, true, ◌||◌}
+use Rattle.std.specs.Prelude.{ℕ, ◌<◌, ◌≡◌, ◌⊎◌, Bool, true, false, ◌||◌, if◌then◌else◌}
 use Rattle.std.proofs.Common.{arith}
 use Rattle.std.proofs.Math.Logic.{inl, inr}
 use mathlib.Core.List.{List, [], ◌∷◌, ◌++◌}
@@ -16,7 +17,7 @@ use Rattle.std.proofs.Math.ListN.{length}
 use Rattle.spec.specs.declared.Call.TheVariants.{Grow, Shrink}
 use Rattle.notes.specs.declared.Note.{Note}
 use Rattle.notes.specs.Orders.{Lane, first, second, Sooner, there, RightOrder, FirstRight}
-use Rattle.notes.specs.Merge.{refused, unfit, merge}
+use Rattle.notes.specs.Merge.{searched, refused, search_all, unfit, merge}
 
 -- "a resize in one"
 pub data HasResize : List Note → Type 0 where
@@ -31,6 +32,14 @@ module _ (xs ys : List Note) where
   pub unfit_refused : (unfit xs || unfit ys) ≡ true → merge xs ys ≡ refused 13
   unfolding merge
   unfit_refused e = rw e
+
+  pub only_13 : (r : ℕ) → merge xs ys ≡ refused r → r ≡ 13
+  unfolding merge
+  only_13 r = go (unfit xs || unfit ys)
+    where
+      go : (b : Bool) → (if b then refused 13 else searched (search_all xs ys)) ≡ refused r → r ≡ 13
+      go true e = cc
+      go false e = let z : ◌≡◌ {A = ℕ} 0 1 = cc in absurd (omega arith)
 
 -- ---- the paper's words, place by place
 

@@ -1,5 +1,9 @@
-// The types of two lanes' notes (paper 02, U8). specs/ has the definitions, what is proved of them, and the text of notes; no code is here.
+// The types of two lanes' notes (paper 02, U8). specs/ has the definitions, what is proved of them, and the text of notes; no code is here but a
+// lane's number.
 #![tactic(auto)]
+
+ghost use Rattle.std.specs.Prelude.{◌≡◌};
+ghost use Rattle.notes.specs.Merge.{number_of};
 
 use spec::{Answer, Call};
 
@@ -18,32 +22,34 @@ pub struct Notes {
     pub note: [Note; 6],
 }
 
-// What is said of two lists: there is an order, there is none, or a refusal's number.
+// The lane whose next call is taken.
 #[derive(Clone, Copy)]
-pub enum Verdict {
-    Order,
-    NoOrder,
-    Refused(u32),
+pub enum Lane {
+    First,
+    Second,
 }
 
-// The verdict, and the order: 1 where the first lane's next call is taken, 2 where the second's is, then zeros.
-#[derive(Clone, Copy)]
-pub struct Merged {
-    pub says: Verdict,
-    pub lane: [u8; 12],
+impl Lane {
+    // Its number in a line of notes.
+    pub fn number(self) -> u64
+        ensures { result ≡ number_of self }
+    {
+        match self {
+            Lane::First => 1,
+            Lane::Second => 2,
+        }
+    }
 }
 
-// What bytes that should be an answer's word are.
+// Why two lists are put in no order, printed as 13: one of them is longer than six, or has a resize.
 #[derive(Clone, Copy)]
-pub enum AnswerWord {
-    Word(Answer),
-    NoWord,
+pub enum Unfit {
+    LongerOrResize,
 }
 
-// What a line of notes says: a call of the first lane or of the second, or nothing, since it is outside the grammar.
+// What a line of notes says: a call of the first lane or of the second. A line that may be outside the grammar is an `Option<NoteLine>`.
 #[derive(Clone, Copy)]
 pub enum NoteLine {
     First(Note),
     Second(Note),
-    Outside,
 }

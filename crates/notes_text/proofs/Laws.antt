@@ -1,5 +1,5 @@
 -- Laws of a line of notes that the proofs of the functions cite, in the form in which loops and branches use them. Assumes nothing.
-use Rattle.std.specs.Prelude.{if◌then◌else◌}
+use Rattle.std.specs.Prelude.{if◌then◌else◌, Option, None, Some}
 use Prim.Native.Nat.{ℕ, suc, ◌+◌, ◌<◌, ◌≤◌}
 use native.Mathlib.Numerals.{add-one}
 use native.Mathlib.Omega.{arith}
@@ -11,12 +11,10 @@ use borrow.Author.Tests.{eq-eqb, ne_eqb}
 use lib.ListN.{length, get_or, take, drop, drop_of_length-le}
 use lib.Seq.{drop-cons}
 use Rattle.session.specs.declared.EventLine.{EventLine}
-use Rattle.session.specs.declared.EventLine.TheVariants.{Start, Step, Outside as NoEvent}
+use Rattle.session.specs.declared.EventLine.TheVariants.{Start, Step}
 use Rattle.session.specs.Grammar.{starts_with, equals, parse_start}
-use Rattle.notes.specs.declared.AnswerWord.{AnswerWord}
-use Rattle.notes.specs.declared.AnswerWord.TheVariants.{NoWord}
+use Rattle.spec.specs.declared.Answer.{Answer}
 use Rattle.notes.specs.declared.NoteLine.{NoteLine}
-use Rattle.notes.specs.declared.NoteLine.TheVariants.{Outside}
 use Rattle.notes.specs.Text.{parse_answer, last_comma_from, last_comma, noted, parse_noted}
 
 -- ---- the last comma
@@ -43,18 +41,18 @@ module _ (s : List ℕ) (i best : ℕ) where
 
 -- ---- what stands after the key
 
-no_word : (e : EventLine) → noted e NoWord ≡ Outside
+no_word : (e : Option EventLine) → noted e None ≡ None
 unfolding noted
-no_word (Start k call tag) = refl
-no_word (Step k) = refl
-no_word NoEvent = refl
+no_word (Some (Start k call tag)) = refl
+no_word (Some (Step k)) = refl
+no_word None = refl
 
 module _ (s : List ℕ) (p : ℕ) (e : p ≡ last_comma s) where
-  pub no_comma : length s ≤ p → Outside ≡ parse_noted s
+  pub no_comma : length s ≤ p → None ≡ parse_noted s
   unfolding parse_noted parse_answer equals starts_with
   no_comma h = let g : length s ≤ p + 1 = omega arith in rw (← e, drop_of_length-le s g) (sym (no_word _))
 
-  pub at_comma : (b : EventLine) (w : AnswerWord) (r : NoteLine) → b ≡ parse_start (take p s) → w ≡ parse_answer (drop (p + 1) s)
+  pub at_comma : (b : Option EventLine) (w : Option Answer) (r : Option NoteLine) → b ≡ parse_start (take p s) → w ≡ parse_answer (drop (p + 1) s)
       → r ≡ noted b w → r ≡ parse_noted s
   unfolding parse_noted
   at_comma b w r f g q = rw (← e, ← f, ← g) q

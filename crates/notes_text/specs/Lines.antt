@@ -1,7 +1,7 @@
 -- Line by line, an input of notes prints its transcript: `lines_print_transcript`. A seventh note of a lane, and those after it, change nothing but
 -- that the list is longer. A line outside the grammar fixes the answer (`outside_decides`), and so does one that is too long or not closed
 -- (`notes_outside`). Assumes nothing.
-use Rattle.std.specs.Prelude.{◌≡◌, Bool, ◌||◌, ℕ, ◌+◌, ltb, take, set, if◌then◌else◌}
+use Rattle.std.specs.Prelude.{◌≡◌, Bool, ◌||◌, ℕ, ◌+◌, ltb, set, if◌then◌else◌, Option, Some, None}
 use Rattle.std.proofs.Math.Path.{refl}
 use Rattle.std.proofs.Common.{sym, ◌∙◌, lt-ltb, le-ltb, ltb-true, ltb-false}
 use mathlib.Core.List.{List, [], ◌∷◌, ◌++◌, append_assoc, append-nil}
@@ -16,7 +16,7 @@ use Rattle.laws.specs.Tests.{or_l, or_r}
 use Rattle.notes.specs.declared.Note.{Note}
 use Rattle.notes.specs.declared.Notes.{Notes}
 use Rattle.notes.specs.declared.NoteLine.{NoteLine}
-use Rattle.notes.specs.declared.NoteLine.TheVariants.{First, Second, Outside}
+use Rattle.notes.specs.declared.NoteLine.TheVariants.{First, Second}
 use Rattle.notes.specs.Merge.{unfit, merge, list_of}
 use Rattle.notes.specs.Text.{parse_note_line, outcome_lines, merge_lines, add_first, first_notes, add_second, second_notes, is_note, all_notes}
 use Rattle.notes.specs.Text.{notes_output, notes_transcript}
@@ -25,11 +25,11 @@ use Rattle.notes_text.specs.Reading.{notes_of, add_note, no_notes, new_reading, 
 
 -- ---- a line outside the grammar
 
-outside_kept : (r : Reading) → r.outside ≡ true → (n : NoteLine) → (add_line r n).outside ≡ true
+outside_kept : (r : Reading) → r.outside ≡ true → (n : Option NoteLine) → (add_line r n).outside ≡ true
 unfolding add_line
-outside_kept r e (First x) = e
-outside_kept r e (Second x) = e
-outside_kept r e Outside = refl
+outside_kept r e (Some (First x)) = e
+outside_kept r e (Some (Second x)) = e
+outside_kept r e None = refl
 
 pub outside_refused : (r : Reading) → r.outside ≡ true → (ls : List InputLine) → answer r ls ≡ refusal_line 10
 unfolding answer
@@ -46,7 +46,7 @@ notes_takes r l ls short = refl
 
 cut_off_refused : (r : Reading) (l : InputLine) (ls : List InputLine) → admissible l ≡ false → answer r (l ∷ ls) ≡ refusal_line 10
 unfolding answer add_line parse_note_line
-cut_off_refused r l ls e = rw e (outside_refused (add_line r Outside) refl ls)
+cut_off_refused r l ls e = rw e (outside_refused (add_line r None) refl ls)
 
 pub notes_outside : OutsideFixes answer
 notes_outside r x y ls e f = cut_off_refused r x ls e ∙ sym (cut_off_refused r y [] f)
@@ -102,15 +102,15 @@ output_left outside xs ys ls =
     else refusal_line 10
 
 module _ (outside : Bool) (xs ys : List Note) (l : InputLine) (ls : List InputLine) where
-  first_left : (x : Note) → parse_note_line l ≡ First x → output_left outside (xs ++ (x ∷ [])) ys ls ≡ output_left outside xs ys (l ∷ ls)
+  first_left : (x : Note) → parse_note_line l ≡ Some (First x) → output_left outside (xs ++ (x ∷ [])) ys ls ≡ output_left outside xs ys (l ∷ ls)
   unfolding output_left all_notes first_notes second_notes is_note add_first add_second
   first_left x e = rw (e, append_assoc xs (x ∷ []) (first_notes ls))
 
-  second_left : (x : Note) → parse_note_line l ≡ Second x → output_left outside xs (ys ++ (x ∷ [])) ls ≡ output_left outside xs ys (l ∷ ls)
+  second_left : (x : Note) → parse_note_line l ≡ Some (Second x) → output_left outside xs (ys ++ (x ∷ [])) ls ≡ output_left outside xs ys (l ∷ ls)
   unfolding output_left all_notes first_notes second_notes is_note add_first add_second
   second_left x e = rw (e, append_assoc ys (x ∷ []) (second_notes ls))
 
-  outside_left : parse_note_line l ≡ Outside → output_left true xs ys ls ≡ output_left outside xs ys (l ∷ ls)
+  outside_left : parse_note_line l ≡ None → output_left true xs ys ls ≡ output_left outside xs ys (l ∷ ls)
   unfolding output_left all_notes is_note
   outside_left e = rw e (go outside)
     where
@@ -130,12 +130,12 @@ answer_left [] r xs ys m n =
     rw (append-nil xs, append-nil ys, same)
 answer_left (l ∷ ls) r xs ys m n = go (answer_left ls) (parse_note_line l) refl
   where
-    go : PrintsLines ls → (said : NoteLine) → parse_note_line l ≡ said → answer (add_line r said) ls ≡ output_left r.outside xs ys (l ∷ ls)
-    go ih (First y) e =
-        ih (add_line r (First y)) (xs ++ (y ∷ [])) ys (keeps_more r.one xs y m) n ∙ first_left r.outside xs ys l ls y e
-    go ih (Second y) e =
-        ih (add_line r (Second y)) xs (ys ++ (y ∷ [])) m (keeps_more r.two ys y n) ∙ second_left r.outside xs ys l ls y e
-    go ih Outside e = ih (add_line r Outside) xs ys m n ∙ outside_left r.outside xs ys l ls e
+    go : PrintsLines ls → (said : Option NoteLine) → parse_note_line l ≡ said → answer (add_line r said) ls ≡ output_left r.outside xs ys (l ∷ ls)
+    go ih (Some (First y)) e =
+        ih (add_line r (Some (First y))) (xs ++ (y ∷ [])) ys (keeps_more r.one xs y m) n ∙ first_left r.outside xs ys l ls y e
+    go ih (Some (Second y)) e =
+        ih (add_line r (Some (Second y))) xs (ys ++ (y ∷ [])) m (keeps_more r.two ys y n) ∙ second_left r.outside xs ys l ls y e
+    go ih None e = ih (add_line r None) xs ys m n ∙ outside_left r.outside xs ys l ls e
 
 pub lines_print_transcript : (input : List ℕ) → notes_transcript input ≡ answer new_reading (input_lines input)
 unfolding new_reading notes_transcript notes_output output_left

@@ -9,7 +9,7 @@ use Rattle.spec.specs.declared.Call.TheVariants.{Insert, Remove, Contains, Grow,
 use Rattle.spec.specs.Lists.{every}
 use Rattle.spec.specs.History.{set_call}
 use Rattle.session.specs.Grammar.{InputLine}
-use Rattle.session.specs.Print.{decimal, refusal_line}
+use Rattle.session.specs.Print.{refusal_line}
 use Rattle.session.specs.OutputLengths.{decimal_length, word_length, refusal_length}
 use Rattle.laws.specs.Tests.{bool?, or_none}
 use Rattle.notes.specs.declared.Note.{Note}

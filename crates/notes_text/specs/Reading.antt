@@ -1,5 +1,5 @@
 -- An input of notes, line by line: the definitions that the code is held to. That they print the transcript is shown in Lines. Assumes nothing.
-use Rattle.std.specs.Prelude.{ℕ, ◌+◌, List, [], ◌∷◌, Bool, true, false, ltb, set, replicate, if◌then◌else◌}
+use Rattle.std.specs.Prelude.{ℕ, ◌+◌, List, [], ◌∷◌, Bool, true, false, ltb, set, replicate, if◌then◌else◌, Option, Some, None}
 use Rattle.spec.specs.declared.Answer.TheVariants.{No}
 use Rattle.spec.specs.declared.Call.TheVariants.{Contains}
 use Rattle.session.specs.Grammar.{InputLine, closed_line}
@@ -7,7 +7,7 @@ use Rattle.session.specs.Print.{refusal_line}
 use Rattle.notes.specs.declared.Note.{Note}
 use Rattle.notes.specs.declared.Notes.{Notes}
 use Rattle.notes.specs.declared.NoteLine.{NoteLine}
-use Rattle.notes.specs.declared.NoteLine.TheVariants.{First, Second, Outside}
+use Rattle.notes.specs.declared.NoteLine.TheVariants.{First, Second}
 use Rattle.notes.specs.Orders.{note}
 use Rattle.notes.specs.Merge.{list_of}
 use Rattle.notes.specs.Text.{parse_note_line, merge_lines}
@@ -30,10 +30,10 @@ unfoldable pub new_reading : Reading
 new_reading = reading false no_notes no_notes
 
 -- what a line says
-unfoldable pub add_line : Reading → NoteLine → Reading
-add_line r (First x) = reading r.outside (add_note r.one x) r.two
-add_line r (Second x) = reading r.outside r.one (add_note r.two x)
-add_line r Outside = reading true r.one r.two
+unfoldable pub add_line : Reading → Option NoteLine → Reading
+add_line r (Some (First x)) = reading r.outside (add_note r.one x) r.two
+add_line r (Some (Second x)) = reading r.outside r.one (add_note r.two x)
+add_line r None = reading true r.one r.two
 
 -- the bytes of a closed line
 unfoldable pub take_line : Reading → List ℕ → Reading

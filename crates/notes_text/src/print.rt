@@ -1,79 +1,75 @@
-// Printing notes and what is said of two lists into a lent buffer, over the printer of a session's lines: each function appends what its
-// definition gives from a place of the buffer on and gives the next place; bytes that find no room are left out.
-ghost use Rattle.std.specs.Prelude.{◌≡◌, ◌≤◌};
-ghost use Rattle.session.specs.Buffer.{buffer, append};
-ghost use Rattle.notes.specs.Merge.{list_of};
+// Printing notes and what is said of two lists on a page, over the printer of a session's lines: each function appends what its definition
+// gives; bytes that find no room are left out.
+ghost use Rattle.std.specs.Prelude.{◌≡◌};
+ghost use Rattle.session_bytes.specs.Pages.{Appends};
+ghost use Rattle.notes.specs.Merge.{list_of, number_of};
 ghost use Rattle.notes.specs.Text.{call_field, note_line, merge_lines};
-ghost use Rattle.merge.specs.Trying.{first_six};
 ghost use Rattle.notes_text.specs.Printing.{lane_lines};
 
-use notes::{Note, Notes, Verdict};
+use notes::{Lane, Note, Notes, Unfit};
+use session_bytes::Page;
 use spec::Call;
 
 // A call, with its tag if it has one.
-fn call_field(buf: &mut [u8], at: usize, call: Call, tag: u32) -> usize
-    ensures { buffer buf.new result ≡ append (call_field call tag) (buffer buf.old at) }
+#[tactic(auto, unfolding(notes::specs::Text::call_field))]
+fn call_field(page: &mut Page<'_>, call: Call, tag: u32)
+    ensures { Appends (call_field call tag) page.old page.new }
 {
     match call {
-        Call::Insert => session_bytes::keyed(buf, at, b"insert,", tag as u64, 44),
-        Call::Remove => session_bytes::keyed(buf, at, b"remove,", tag as u64, 44),
-        Call::Contains => session_bytes::keyed(buf, at, b"contains,", tag as u64, 44),
-        Call::Grow => session_bytes::all_bytes(buf, at, b"grow,"),
-        Call::Shrink => session_bytes::all_bytes(buf, at, b"shrink,"),
+        Call::Insert => page.keyed(b"insert,", u64::from(tag), b','),
+        Call::Remove => page.keyed(b"remove,", u64::from(tag), b','),
+        Call::Contains => page.keyed(b"contains,", u64::from(tag), b','),
+        Call::Grow => page.bytes(b"grow,"),
+        Call::Shrink => page.bytes(b"shrink,"),
     }
 }
 
 // A lane's note.
-fn note(buf: &mut [u8], at: usize, lane: u8, x: Note) -> usize
-    ensures { buffer buf.new result ≡ append (note_line lane x) (buffer buf.old at) }
+fn note(page: &mut Page<'_>, lane: Lane, x: Note)
+    ensures { Appends (note_line (number_of lane) x) page.old page.new }
 {
-    let call = x.call;
-    let answer = x.answer;
-    let a = session_bytes::keyed(buf, at, b"note=", lane as u64, 44);
-    let b = call_field(buf, a, call, x.tag);
-    let c = session_print::answer(buf, b, answer);
-    session_bytes::one_byte(buf, c, 10)
+    page.keyed(b"note=", lane.number(), b',');
+    call_field(page, x.call, x.tag);
+    session_print::answer(page, x.answer);
+    page.byte(b'\n');
 }
 
 // The calls of both lists in the order of these lanes, as far as they go.
-fn order(buf: &mut [u8], at: usize, a: Notes, b: Notes, lane: [u8; 12]) -> usize
-    requires { (a.count ≤ 6) × (b.count ≤ 6) }
-    ensures { buffer buf.new result ≡ append (lane_lines lane (first_six a) (first_six b)) (buffer buf.old at) }
+fn order(page: &mut Page<'_>, lanes: [Option<Lane>; 12], a: &[Note], b: &[Note])
+    ensures { Appends (lane_lines lanes a.now b.now) page.old page.new }
 {
-    let m = a.count;
-    let n = b.count;
-    let mut to = at;
-    let mut i = 0;
-    let mut j = 0;
-    while i + j < 12 {
-        let k = i + j;
-        if lane[k] == 1 {
-            if m <= i {
-                return to;
+    let mut firsts = a;
+    let mut seconds = b;
+    for lane in lanes {
+        let Some(lane) = lane else {
+            return;
+        };
+        match lane {
+            Lane::First => {
+                let Some((x, rest)) = firsts.split_first() else {
+                    return;
+                };
+                note(page, lane, *x);
+                firsts = rest;
             }
-            to = note(buf, to, 1, a.note[i]);
-            i += 1;
-        } else {
-            if n <= j {
-                return to;
+            Lane::Second => {
+                let Some((x, rest)) = seconds.split_first() else {
+                    return;
+                };
+                note(page, lane, *x);
+                seconds = rest;
             }
-            to = note(buf, to, 2, b.note[j]);
-            j += 1;
         }
     }
-    to
 }
 
 // What is said of both lists.
-pub fn merged(buf: &mut [u8], at: usize, a: Notes, b: Notes) -> usize
-    ensures { buffer buf.new result ≡ append (merge_lines (list_of a) (list_of b)) (buffer buf.old at) }
+pub fn merged(page: &mut Page<'_>, a: Notes, b: Notes)
+    ensures { Appends (merge_lines (list_of a) (list_of b)) page.old page.new }
 {
-    let m = merge::merge(a, b);
-    let says = m.says;
-    let lane = m.lane;
-    match says {
-        Verdict::Order => order(buf, at, a, b, lane),
-        Verdict::NoOrder => session_bytes::all_bytes(buf, at, b"none\n"),
-        Verdict::Refused(n) => session_bytes::refusal(buf, at, n),
+    match merge::merge(a, b) {
+        Ok(Some(lanes)) => order(page, lanes, &a.note[..a.count], &b.note[..b.count]),
+        Ok(None) => page.bytes(b"none\n"),
+        Err(Unfit::LongerOrResize) => page.refusal(13),
     }
 }

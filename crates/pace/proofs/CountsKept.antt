@@ -1,6 +1,6 @@
 -- Counts kept through a schedule: each task's count, told from events and outputs, fits its position in the model, and so is within the
 -- most steps of its call; and a refused step of a running call is refused with 7. By induction over the events. Assumes nothing.
-use Rattle.std.specs.Prelude.{◌≡◌, ◌⊎◌, true, List, [], ◌∷◌, ℕ, suc, ◌+◌, ◌≤◌, if◌then◌else◌}
+use Rattle.std.specs.Prelude.{◌≡◌, ◌⊎◌, true, List, [], ◌∷◌, ℕ, suc, ◌+◌, ◌≤◌, if◌then◌else◌, Ok}
 use Rattle.std.proofs.Math.Path.{refl}
 use Rattle.std.proofs.Common.{sym, ◌∙◌, subst, inl, inr, arith, eq-eqb, ne_eqb}
 use Rattle.std.proofs.Math.Bool.{false}
@@ -10,8 +10,8 @@ use Rattle.spec.specs.declared.Answer.{Answer}
 use Rattle.spec.specs.declared.Call.{Call}
 use Rattle.spec.specs.declared.Call.TheVariants.{Insert, Remove, Contains, Grow, Shrink}
 use Rattle.spec.specs.declared.Config.{Config}
-use Rattle.spec.specs.declared.Output.{Output}
-use Rattle.spec.specs.declared.Output.TheVariants as Outs
+use Rattle.spec.specs.Outputs.{Output}
+use Rattle.spec.specs.declared.Progress.TheVariants as Outs
 use Rattle.spec.specs.Machine.{Machine, task_of}
 use Rattle.spec.specs.Listed.{key}
 use Rattle.spec.specs.Entries.{opening}
@@ -152,7 +152,7 @@ module _ (slack : ℕ) (c : ℕ → CallCount) (y : Machine) (s : CountsFit slac
       end_fits p a g r (outcome_head {w = w} {own = (task_of y p).own} (resize_ended a g line moved {full = full}) at) q
 
   start_fits : (p : ℕ) (call : Call) (tag n : ℕ) (q : ℕ)
-      → Fits slack w.heap (upd w.position p (first_of call tag) q) (count c (starts p call tag) (Outs.At n) q)
+      → Fits slack w.heap (upd w.position p (first_of call tag) q) (count c (starts p call tag) (Ok (Outs.At n)) q)
   unfolding count begun
   start_fits p call tag n q = go (ℕ_discrete q p)
     where

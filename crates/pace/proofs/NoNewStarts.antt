@@ -2,7 +2,7 @@
 -- on, an insert or remove makes at most 12 × (1 + R + 1) further steps, one pass more than R allows, since the one under way may be at an
 -- older node. With no new call, each resize that is done is one of at most 8 running calls less, so R is at most 8, and 12 × 10 is below
 -- the 292 that a resize may make. Assumes nothing.
-use Rattle.std.specs.Prelude.{◌≡◌, refl, Bool, true, false, List, [], ◌∷◌, eqb, if◌then◌else◌}
+use Rattle.std.specs.Prelude.{◌≡◌, refl, Bool, true, false, List, [], ◌∷◌, eqb, if◌then◌else◌, Option, ℕ, Ok}
 use Prim.Native.Nat.{ℕ, ◌+◌, ◌-◌, min, ◌≤◌, ◌<◌}
 use Rattle.std.proofs.Math.Decide.{ℕ_discrete}
 use Rattle.std.proofs.Common.{arith, eq-eqb, ne_eqb}
@@ -10,9 +10,8 @@ use Rattle.spec.specs.declared.Answer.{Answer}
 use Rattle.spec.specs.declared.Answer.TheVariants as Answers
 use Rattle.spec.specs.declared.Call.{Call}
 use Rattle.spec.specs.declared.Call.TheVariants.{Insert, Remove, Contains, Grow, Shrink}
-use Rattle.spec.specs.declared.Occupancy.{Occupancy}
-use Rattle.spec.specs.declared.Output.{Output}
-use Rattle.spec.specs.declared.Output.TheVariants as Outs
+use Rattle.spec.specs.Outputs.{Output}
+use Rattle.spec.specs.declared.Progress.TheVariants as Outs
 use Rattle.spec.specs.Machine.{Machine, task_of}
 use Rattle.spec.specs.Schedule.{Event, steps, event, run}
 use Rattle.model.specs.Heap.{Heap}
@@ -85,12 +84,12 @@ done_at_most_one Answers.Lost = omega arith
 done_at_most_one Answers.Limit = omega arith
 
 module _ (c : ℕ → CallCount) (few : FewDone c) (p : ℕ) where
-  step_few : (l : ℕ) → (c p).running ≡ true → FewDone (count c (steps p) (Outs.At l))
+  step_few : (l : ℕ) → (c p).running ≡ true → FewDone (count c (steps p) (Ok (Outs.At l)))
   unfolding count stepped
   step_few l runs q = go (ℕ_discrete q p)
     where
       d : ℕ → CallCount
-      d = count c (steps p) (Outs.At l)
+      d = count c (steps p) (Ok (Outs.At l))
 
       same : (q : ℕ) → Dec (q ≡ p) → (if eqb q p then stepped true (c q) else c q).running ≡ (c q).running
       same q (yes u) = let b : (c q).running ≡ true = rw u runs in rw (eq-eqb q p u, b)
@@ -103,12 +102,12 @@ module _ (c : ℕ → CallCount) (few : FewDone c) (p : ℕ) where
       go (yes u) = let f = few q in let l = fewer in rw (eq-eqb q p u) (omega arith)
       go (no n) = let f = few q in let l = fewer in rw (ne_eqb q p n) (omega arith)
 
-  end_few : (a : Answer) (own : ℕ) (full : Occupancy) → p < 8 → (c p).running ≡ true → FewDone (count c (steps p) (Outs.End a own full))
+  end_few : (a : Answer) (own : ℕ) (full : Option ℕ) → p < 8 → (c p).running ≡ true → FewDone (count c (steps p) (Ok (Outs.End a own full)))
   unfolding count stepped beside_end runs_one
   end_few a own full lt runs q = go (ℕ_discrete q p)
     where
       d : ℕ → CallCount
-      d = count c (steps p) (Outs.End a own full)
+      d = count c (steps p) (Ok (Outs.End a own full))
 
       at_p : runs_one d p < runs_one c p
       at_p = rw (eq-eqb p p refl, runs) (omega arith)

@@ -13,7 +13,7 @@
 use Rattle.std.specs.Prelude.{◌≡◌, refl, List, [], ◌∷◌, ◌++◌, ℕ, length, drop}
 use Rattle.std.proofs.Common.{ap}
 use Rattle.spec.specs.declared.Config.{Config}
-use Rattle.spec.specs.declared.Output.{Output}
+use Rattle.spec.specs.Outputs.{Output}
 use Rattle.spec.specs.Machine.{Machine, task_of}
 use Rattle.spec.specs.Entries.{opening}
 use Rattle.spec.specs.Schedule.{Event, event, Ran, run, schedule}

@@ -3,14 +3,16 @@
 use Prim.Native.Nat.{ℕ, suc, ◌-◌, ◌≤◌, ◌<◌}
 use Rattle.std.proofs.Math.Decide.{ℕ_discrete}
 use native.Mathlib.Omega.{arith}
-use Rattle.std.specs.Prelude.{◌≡◌, ◌⊎◌, Bool, false, if◌then◌else◌}
+use Rattle.std.specs.Prelude.{◌≡◌, ◌⊎◌, Bool, false, if◌then◌else◌, Ok, Err}
 use Rattle.std.proofs.Math.Path.{refl, sym}
 use Rattle.std.proofs.Common.{ap, ◌∙◌, inl, inr, eq-eqb, ne_eqb}
 use Rattle.std.proofs.Math.Bool.{true}
 use mathlib.Core.List.{List, [], ◌∷◌}
+use Rattle.spec.specs.declared.Refusal.{Refusal}
+use Rattle.spec.specs.declared.Refusal.TheVariants.{NoRecord, Spoilt}
 use Rattle.spec.specs.declared.Config.{Config}
-use Rattle.spec.specs.declared.Output.{Output}
-use Rattle.spec.specs.declared.Output.TheVariants.{At, End, Refuse}
+use Rattle.spec.specs.Outputs.{Output}
+use Rattle.spec.specs.declared.Progress.TheVariants.{At, End}
 use Rattle.spec.specs.Machine.{Machine, with_chosen, with_state, state_chosen, task_of}
 use Rattle.spec.specs.Sound.{task_count}
 use Rattle.spec.specs.Entries.{Reply, opening, step}
@@ -52,23 +54,23 @@ left_most c q = go (c q).running
     go false = omega arith
 
 abbrev Accepted : Output → Type 0
-Accepted (At l) = Unit {0}
-Accepted (End a own full) = Unit {0}
-Accepted (Refuse r) = ⊥
+Accepted (Ok (At l)) = Unit {0}
+Accepted (Ok (End a own full)) = Unit {0}
+Accepted (Err r) = ⊥
 
 module _ (c : ℕ → CallCount) (p : ℕ) where
   -- an accepted step of a running call takes one off; the others' stay
   left_less : (o : Output) → Accepted o → (c p).running ≡ true → (c p).accepted < 292 → steps_left (count c (steps p) o) p < steps_left c p
   unfolding steps_left count stepped
-  left_less (At l) a runs few = rw (eq-eqb p p refl, runs) (omega arith)
-  left_less (End a own full) b runs few = rw (eq-eqb p p refl, runs) (omega arith)
-  left_less (Refuse r) a runs few = absurd a
+  left_less (Ok (At l)) a runs few = rw (eq-eqb p p refl, runs) (omega arith)
+  left_less (Ok (End a own full)) b runs few = rw (eq-eqb p p refl, runs) (omega arith)
+  left_less (Err r) a runs few = absurd a
 
   left_other : (o : Output) (q : ℕ) → ¬ (q ≡ p) → steps_left (count c (steps p) o) q ≤ steps_left c q
   unfolding steps_left count beside_end
-  left_other (At l) q d = rw (ne_eqb q p d) (omega arith)
-  left_other (End a own full) q d = rw (ne_eqb q p d) (omega arith)
-  left_other (Refuse r) q d = omega arith
+  left_other (Ok (At l)) q d = rw (ne_eqb q p d) (omega arith)
+  left_other (Ok (End a own full)) q d = rw (ne_eqb q p d) (omega arith)
+  left_other (Err r) q d = omega arith
 
   left_step : (o : Output) → Accepted o → (c p).running ≡ true → (c p).accepted < 292 → (q : ℕ) → steps_left (count c (steps p) o) q ≤ steps_left c q
   left_step o a runs few q = go (ℕ_discrete q p)
@@ -78,7 +80,7 @@ module _ (c : ℕ → CallCount) (p : ℕ) where
       go (no d) = left_other o q d
 
 -- what is refused leaves as much
-left_refused : (c : ℕ → CallCount) (e : Event) (r q : ℕ) → steps_left (count c e (Refuse r)) q ≤ steps_left c q
+left_refused : (c : ℕ → CallCount) (e : Event) (r : Refusal) (q : ℕ) → steps_left (count c e (Err r)) q ≤ steps_left c q
 unfolding steps_left count
 left_refused c (starts p call tag) r q = omega arith
 left_refused c (steps p) r q = omega arith
@@ -145,10 +147,10 @@ module _ (l : ℕ) where
     outcome_left (start_refused p call tag r other) none q = left_refused c (starts p call tag) r q
     outcome_left (call_started p call tag n lt a) none q = absurd none
     outcome_left (step_refused p r a other) none q = left_refused c (steps p) r q
-    outcome_left (none_free p a h) none q = left_refused c (steps p) 7 q
-    outcome_left (made-step p lt r (went_on {n = n} g x line) at) none q = made p r (At n) tt q
-    outcome_left (made-step p lt r (call_ended {a = a} g x {full = full}) at) none q = made p r (End a _ full) tt q
-    outcome_left (made-step p lt r (resize_ended a g line moved {full = full}) at) none q = made p r (End a _ full) tt q
+    outcome_left (none_free p a h) none q = left_refused c (steps p) NoRecord q
+    outcome_left (made-step p lt r (went_on {n = n} g x line) at) none q = made p r (Ok (At n)) tt q
+    outcome_left (made-step p lt r (call_ended {a = a} g x {full = full}) at) none q = made p r (Ok (End a _ full)) tt q
+    outcome_left (made-step p lt r (resize_ended a g line moved {full = full}) at) none q = made p r (Ok (End a _ full)) tt q
 
     total_stays : (e : Event) → NoStart e (event y e).out
         → total (steps_left (count c e (event y e).out)) (task_count y) ≤ total (steps_left c) (task_count y)
@@ -170,12 +172,12 @@ module _ (l : ℕ) where
       out_same = ap (λ (r : Reply). r.out) (same_event l y s.beside (steps k))
 
       is_accepted : (o : Output) → (event y (steps k)).out ≡ o → Accepted o
-      is_accepted (At n) e = tt
-      is_accepted (End a own full) e = tt
-      is_accepted (Refuse n) e =
-          let at : RefusedWith7 c (steps k) (Refuse n) = rw (out_same ∙ e) at (event_kept 1 c z s.fits (steps k)).1 in
+      is_accepted (Ok (At n)) e = tt
+      is_accepted (Ok (End a own full)) e = tt
+      is_accepted (Err n) e =
+          let at : RefusedWith7 c (steps k) (Err n) = rw (out_same ∙ e) at (event_kept 1 c z s.fits (steps k)).1 in
           let is_7 = at (is_counted c y s k r) in
-          event_not_7 z s.enough (steps k) (out_same ∙ e ∙ ap Refuse is_7)
+          event_not_7 z s.enough (steps k) (out_same ∙ e ∙ ap Err is_7)
 
       turn_going : (o : Output) (x : Machine) → Next y k → (step y k).out ≡ o → (step y k).machine ≡ x
           → Going l (count c (steps k) o) (with_chosen k x)
@@ -208,7 +210,7 @@ module _ (l : ℕ) where
           let more = ih c y s none p r in
           let less = none_left c y s (λ k lt. (all k lt).1) in
           absurd (omega arith)
-      go (step_spoilt k u n f) none r ih = absurd (is_accepted c y s k n.runs (Refuse 8) f)
+      go (step_spoilt k u n f) none r ih = absurd (is_accepted c y s k n.runs (Err Spoilt) f)
       go (goes k o z u n f x only) none r ih =
           let tasks = step_tasks y k z x in
           let more = ih (count c (steps k) o) (with_chosen k z) (turn_going c y s k n.runs o z n f x) none.1 p r in

@@ -1,11 +1,11 @@
 -- The head's number in the sequence of heads: only the step that ends a resize moves it, to the next one. Assumes nothing.
-use Rattle.std.specs.Prelude.{◌≡◌, refl, ◌⊎◌, ℕ, suc, ◌+◌, ◌≤◌}
+use Rattle.std.specs.Prelude.{◌≡◌, refl, ◌⊎◌, ℕ, suc, ◌+◌, ◌≤◌, Ok, Err}
 use Rattle.std.proofs.Common.{◌∙◌, inl, inr, arith}
 use Rattle.spec.specs.declared.Answer.{Answer}
 use Rattle.spec.specs.declared.Answer.TheVariants.{Done}
 use Rattle.spec.specs.declared.Call.{Call}
-use Rattle.spec.specs.declared.Output.{Output}
-use Rattle.spec.specs.declared.Output.TheVariants as Outs
+use Rattle.spec.specs.Outputs.{Output}
+use Rattle.spec.specs.declared.Progress.TheVariants as Outs
 use Rattle.model.specs.Functions.{upd_same}
 use Rattle.model.specs.Heap.{Heap}
 use Rattle.model.specs.Positions.{Position, no_call}
@@ -56,9 +56,9 @@ end_head (end_36_absent e u) = refl
 
 -- the resizes that an output says are done
 abbrev pub done_in : Output → ℕ
-done_in (Outs.At l) = 0
-done_in (Outs.End a own full) = done_with a
-done_in (Outs.Refuse r) = 0
+done_in (Ok (Outs.At l)) = 0
+done_in (Ok (Outs.End a own full)) = done_with a
+done_in (Err r) = 0
 
 -- from the head w to the head v with j resizes done
 pub record HeadMoves (w v j : ℕ) : Type 0 where

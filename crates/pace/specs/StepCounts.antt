@@ -1,12 +1,13 @@
 -- Paper 02, U12: how many accepted steps a call makes, as types, told from the events of a schedule and their outputs alone. Own steps
 -- cannot serve: they stay at 65,535. Proved in Theorems; what is counted in a few schedules is in the crate `pace_cases`. Assumes nothing.
-use Rattle.std.specs.Prelude.{ℕ, suc, ◌+◌, ◌*◌, ◌≤◌, ◌<◌, ◌≡◌, List, [], ◌∷◌, Bool, true, false, eqb, if◌then◌else◌}
+use Rattle.std.specs.Prelude.{ℕ, suc, ◌+◌, ◌*◌, ◌≤◌, ◌<◌, ◌≡◌, List, [], ◌∷◌, Bool, true, false, eqb, if◌then◌else◌, Ok, Err}
+use Rattle.spec.specs.declared.Refusal.TheVariants.{NoRecord}
 use Rattle.spec.specs.declared.Answer.{Answer}
 use Rattle.spec.specs.declared.Answer.TheVariants.{Yes, No, Full, Done, Lost, Limit}
 use Rattle.spec.specs.declared.Call.{Call}
 use Rattle.spec.specs.declared.Call.TheVariants.{Insert, Remove, Contains, Grow, Shrink}
-use Rattle.spec.specs.declared.Output.{Output}
-use Rattle.spec.specs.declared.Output.TheVariants.{At, End, Refuse}
+use Rattle.spec.specs.Outputs.{Output}
+use Rattle.spec.specs.declared.Progress.TheVariants.{At, End}
 use Rattle.spec.specs.Schedule.{Event, starts, steps}
 
 -- ---- a task's last started call
@@ -41,12 +42,12 @@ beside_end a c = record { call = c.call; running = c.running; accepted = c.accep
 
 -- each task's, after one event
 unfoldable pub count : (ℕ → CallCount) → Event → Output → ℕ → CallCount
-count c (starts p call tag) (At l) q = if eqb q p then begun call else c q
-count c (starts p call tag) (End a own full) q = c q
-count c (starts p call tag) (Refuse r) q = c q
-count c (steps p) (At l) q = if eqb q p then stepped true (c q) else c q
-count c (steps p) (End a own full) q = if eqb q p then stepped false (c q) else beside_end a (c q)
-count c (steps p) (Refuse r) q = c q
+count c (starts p call tag) (Ok (At l)) q = if eqb q p then begun call else c q
+count c (starts p call tag) (Ok (End a own full)) q = c q
+count c (starts p call tag) (Err r) q = c q
+count c (steps p) (Ok (At l)) q = if eqb q p then stepped true (c q) else c q
+count c (steps p) (Ok (End a own full)) q = if eqb q p then stepped false (c q) else beside_end a (c q)
+count c (steps p) (Err r) q = c q
 
 -- the same after all events
 unfoldable pub counts : (ℕ → CallCount) → List Event → List Output → ℕ → CallCount
@@ -82,9 +83,9 @@ StepsWithin c (e ∷ es) (o ∷ os) = Within (count c e o) e × StepsWithin (cou
 
 -- none of these events is an accepted start
 abbrev pub NoStart : Event → Output → Type 0
-NoStart (starts p call tag) (At l) = ⊥
-NoStart (starts p call tag) (End a own full) = Unit {0}
-NoStart (starts p call tag) (Refuse r) = Unit {0}
+NoStart (starts p call tag) (Ok (At l)) = ⊥
+NoStart (starts p call tag) (Ok (End a own full)) = Unit {0}
+NoStart (starts p call tag) (Err r) = Unit {0}
 NoStart (steps p) o = Unit {0}
 
 abbrev pub NobodyStarts : List Event → List Output → Type 0
@@ -104,9 +105,9 @@ EndsWithin292 c es os = (p : ℕ) → let d = counts (anew c) es os p in (d.acce
 
 abbrev pub RefusedWith7 : (ℕ → CallCount) → Event → Output → Type 0
 RefusedWith7 c (starts p call tag) o = Unit {0}
-RefusedWith7 c (steps p) (At l) = Unit {0}
-RefusedWith7 c (steps p) (End a own full) = Unit {0}
-RefusedWith7 c (steps p) (Refuse r) = (c p).running ≡ true → r ≡ 7
+RefusedWith7 c (steps p) (Ok (At l)) = Unit {0}
+RefusedWith7 c (steps p) (Ok (End a own full)) = Unit {0}
+RefusedWith7 c (steps p) (Err r) = (c p).running ≡ true → r ≡ NoRecord
 
 -- of all these events; c counts what was before them
 abbrev pub Only7Refuses : (ℕ → CallCount) → List Event → List Output → Type 0

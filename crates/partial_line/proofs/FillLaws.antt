@@ -1,12 +1,12 @@
 -- Laws that the proof of `fill` cites, a byte at a time: it closes the line, or the line is one byte longer. Assumes nothing.
-use mathlib.Core.Path.{◌≡◌, refl, sym, ap, ◌∙◌}
+use mathlib.Core.Path.{◌≡◌, sym, ap, ◌∙◌}
 use mathlib.Core.List.{List, [], ◌∷◌, ◌++◌}
 use mathlib.Core.Bool.{Bool, true, false}
-use Prim.Native.Nat.{ℕ, zero, suc, ◌+◌, ◌<◌}
+use Prim.Native.Nat.{ℕ, ◌+◌, ◌<◌}
 use native.Mathlib.Numerals.{add-one}
 use native.Mathlib.Omega.{arith}
 use borrow.Author.Tests.{lt-ltb}
-use lib.Dec.{eqb, ltb}
+use lib.Dec.{eqb}
 use lib.ListN.{length, take, drop, set, get_or}
 use lib.Seq.{drop-cons, take-suc-set}
 use Rattle.session.specs.Keys.{newline}
@@ -50,7 +50,3 @@ module _ (xs : List ℕ) (i : ℕ) (l : i < length xs) (more : List ℕ) where
 
 pub not_both : {X : Type 0} → ◌≡◌ {A = Bool} false true → X
 not_both e = let z : ◌≡◌ {A = ℕ} 0 1 = cc in absurd (omega arith)
-
-pub not_zero : (n : ℕ) → (n ≡ 0 → ⊥) → 0 < n
-not_zero zero f = absurd (f refl)
-not_zero (suc n) f = omega arith

@@ -1,6 +1,6 @@
 -- What some bytes of an input make of a line: they are taken up to the byte that closes it, or to its 41st byte, which makes it too long
 -- however it goes on. Stated by the paper's lines (`split_lines`), whatever follows. Assumes nothing.
-use Rattle.std.specs.Prelude.{ℕ, ◌+◌, ◌<◌, ◌≤◌, ◌≡◌, List, [], ◌∷◌, ◌++◌, true, false, length, drop}
+use Rattle.std.specs.Prelude.{ℕ, ◌<◌, ◌≤◌, ◌≡◌, List, [], ◌∷◌, ◌++◌, true, false, length, drop}
 use Rattle.session.specs.Grammar.{InputLine, closed_line, split_lines}
 use Rattle.partial_line.specs.declared.PartialLine.{PartialLine}
 use Rattle.partial_line.specs.declared.Filled.{Filled}

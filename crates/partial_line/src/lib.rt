@@ -2,7 +2,7 @@
 // on.
 #![tactic(auto)]
 
-ghost use Rattle.std.specs.Prelude.{◌≡◌, ◌≤◌, eqb, length, take};
+ghost use Rattle.std.specs.Prelude.{◌≡◌, ◌≤◌, eqb, length};
 ghost use Rattle.session.specs.Keys.{newline};
 ghost use Rattle.partial_line.specs.PartialLines.{empty_line, line_bytes, pushed};
 ghost use Rattle.partial_line.specs.Filling.{Fills};
@@ -14,14 +14,26 @@ pub struct PartialLine {
     pub len: usize,
 }
 
+impl PartialLine {
+    // The line's bytes so far.
+    #[tactic(auto, using(crate::proofs::Laws::all_kept))]
+    pub fn as_bytes(&self) -> &[u8]
+        ensures bytes { result.now ≡ line_bytes self.now }
+        ensures most { length result.now ≤ 41 }
+    {
+        &self.bytes[..self.len.min(41)]
+    }
+}
+
 // Whether the byte closes a line.
 fn closes(x: u8) -> bool
     ensures { result ≡ eqb x newline }
 {
-    x == 10
+    x == b'\n'
 }
 
 // A line of no bytes.
+#[tactic(auto, unfolding(crate::specs::PartialLines::empty_line))]
 pub fn empty_line() -> PartialLine
     ensures { result ≡ empty_line }
 {
@@ -32,17 +44,13 @@ pub fn empty_line() -> PartialLine
 }
 
 // One byte more; a line of 41 bytes stays as it is.
-fn push(h: PartialLine, x: u8) -> PartialLine
+#[tactic(auto, using(crate::proofs::Laws::push_in, crate::proofs::Laws::push_full))]
+fn push(mut h: PartialLine, x: u8) -> PartialLine
     ensures { result ≡ pushed h x }
 {
-    let n = h.len;
-    let mut b = h.bytes;
-    if n < 41 {
-        b[n] = x;
-        return PartialLine {
-            bytes: b,
-            len: n + 1,
-        };
+    if h.len < 41 {
+        h.bytes[h.len] = x;
+        h.len += 1;
     }
     h
 }
@@ -60,8 +68,7 @@ pub fn fill(h: PartialLine, input: &[u8]) -> Filled
     ensures { Fills h input.now result }
 {
     let mut line = h;
-    let mut i = 0;
-    while i < input.len() {
+    for (i, x) in input.iter().enumerate() {
         if 40 < line.len {
             return Filled {
                 line,
@@ -69,34 +76,20 @@ pub fn fill(h: PartialLine, input: &[u8]) -> Filled
                 closed: false,
             };
         }
-        let x = input[i];
-        i += 1;
-        if closes(x) {
+        if closes(*x) {
             return Filled {
                 line,
-                used: i,
+                used: i + 1,
                 closed: true,
             };
         }
-        let longer = push(line, x);
-        line = longer;
+        line = push(line, *x);
     }
     Filled {
         line,
-        used: i,
+        used: input.len(),
         closed: false,
     }
-}
-
-// How many of the 41 bytes are the line's.
-pub fn line_length(h: PartialLine) -> usize
-    ensures { (result ≤ 41) × (take result h.bytes ≡ line_bytes h) }
-{
-    let n = h.len;
-    if n < 41 {
-        return n;
-    }
-    41
 }
 
 // A line of 41 bytes, one more than the grammar allows: a last line that is not closed is taken for it. The `ensures` gives the length, which lending

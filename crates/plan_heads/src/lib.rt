@@ -4,11 +4,11 @@
 ghost use Rattle.std.specs.Prelude.{◌≡◌, ltb};
 ghost use Rattle.plan_heads.specs.Heads.{resized};
 
-// The head: the size of its predecessor, 0 for none, its own size, and of each place whether it is filled. Places at or past the size are
+// The head: the size of its predecessor, if it has one, its own size, and of each place whether it is filled. Places at or past the size are
 // not read.
 #[derive(Clone, Copy)]
 pub struct Head {
-    pub pred: u32,
+    pub pred: Option<u32>,
     pub size: u32,
     pub filled: [bool; 32],
 }
@@ -18,7 +18,7 @@ pub fn resized(h: Head, size: u32) -> Head
     ensures { result ≡ resized h size }
 {
     Head {
-        pred: h.size,
+        pred: Some(h.size),
         size,
         filled: [false; 32],
     }

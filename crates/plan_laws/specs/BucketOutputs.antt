@@ -1,6 +1,6 @@
 -- "how many bucket records it takes": an accepted step takes a bucket record exactly if it answers `At 50`, in any machine. So the planner's
 -- figure can be read from the outputs of a run. Line by line, from spec's Lines alone. Assumes nothing.
-use Rattle.std.specs.Prelude.{ℕ, ◌+◌, ◌*◌, min, ◌≡◌, ◌⊎◌, List, [], ◌∷◌, map, Bool, ◌||◌, ltb, if◌then◌else◌}
+use Rattle.std.specs.Prelude.{ℕ, ◌+◌, ◌*◌, min, ◌≡◌, ◌⊎◌, List, [], ◌∷◌, map, Bool, ◌||◌, ltb, if◌then◌else◌, Ok, Err}
 use Rattle.std.proofs.Math.Path.{refl}
 use Rattle.std.proofs.Common.{sym, ◌∙◌, inl, inr, eq-eqb, ne_eqb}
 use Rattle.std.proofs.Math.Bool.{true, false, not}
@@ -9,8 +9,8 @@ use Rattle.std.proofs.Math.Dec.{eqb}
 use Rattle.spec.specs.declared.Task.{Task}
 use Rattle.spec.specs.declared.Answer.{Answer}
 use Rattle.spec.specs.declared.Answer.TheVariants.{Yes, No, Full, Done, Lost, Limit}
-use Rattle.spec.specs.declared.Output.{Output}
-use Rattle.spec.specs.declared.Output.TheVariants.{At, End, Refuse}
+use Rattle.spec.specs.Outputs.{Output}
+use Rattle.spec.specs.declared.Progress.TheVariants.{At, End}
 use Rattle.spec.specs.Lists.{member}
 use Rattle.spec.specs.Machine.{Machine, with_line, with_i, with_t, with_s, with_b, with_m, with_n, with_new_node, with_new_bucket, without_places}
 use Rattle.spec.specs.Words.{filled, Write, nothing, set_head, set_place, clear_pred, freeze, put_tags, new_node, new_bucket, apply}
@@ -37,9 +37,9 @@ takes_bucket (new_node k n p) = false
 takes_bucket (new_bucket k ks) = true
 
 abbrev pub says_50 : Output → Bool
-says_50 (At l) = eqb l 50
-says_50 (End a own full) = false
-says_50 (Refuse r) = false
+says_50 (Ok (At l)) = eqb l 50
+says_50 (Ok (End a own full)) = false
+says_50 (Err r) = false
 
 -- ---- line by line
 

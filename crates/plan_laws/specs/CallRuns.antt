@@ -1,17 +1,18 @@
 -- The steps of a call that a task makes alone: it ends with as many own steps as are left at its position, and the run's figures are those
 -- made until now and those left. Steps after its end are refused and add nothing. By induction over the steps. Assumes nothing.
-use Rattle.std.specs.Prelude.{◌≡◌, ◌⊎◌, Bool, true, false, length, replicate, if◌then◌else◌}
+use Rattle.std.specs.Prelude.{◌≡◌, ◌⊎◌, Bool, true, false, length, replicate, if◌then◌else◌, Option, ℕ, Ok}
 use Rattle.std.proofs.Math.Path.{refl, ap}
 use Rattle.std.proofs.Common.{sym, ◌∙◌, subst, inl, inr}
 use mathlib.Core.List.{List, ◌∷◌, ◌++◌}
 use Prim.Native.Nat.{ℕ, zero, suc, ◌+◌, ◌≤◌, ◌<◌}
 use native.Mathlib.Omega.{arith}
 use Rattle.std.proofs.Math.Dec.{eqb}
+use Rattle.spec.specs.declared.Refusal.{Refusal}
+use Rattle.spec.specs.declared.Refusal.TheVariants.{NoTask, Idle}
 use Rattle.spec.specs.declared.Answer.{Answer}
 use Rattle.spec.specs.declared.Config.{Config}
-use Rattle.spec.specs.declared.Occupancy.{Occupancy}
-use Rattle.spec.specs.declared.Output.{Output}
-use Rattle.spec.specs.declared.Output.TheVariants as Outs
+use Rattle.spec.specs.Outputs.{Output}
+use Rattle.spec.specs.declared.Progress.TheVariants as Outs
 use Rattle.spec.specs.Machine.{Machine, task_of}
 use Rattle.spec.specs.Lines.{effect}
 use Rattle.spec.specs.Entries.{Reply, refuse, step}
@@ -45,12 +46,12 @@ pub record BetweenCalls (g : Config) (p : ℕ) (S : Shape) (y : Machine) : Type 
   pub laid_out : LaidOut S enough_now.configuration.heap
 
 -- a step of a resting task is refused
-idle_refused : (y : Machine) (p : ℕ) → (task_of y p).running ≡ false → EnoughNow y → (r : ℕ) × (step y p ≡ refuse r y)
+idle_refused : (y : Machine) (p : ℕ) → (task_of y p).running ≡ false → EnoughNow y → (r : Refusal) × (step y p ≡ refuse r y)
 idle_refused y p e s = go (step_outcome y p s.sim.sound_now)
   where
-    go : {m : Reply} → StepOutcome y p m → (r : ℕ) × (m ≡ refuse r y)
-    go (step_no_task a) = (4, refl)
-    go (step_idle a b) = (6, refl)
+    go : {m : Reply} → StepOutcome y p m → (r : Refusal) × (m ≡ refuse r y)
+    go (step_no_task a) = (NoTask, refl)
+    go (step_idle a b) = (Idle, refl)
     go (step_unsound a b c) = absurd (tf b e)
     go (step_all_held a b c d) = absurd (tf b e)
     go (step_accepted a b c d) = absurd (tf b e)
@@ -122,7 +123,7 @@ module _ (g : Config) (p : ℕ) (S : Shape) (es : List Event) where
 
     leads_on : (n : ℕ) (v : CallUnderway g p S (suc own) (step y p).machine) → left u ≡ suc (left v)
         → buckets_left g S (here u) ≡ (if eqb n 50 then 1 else 0) + buckets_left g S (here v)
-        → answer_then g S (here u) ≡ answer_then g S (here v) → shape_then g S (here u) ≡ shape_then g S (here v) → Goes (Outs.At n)
+        → answer_then g S (here u) ≡ answer_then g S (here v) → shape_then g S (here u) ≡ shape_then g S (here v) → Goes (Ok (Outs.At n))
     unfolding figures_run
     leads_on n v st bk an sh =
         let r = ih (suc own) (if eqb n 50 then suc b else b) (step y p).machine v (omega arith) (omega arith) in
@@ -130,8 +131,8 @@ module _ (g : Config) (p : ℕ) (S : Shape) (es : List Event) where
         let c = ap (λ (x : ℕ). b + x) bk ∙ bucket_more n b (buckets_left g S (here v)) in
         (r.0, rw sh r.1, same_first r.2 (same_figures an a c))
 
-    ends : (a : Answer) (full : Occupancy) → BetweenCalls g p (shape_then g S (here u)) (step y p).machine → a ≡ answer_then g S (here u)
-        → left u ≡ 1 → buckets_left g S (here u) ≡ 0 → Goes (Outs.End a (suc own) full)
+    ends : (a : Answer) (full : Option ℕ) → BetweenCalls g p (shape_then g S (here u)) (step y p).machine → a ≡ answer_then g S (here u)
+        → left u ≡ 1 → buckets_left g S (here u) ≡ 0 → Goes (Ok (Outs.End a (suc own) full))
     unfolding figures_run
     ends a full z an st bk =
         let c : own + left u ≡ suc own = omega arith in
@@ -144,7 +145,7 @@ module _ (g : Config) (p : ℕ) (S : Shape) (es : List Event) where
     unfolding event enough_after
     next_step {v = v} q reach sim (on n d so tags st bk an sh) =
         let s = enough_after y u.enough_now (steps p) v reach sim in
-        let own_now : (task_of (step y p).machine p).own ≡ suc own = (record_after own y u (Outs.At n) q).1 ∙ (let e = u.own≡ in omega arith) in
+        let own_now : (task_of (step y p).machine p).own ≡ suc own = (record_after own y u (Ok (Outs.At n)) q).1 ∙ (let e = u.own≡ in omega arith) in
         leads_on n
         (record {
           enough_now = s;
@@ -161,7 +162,7 @@ module _ (g : Config) (p : ℕ) (S : Shape) (es : List Event) where
         (record {
           enough_now = s;
           config≡ = config_kept g y u.config≡ (steps p);
-          resting = (record_after own y u (Outs.End a (suc own) full) q).0;
+          resting = (record_after own y u (Ok (Outs.End a (suc own) full)) q).0;
           tags_as = e.tags_as;
           laid_out = e.laid_out;
         }) e.answer e.steps e.buckets

@@ -1,5 +1,5 @@
 -- The planner's refusals (paper 02, U11: "a longer list gives 9, and before it another version 11"), each exactly under its condition: `refused_11`,
--- `refused_9`. Assumes nothing.
+-- `refused_9`, and no other: `only_9_and_11`. Assumes nothing.
 use Rattle.std.specs.Prelude.{ℕ, ◌≤◌, ◌<◌, refl, ◌↔◌, List, Bool, true, false, not, leb, ltb, if◌then◌else◌}
 use Rattle.std.proofs.Math.Path.{◌≡◌, ap}
 use Rattle.std.proofs.Common.{arith}
@@ -9,7 +9,7 @@ use Rattle.spec.specs.Sound.{within}
 use Rattle.laws.specs.Tests.{tf, and_i, choose}
 use Rattle.laws.specs.Soundness.{within_facts}
 use Rattle.plans.specs.declared.Planned.{Planned}
-use Rattle.plans.specs.Plan.{PlanReply, planned, refused, all_figures, opened_for, fresh, plan}
+use Rattle.plans.specs.Plan.{PlanReply, planned, refused, all_figures, opened_for, fresh, plan, refusal_number, refusal_of}
 
 abbrev pub VersionRight : ℕ → Type 0
 VersionRight version = (1 ≤ version) × (version ≤ 2)
@@ -56,3 +56,13 @@ module _ (version : ℕ) (cs : List Planned) where
       to (other_version n) e = let z : ◌≡◌ {A = ℕ} 11 9 = ap number e in absurd (omega arith)
       to (longer_list v l) e = (v, l)
       to figured e = let z : ◌≡◌ {A = ℕ} 0 9 = ap number e in absurd (omega arith)
+
+  -- a refusal has one of these two numbers, so that `refusal_of` tells it
+  pub only_9_and_11 : (r : ℕ) → plan version cs ≡ refused r → refusal_number (refusal_of r) ≡ r
+  unfolding number
+  only_9_and_11 r e = go plan_outcome e
+    where
+      go : {x : PlanReply} → PlanOf x → x ≡ refused r → refusal_number (refusal_of r) ≡ r
+      go (other_version n) f = let z : 11 ≡ r = ap number f in rw (← z) refl
+      go (longer_list v l) f = let z : 9 ≡ r = ap number f in rw (← z) refl
+      go figured f = absurd (let none : ⊥ = cc in none)

@@ -11,15 +11,15 @@
 -- over the calls. Assumes nothing.
 use Rattle.std.proofs.Math.Path.{◌≡◌, refl, ap, subst}
 use Rattle.std.proofs.Common.{◌∙◌, arith}
-use Rattle.std.specs.Prelude.{Bool, not, ℕ, ◌≤◌, ◌<◌, eqb, ltb, length, replicate, if◌then◌else◌}
+use Rattle.std.specs.Prelude.{Bool, not, ℕ, ◌≤◌, ◌<◌, eqb, ltb, length, replicate, if◌then◌else◌, Ok}
 use Rattle.std.proofs.Math.Bool.{true, false}
 use mathlib.Core.List.{List, [], ◌∷◌, ◌++◌}
 use Rattle.spec.specs.declared.Task.{Task}
 use Rattle.spec.specs.declared.Call.{Call}
 use Rattle.spec.specs.declared.Call.TheVariants.{Insert, Remove, Contains, Grow, Shrink}
 use Rattle.spec.specs.declared.Config.{Config}
-use Rattle.spec.specs.declared.Output.{Output}
-use Rattle.spec.specs.declared.Output.TheVariants as Outs
+use Rattle.spec.specs.Outputs.{Output}
+use Rattle.spec.specs.declared.Progress.TheVariants as Outs
 use Rattle.spec.specs.Machine.{Machine, idle, fresh_task, state_of, task_of, set_task}
 use Rattle.spec.specs.Sound.{task_count, version_known}
 use Rattle.spec.specs.Listed.{key, slot}
@@ -103,17 +103,17 @@ module _ (t version p : ℕ) (lt : p < t) where
     below_T : p < task_count y
     below_T = let e = ap (λ (x : Config). x.tasks) s.config≡ in omega arith
 
-    start_accepts : start y p call k ≡ record { out = Outs.At (started call k).line; machine = set_task p (started call k) y }
+    start_accepts : start y p call k ≡ record { out = Ok (Outs.At (started call k).line); machine = set_task p (started call k) y }
     start_accepts = go (start_outcome y p call k s.enough_now.sim.sound_now)
       where
-        go : {m : Reply} → StartOutcome y p call k m → m ≡ record { out = Outs.At (started call k).line; machine = set_task p (started call k) y }
+        go : {m : Reply} → StartOutcome y p call k m → m ≡ record { out = Ok (Outs.At (started call k).line); machine = set_task p (started call k) y }
         go (start_no_task a) = let b = below_T in absurd (omega arith)
         go (start_running a b) = absurd (tf b s.resting)
         go (start_withdrawn a b c) = absurd (tf c (ap (λ (x : Config). withdrawn x call k) s.config≡ ∙ none_withdrawn t version call k))
         go (start_accepted a b c) = refl
 
     started_at : {o : Output} {v : Configuration} → EventOutcome y s.enough_now.configuration (starts p call k) o v
-        → o ≡ Outs.At (started call k).line
+        → o ≡ Ok (Outs.At (started call k).line)
         → (v.position p ≡ first_of call k) × (v.heap ≡ s.enough_now.configuration.heap)
     started_at (start_refused p call k r other) q = let z : ◌≡◌ {A = ℕ} 0 1 = cc in absurd (omega arith)
     started_at (call_started p call k n lt a) q = (upd_same s.enough_now.configuration.position p (first_of call k), refl)

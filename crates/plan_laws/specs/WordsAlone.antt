@@ -1,6 +1,6 @@
 -- A task alone in the words: each of its steps is accepted, since a record is always free, and is the step of the model that StepsAlone
 -- counts; whether line 20 ends is said by the head's size. Assumes nothing.
-use Rattle.std.specs.Prelude.{◌≡◌, ◌⊎◌, Bool, ℕ, suc, ◌+◌, min, ◌<◌, eqb, if◌then◌else◌}
+use Rattle.std.specs.Prelude.{◌≡◌, ◌⊎◌, Bool, ℕ, suc, ◌+◌, min, ◌<◌, eqb, if◌then◌else◌, Option, None, Ok}
 use Rattle.std.proofs.Math.Path.{refl, ap}
 use Rattle.std.proofs.Common.{sym, ◌∙◌, inl, inr, arith}
 use Rattle.std.proofs.Math.Bool.{true, false}
@@ -8,10 +8,8 @@ use Rattle.spec.specs.declared.Task.{Task}
 use Rattle.spec.specs.declared.Answer.{Answer}
 use Rattle.spec.specs.declared.Answer.TheVariants.{Limit}
 use Rattle.spec.specs.declared.Config.{Config}
-use Rattle.spec.specs.declared.Occupancy.{Occupancy}
-use Rattle.spec.specs.declared.Occupancy.TheVariants.{NotGiven}
-use Rattle.spec.specs.declared.Output.{Output}
-use Rattle.spec.specs.declared.Output.TheVariants as Outs
+use Rattle.spec.specs.Outputs.{Output}
+use Rattle.spec.specs.declared.Progress.TheVariants as Outs
 use Rattle.spec.specs.Machine.{Machine, with_line, task_of}
 use Rattle.spec.specs.Listed.{slot, size_of, head_of}
 use Rattle.spec.specs.Lines.{Effect, answers, moves, at_limit, line_20, effect}
@@ -59,8 +57,8 @@ pub data SoloOutcome (g : Config) (p : ℕ) (S : Shape) (own : ℕ) (l : Positio
       → steps_left g S l ≡ suc (steps_left g S (v.position p))
       → buckets_left g S l ≡ (if eqb n 50 then 1 else 0) + buckets_left g S (v.position p)
       → answer_then g S l ≡ answer_then g S (v.position p) → shape_then g S l ≡ shape_then g S (v.position p)
-      → SoloOutcome g p S own l (Outs.At n) v
-  over : {v : Configuration} (a : Answer) (full : Occupancy) → SoloEnd g S l v.heap a → SoloOutcome g p S own l (Outs.End a (suc own) full) v
+      → SoloOutcome g p S own l (Ok (Outs.At n)) v
+  over : {v : Configuration} (a : Answer) (full : Option ℕ) → SoloEnd g S l v.heap a → SoloOutcome g p S own l (Ok (Outs.End a (suc own) full)) v
 
 module _ (g : Config) (p : ℕ) (S : Shape) (own : ℕ) (y : Machine) (u : CallUnderway g p S own y) where
   abbrev w : Configuration
@@ -93,7 +91,7 @@ module _ (g : Config) (p : ℕ) (S : Shape) (own : ℕ) (y : Machine) (u : CallU
 
   -- ---- line 20 ends exactly if the head's size is at the limit
   abbrev limit_or_on : Bool → Output
-  limit_or_on v = if v then Outs.End Limit (min ((task_of y p).own + 1) 65535) NotGiven else Outs.At 39
+  limit_or_on v = if v then Ok (Outs.End Limit (min ((task_of y p).own + 1) 65535) None) else Ok (Outs.At 39)
 
   says : (v : Bool) (d : Task)
       → (accept y p (task_of y p).own (if v then answers Limit else moves (with_line 39 d))).out ≡ limit_or_on v
@@ -115,14 +113,14 @@ module _ (g : Config) (p : ℕ) (S : Shape) (own : ℕ) (y : Machine) (u : CallU
       ∙ ap (λ (x : Effect). (accept y p (task_of y p).own x).out) (does_at y (task_of y p) 20 m.0.line≡)
       ∙ says (at_limit (task_of y p).call (size_of y (head_of y))) _ ∙ ap limit_or_on q
 
-  goes_on : (n : ℕ) → (step y p).out ≡ Outs.At n → (b : Bool) → w.position p ≡ resize b at_20 → limited b S ≡ false
+  goes_on : (n : ℕ) → (step y p).out ≡ Ok (Outs.At n) → (b : Bool) → w.position p ≡ resize b at_20 → limited b S ≡ false
   goes_on n q b e = go (bool? (limited b S)) (line_20_says b e)
     where
       go : (limited b S ≡ true) ⊎ (limited b S ≡ false) → (step y p).out ≡ limit_or_on (limited b S) → limited b S ≡ false
       go (inr v) z = v
       go (inl v) z = let x = z ∙ ap limit_or_on v in let c : ◌≡◌ {A = ℕ} 0 1 = cc in absurd (omega arith)
 
-  ends_there : (a : Answer) (n : ℕ) (full : Occupancy) → (step y p).out ≡ Outs.End a n full → (b : Bool) → w.position p ≡ resize b at_20
+  ends_there : (a : Answer) (n : ℕ) (full : Option ℕ) → (step y p).out ≡ Ok (Outs.End a n full) → (b : Bool) → w.position p ≡ resize b at_20
       → (limited b S ≡ true) × (a ≡ Limit)
   ends_there a n full q b e = go (bool? (limited b S)) (line_20_says b e)
     where
@@ -142,8 +140,8 @@ module _ (g : Config) (p : ℕ) (S : Shape) (own : ℕ) (y : Machine) (u : CallU
         u.tags_as k ∙ sym ((own_step w.heap i.1.heap i.0 i.1.same (listed_few w i.0 i.1) i.1.sources_few (w.start p)
         line (i.1.task p)).0.abs≡ k)
 
-    ended : {l : Position} {a : Answer} {v : Configuration} (full : Occupancy) → SoloEnd g S l v.heap a
-        → SoloOutcome g p S own l (Outs.End a (min ((task_of y p).own + 1) 65535) full) v
+    ended : {l : Position} {a : Answer} {v : Configuration} (full : Option ℕ) → SoloEnd g S l v.heap a
+        → SoloOutcome g p S own l (Ok (Outs.End a (min ((task_of y p).own + 1) 65535) full)) v
     ended {a = a} {v = v} full s = rw counted (over {v = v} a full s)
 
     pub solo_outcome : {o : Output} {v : Configuration} → EventOutcome y w (steps p) o v → (step y p).out ≡ o

@@ -1,6 +1,6 @@
 -- What is printed for a plan that was made, by its refusal: its number, or the sizes and the first figures, as many as there are calls.
 -- Assumes nothing.
-use Rattle.std.specs.Prelude.{if◌then◌else◌}
+use Rattle.std.specs.Prelude.{if◌then◌else◌, Ok, Err}
 use Prim.Native.Nat.{ℕ, ◌<◌, ◌≤◌}
 use native.Mathlib.Omega.{arith}
 use mathlib.Core.Path.{◌≡◌, refl, sym, ap, ◌∙◌}
@@ -17,14 +17,14 @@ use Rattle.laws.specs.Tests.{bool?}
 use Rattle.plans.specs.declared.Planned.{Planned}
 use Rattle.plans.specs.declared.Calls.{Calls}
 use Rattle.plans.specs.declared.Figures.{Figures}
-use Rattle.plans.specs.declared.Plan.{Plan}
-use Rattle.plans.specs.Plan.{fresh, all_figures, PlanReply, planned, refused, opened_for, plan, list_of, figures_array, plan_array}
+use Rattle.plans.specs.declared.Refusal.{Refusal}
+use Rattle.plans.specs.Plan.{fresh, all_figures, PlanReply, planned, refused, opened_for, plan, list_of, refusal_number, refusal_of, figures_array, plan_array}
 use Rattle.planner.proofs.Stored.{figures_length}
 use Rattle.plan_text.specs.Text.{figures_lines, size_lines, reply_lines, plan_lines}
 
--- a list is refused with a number that is not 0, or has at most 64 calls and figures for each
+-- a list is refused with a refusal's number, or has at most 64 calls and figures for each
 data Outcome (cs : List Planned) : PlanReply → Type 0 where
-  refuses : (r : ℕ) → 0 < r → Outcome cs (refused r)
+  refuses : (r : ℕ) → refusal_number (refusal_of r) ≡ r → Outcome cs (refused r)
   plans : (fs : List Figures) → length cs ≤ 64 → length fs ≡ length cs → Outcome cs (planned fs)
 
 outcome : (version : ℕ) (cs : List Planned) → Outcome cs (plan version cs)
@@ -35,8 +35,8 @@ outcome version cs = go (version_known (opened_for 1 version)) (ltb 64 (length c
     fs = all_figures (opened_for 1 version) fresh cs
 
     go : (v l : Bool) → ltb 64 (length cs) ≡ l → Outcome cs (if not v then refused 11 else if l then refused 9 else planned fs)
-    go false l e = refuses 11 (omega arith)
-    go true true e = refuses 9 (omega arith)
+    go false l e = refuses 11 refl
+    go true true e = refuses 9 refl
     go true false e = plans fs (ltb-false 64 (length cs) e) (figures_length (opened_for 1 version) fresh cs)
 
 -- ---- T
@@ -68,44 +68,31 @@ list_length : (l : Calls) → length l.call ≡ 64 → l.count ≤ 64 → length
 unfolding list_of
 list_length l room h = rw (le-ltb 64 l.count h) (length-take-le l.count l.call (omega arith))
 
-module _ (t version : ℕ) (l : Calls) (p : Plan) (made : p ≡ plan_array (plan version (list_of l))) where
-  abbrev refusal : PlanReply → ℕ
-  refusal o = (plan_array o).refusal
-
-  refusal_is : p.refusal ≡ refusal (plan version (list_of l))
-  refusal_is = ap (λ (q : Plan). q.refusal) made
-
-  pub refusal_printed : 1 ≤ t → t ≤ 8 → (p.refusal ≡ 0 → ⊥) → plan_lines t version (list_of l) ≡ refusal_line p.refusal
+module _ (t version : ℕ) (l : Calls) (low : 1 ≤ t) (high : t ≤ 8) where
+  pub refusal_printed : (r : Refusal) → Err r ≡ plan_array (plan version (list_of l)) → plan_lines t version (list_of l) ≡ refusal_line (refusal_number r)
   unfolding reply_lines plan_array
-  refusal_printed low high n =
-      tasks_right t version (list_of l) low high
-      ∙ go (plan version (list_of l)) (λ z. n (refusal_is ∙ z))
-      ∙ ap refusal_line (sym refusal_is)
+  refusal_printed r made = tasks_right t version (list_of l) low high ∙ go (outcome version (list_of l)) made
     where
-      go : (o : PlanReply) → (refusal o ≡ 0 → ⊥) → reply_lines t o ≡ refusal_line (refusal o)
-      go (planned fs) d = absurd (d refl)
-      go (refused r) d = refl
+      go : {o : PlanReply} → Outcome (list_of l) o → Err r ≡ plan_array o → reply_lines t o ≡ refusal_line (refusal_number r)
+      go (refuses n h) q = let same : r ≡ refusal_of n = cc in rw (same, h)
+      go (plans fs h k) q = let z : ◌≡◌ {A = ℕ} 0 1 = cc in absurd (omega arith)
 
-  module _ (none : p.refusal ≡ 0) where
+  module _ (gs : List Figures) (made : Ok gs ≡ plan_array (plan version (list_of l))) where
     pub few_calls : l.count ≤ 64
     unfolding plan_array
-    few_calls = short_list l (go (outcome version (list_of l)) (sym refusal_is ∙ none))
+    few_calls = short_list l (go (outcome version (list_of l)) made)
       where
-        go : {o : PlanReply} → Outcome (list_of l) o → refusal o ≡ 0 → length (list_of l) ≤ 64
-        go (refuses r h) z = absurd (omega arith)
-        go (plans fs h k) z = h
+        go : {o : PlanReply} → Outcome (list_of l) o → Ok gs ≡ plan_array o → length (list_of l) ≤ 64
+        go (refuses r h) q = let z : ◌≡◌ {A = ℕ} 0 1 = cc in absurd (omega arith)
+        go (plans fs h k) q = h
 
-    pub figures_printed : length l.call ≡ 64 → 1 ≤ t → t ≤ 8
-        → plan_lines t version (list_of l) ≡ size_lines t ++ figures_lines (take l.count p.figures)
+    pub figures_printed : length l.call ≡ 64 → plan_lines t version (list_of l) ≡ size_lines t ++ figures_lines (take l.count gs)
     unfolding reply_lines plan_array figures_array
-    figures_printed room low high =
-        tasks_right t version (list_of l) low high
-        ∙ go (outcome version (list_of l)) (sym refusal_is ∙ none)
-        ∙ ap (λ (q : Plan). size_lines t ++ figures_lines (take l.count q.figures)) (sym made)
+    figures_printed room = tasks_right t version (list_of l) low high ∙ go (outcome version (list_of l)) made
       where
-        go : {o : PlanReply} → Outcome (list_of l) o → refusal o ≡ 0
-            → reply_lines t o ≡ size_lines t ++ figures_lines (take l.count (plan_array o).figures)
-        go (refuses r h) z = absurd (omega arith)
-        go (plans fs h k) z =
+        go : {o : PlanReply} → Outcome (list_of l) o → Ok gs ≡ plan_array o → reply_lines t o ≡ size_lines t ++ figures_lines (take l.count gs)
+        go (refuses r h) q = let z : ◌≡◌ {A = ℕ} 0 1 = cc in absurd (omega arith)
+        go (plans fs h k) q =
             let n : length fs ≡ l.count = k ∙ list_length l room (short_list l h) in
-            ap (λ (gs : List Figures). size_lines t ++ figures_lines gs) (sym (take_at fs _ l.count n))
+            let same : gs ≡ figures_array fs = cc in
+            rw same (ap (λ (us : List Figures). size_lines t ++ figures_lines us) (sym (take_at fs _ l.count n)))

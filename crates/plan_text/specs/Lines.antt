@@ -1,6 +1,6 @@
 -- Line by line, an input prints its transcript: `lines_print_transcript`. A 65th call, and those after it, change nothing but that the list is
 -- longer. A line outside the grammar fixes the answer (`plan_decides`), and so does one that is too long or not closed (`plan_outside`). Assumes nothing.
-use Rattle.std.specs.Prelude.{◌≡◌, refl, List, [], ◌∷◌, ◌++◌, Bool, true, false, ℕ, ◌+◌, ◌<◌, ltb, length, take, set, if◌then◌else◌}
+use Rattle.std.specs.Prelude.{◌≡◌, refl, List, [], ◌∷◌, ◌++◌, Bool, true, false, ℕ, ◌+◌, ◌<◌, ltb, length, set, if◌then◌else◌, Option, Some, None}
 use Rattle.std.proofs.Common.{sym, ap, ◌∙◌, arith, lt-ltb, le-ltb, ltb-true, ltb-false}
 use Rattle.session.specs.Grammar.{InputLine, input_lines, admissible, parse_header_line}
 use Rattle.session.specs.Print.{refusal_line}
@@ -12,9 +12,9 @@ use Rattle.plans.specs.declared.Planned.{Planned}
 use Rattle.plans.specs.declared.Calls.{Calls}
 use Rattle.plans.specs.Plan.{plan, list_of}
 use Rattle.plan_text.specs.declared.Due.{Due}
-use Rattle.plan_text.specs.declared.Due.TheVariants.{Tasks, Version, Call, Nothing}
+use Rattle.plan_text.specs.declared.Due.TheVariants.{Tasks, Version, Call}
 use Rattle.plan_text.specs.declared.PlanLine.{PlanLine}
-use Rattle.plan_text.specs.declared.PlanLine.TheVariants.{Tasks as SaysTasks, Version as SaysVersion, Call as SaysCall, Outside}
+use Rattle.plan_text.specs.declared.PlanLine.TheVariants.{Tasks as SaysTasks, Version as SaysVersion, Call as SaysCall}
 use Rattle.plan_text.specs.declared.reading.Reading.{Reading}
 use Rattle.plan_text.specs.Text.{tasks_said, version_said, parse_call_line, line_says, PlanInput, input_of, no_input, after_line, after_lines}
 use Rattle.plan_text.specs.Text.{plan_lines, in_grammar, plan_output, plan_transcript}
@@ -22,32 +22,32 @@ use Rattle.plan_text.specs.Reading.{calls_of, add_call, no_calls, new_reading, a
 
 -- ---- a line outside the grammar
 
-outside_line : (due : Due) (x : InputLine) → admissible x ≡ false → line_says due x ≡ Outside
+outside_line : (due : Option Due) (x : InputLine) → admissible x ≡ false → line_says due x ≡ None
 unfolding line_says tasks_said version_said parse_header_line parse_call_line
-outside_line Tasks x e = rw e
-outside_line Version x e = rw e
-outside_line Call x e = rw e
-outside_line Nothing x e = refl
+outside_line (Some Tasks) x e = rw e
+outside_line (Some Version) x e = rw e
+outside_line (Some Call) x e = rw e
+outside_line None x e = refl
 
-nothing_refused : (r : Reading) → r.due ≡ Nothing → (ls : List InputLine) → answer r ls ≡ refusal_line 10
+nothing_refused : (r : Reading) → r.due ≡ None → (ls : List InputLine) → answer r ls ≡ refusal_line 10
 unfolding answer add_line line_says in_grammar
 nothing_refused r e [] = rw e
-nothing_refused r e (l ∷ ls) = rw e (nothing_refused (add_line r Outside) refl ls)
+nothing_refused r e (l ∷ ls) = rw e (nothing_refused (add_line r None) refl ls)
 
 -- the answer is fixed: 10 goes before 1, 11 and 9
 pub plan_decides : (r : Reading) → decided r.due ≡ true → (ls : List InputLine) → answer r ls ≡ answer r []
 unfolding decided
 plan_decides r e ls = go r.due refl
   where
-    go : (d : Due) → r.due ≡ d → answer r ls ≡ answer r []
-    go Tasks i = let z : ◌≡◌ {A = ℕ} 0 1 = cc in absurd (omega arith)
-    go Version i = let z : ◌≡◌ {A = ℕ} 0 1 = cc in absurd (omega arith)
-    go Call i = let z : ◌≡◌ {A = ℕ} 0 1 = cc in absurd (omega arith)
-    go Nothing i = nothing_refused r i ls ∙ sym (nothing_refused r i [])
+    go : (d : Option Due) → r.due ≡ d → answer r ls ≡ answer r []
+    go (Some Tasks) i = let z : ◌≡◌ {A = ℕ} 0 1 = cc in absurd (omega arith)
+    go (Some Version) i = let z : ◌≡◌ {A = ℕ} 0 1 = cc in absurd (omega arith)
+    go (Some Call) i = let z : ◌≡◌ {A = ℕ} 0 1 = cc in absurd (omega arith)
+    go None i = nothing_refused r i ls ∙ sym (nothing_refused r i [])
 
 pub outside_refused : (r : Reading) (x : InputLine) (ls : List InputLine) → admissible x ≡ false → answer r (x ∷ ls) ≡ refusal_line 10
 unfolding answer add_line
-outside_refused r x ls e = rw (outside_line r.due x e) (nothing_refused (add_line r Outside) refl ls)
+outside_refused r x ls e = rw (outside_line r.due x e) (nothing_refused (add_line r None) refl ls)
 
 pub plan_takes : TakesLines answer take_line
 unfolding answer take_line
@@ -99,12 +99,12 @@ record Read (r : Reading) (p : PlanInput) : Type 0 where
   version : r.version ≡ p.version
   calls : Keeps r.calls p.calls
 
-with_line : (r : Reading) (p : PlanInput) → Read r p → (said : PlanLine) → Read (add_line r said) (after_line p said)
+with_line : (r : Reading) (p : PlanInput) → Read r p → (said : Option PlanLine) → Read (add_line r said) (after_line p said)
 unfolding add_line after_line
-with_line r p o (SaysTasks n) = record { due = refl; tasks = refl; version = o.version; calls = o.calls }
-with_line r p o (SaysVersion n) = record { due = refl; tasks = o.tasks; version = refl; calls = o.calls }
-with_line r p o (SaysCall c) = record { due = refl; tasks = o.tasks; version = o.version; calls = keeps_more r.calls p.calls c o.calls }
-with_line r p o Outside = record { due = refl; tasks = o.tasks; version = o.version; calls = o.calls }
+with_line r p o (Some (SaysTasks n)) = record { due = refl; tasks = refl; version = o.version; calls = o.calls }
+with_line r p o (Some (SaysVersion n)) = record { due = refl; tasks = o.tasks; version = refl; calls = o.calls }
+with_line r p o (Some (SaysCall c)) = record { due = refl; tasks = o.tasks; version = o.version; calls = keeps_more r.calls p.calls c o.calls }
+with_line r p o None = record { due = refl; tasks = o.tasks; version = o.version; calls = o.calls }
 
 -- what is printed for these lines, whatever was read before them
 answer_left : (ls : List InputLine) (r : Reading) (p : PlanInput) → Read r p → answer r ls ≡ plan_output (after_lines p ls)
@@ -114,13 +114,13 @@ answer_left [] r p o =
     rw (o.due, o.tasks, o.version, same)
 answer_left (l ∷ ls) r p o =
     let said = line_says p.due l in
-    ap (λ (d : Due). answer (add_line r (line_says d l)) ls) o.due ∙ answer_left ls (add_line r said) (after_line p said) (with_line r p o said)
+    ap (λ (d : Option Due). answer (add_line r (line_says d l)) ls) o.due ∙ answer_left ls (add_line r said) (after_line p said) (with_line r p o said)
 
 pub lines_print_transcript : (input : List ℕ) → plan_transcript input ≡ answer new_reading (input_lines input)
 unfolding new_reading plan_transcript no_input
 lines_print_transcript input =
     sym
-    (answer_left (input_lines input) new_reading (input_of Tasks 0 1 []) (record { due = refl; tasks = refl; version = refl; calls = keeps_none }))
+    (answer_left (input_lines input) new_reading (input_of (Some Tasks) 0 1 []) (record { due = refl; tasks = refl; version = refl; calls = keeps_none }))
 
 -- of an input in memory `text` gives the transcript
 pub plan_exact : (input : List ℕ) (p : Input) (text : List ℕ) → Countable input → Prints plan_transcript false input p text → plan_transcript input ≡ text

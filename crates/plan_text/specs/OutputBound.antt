@@ -7,7 +7,7 @@ use Rattle.std.proofs.Math.Bool.{true, false, not}
 use Rattle.std.proofs.Math.ListN.{length}
 use Rattle.spec.specs.Sound.{within, version_known}
 use Rattle.session.specs.Grammar.{InputLine}
-use Rattle.session.specs.Print.{decimal, key_line, refusal_line}
+use Rattle.session.specs.Print.{key_line, refusal_line}
 use Rattle.session.specs.OutputLengths.{decimal_length, word_length, refusal_length}
 use Rattle.bounds.specs.EnoughRecords.{enough_nodes, enough_buckets}
 use Rattle.plans.specs.declared.Planned.{Planned}

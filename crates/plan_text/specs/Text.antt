@@ -3,12 +3,10 @@
 -- `buckets=`, the numbers of records that are enough for T tasks, as a session's header has them, and for each call
 -- `plan=answer,own steps,buckets taken`; or `refuse=` alone, with 10 for a line outside the grammar, anywhere in the input, else 1 for T, else
 -- 11 for the version, else 9 for more than 64 calls. Assumes nothing.
-use Rattle.std.specs.Prelude.{ℕ, ◌≡◌, refl, List, [], ◌∷◌, ◌++◌, Bool, true, false, not, drop, if◌then◌else◌}
+use Rattle.std.specs.Prelude.{ℕ, ◌≡◌, refl, List, [], ◌∷◌, ◌++◌, Bool, true, false, not, drop, if◌then◌else◌, Option, Some, None}
 use Rattle.spec.specs.Sound.{within}
-use Rattle.session.specs.declared.Decimal.{Decimal}
-use Rattle.session.specs.declared.Decimal.TheVariants.{Value, NotDecimal}
 use Rattle.session.specs.declared.EventLine.{EventLine}
-use Rattle.session.specs.declared.EventLine.TheVariants.{Start, Step, Outside as NoEvent}
+use Rattle.session.specs.declared.EventLine.TheVariants.{Start, Step}
 use Rattle.session.specs.Ascii.{codes, ascii}
 use Rattle.session.specs.Keys.{newline, comma, tasks_key, nodes_key, buckets_key, version_key}
 use Rattle.session.specs.Grammar.{starts_with, parse_call, InputLine, input_lines, admissible, parse_header_line}
@@ -18,9 +16,9 @@ use Rattle.plans.specs.declared.Planned.{Planned}
 use Rattle.plans.specs.declared.Figures.{Figures}
 use Rattle.plans.specs.Plan.{call_of, PlanReply, planned, refused, plan}
 use Rattle.plan_text.specs.declared.Due.{Due}
-use Rattle.plan_text.specs.declared.Due.TheVariants.{Tasks, Version, Call, Nothing}
+use Rattle.plan_text.specs.declared.Due.TheVariants.{Tasks, Version, Call}
 use Rattle.plan_text.specs.declared.PlanLine.{PlanLine}
-use Rattle.plan_text.specs.declared.PlanLine.TheVariants.{Tasks as SaysTasks, Version as SaysVersion, Call as SaysCall, Outside}
+use Rattle.plan_text.specs.declared.PlanLine.TheVariants.{Tasks as SaysTasks, Version as SaysVersion, Call as SaysCall}
 
 -- `call=`
 abbrev pub call_key : List ℕ
@@ -36,52 +34,52 @@ spelled = refl
 
 -- ---- a line that is read
 
-unfoldable pub tasks_said : Decimal → PlanLine
-tasks_said (Value n) = SaysTasks n
-tasks_said NotDecimal = Outside
+unfoldable pub tasks_said : Option ℕ → Option PlanLine
+tasks_said (Some n) = Some (SaysTasks n)
+tasks_said None = None
 
-unfoldable pub version_said : Decimal → PlanLine → PlanLine
-version_said (Value n) otherwise = SaysVersion n
-version_said NotDecimal otherwise = otherwise
+unfoldable pub version_said : Option ℕ → Option PlanLine → Option PlanLine
+version_said (Some n) otherwise = Some (SaysVersion n)
+version_said None otherwise = otherwise
 
-unfoldable pub call_said : EventLine → PlanLine
-call_said (Start k call tag) = SaysCall (call_of call tag)
-call_said (Step k) = Outside
-call_said NoEvent = Outside
+unfoldable pub call_said : Option EventLine → Option PlanLine
+call_said (Some (Start k call tag)) = Some (SaysCall (call_of call tag))
+call_said (Some (Step k)) = None
+call_said None = None
 
 -- what stands after `call=` is of the form of what stands after a session's `start=task,`
-unfoldable pub parse_call_line : InputLine → PlanLine
+unfoldable pub parse_call_line : InputLine → Option PlanLine
 parse_call_line l =
-    if admissible l then (if starts_with call_key l.bytes then call_said (parse_call 0 (drop 5 l.bytes)) else Outside) else Outside
+    if admissible l then (if starts_with call_key l.bytes then call_said (parse_call 0 (drop 5 l.bytes)) else None) else None
 
 -- what a line says where this one is due; the version's may be left out
-unfoldable pub line_says : Due → InputLine → PlanLine
-line_says Tasks l = tasks_said (parse_header_line tasks_key l)
-line_says Version l = version_said (parse_header_line version_key l) (parse_call_line l)
-line_says Call l = parse_call_line l
-line_says Nothing l = Outside
+unfoldable pub line_says : Option Due → InputLine → Option PlanLine
+line_says (Some Tasks) l = tasks_said (parse_header_line tasks_key l)
+line_says (Some Version) l = version_said (parse_header_line version_key l) (parse_call_line l)
+line_says (Some Call) l = parse_call_line l
+line_says None l = None
 
 -- ---- the lines of an input
 
 pub record PlanInput : Type 0 where
-  -- which line is due
-  pub due : Due
+  -- which line is due; none after a line outside the grammar
+  pub due : Option Due
   pub tasks : ℕ
   pub version : ℕ
   pub calls : List Planned
 
-abbrev pub input_of : Due → ℕ → ℕ → List Planned → PlanInput
+abbrev pub input_of : Option Due → ℕ → ℕ → List Planned → PlanInput
 input_of due t version cs = record { due = due; tasks = t; version = version; calls = cs }
 
 -- as in a session, an input without the version's line is of version 1
 unfoldable pub no_input : PlanInput
-no_input = input_of Tasks 0 1 []
+no_input = input_of (Some Tasks) 0 1 []
 
-unfoldable pub after_line : PlanInput → PlanLine → PlanInput
-after_line p (SaysTasks n) = input_of Version n p.version p.calls
-after_line p (SaysVersion n) = input_of Call p.tasks n p.calls
-after_line p (SaysCall c) = input_of Call p.tasks p.version (p.calls ++ (c ∷ []))
-after_line p Outside = input_of Nothing p.tasks p.version p.calls
+unfoldable pub after_line : PlanInput → Option PlanLine → PlanInput
+after_line p (Some (SaysTasks n)) = input_of (Some Version) n p.version p.calls
+after_line p (Some (SaysVersion n)) = input_of (Some Call) p.tasks n p.calls
+after_line p (Some (SaysCall c)) = input_of (Some Call) p.tasks p.version (p.calls ++ (c ∷ []))
+after_line p None = input_of None p.tasks p.version p.calls
 
 unfoldable pub after_lines : PlanInput → List InputLine → PlanInput
 after_lines p [] = p
@@ -108,11 +106,11 @@ unfoldable pub plan_lines : ℕ → ℕ → List Planned → List ℕ
 plan_lines t version cs = if not (within 1 8 t) then refusal_line 1 else reply_lines t (plan version cs)
 
 -- an input has the tasks' line, and none outside the grammar
-unfoldable pub in_grammar : Due → Bool
-in_grammar Tasks = false
-in_grammar Version = true
-in_grammar Call = true
-in_grammar Nothing = false
+unfoldable pub in_grammar : Option Due → Bool
+in_grammar (Some Tasks) = false
+in_grammar (Some Version) = true
+in_grammar (Some Call) = true
+in_grammar None = false
 
 unfoldable pub plan_output : PlanInput → List ℕ
 plan_output p = if in_grammar p.due then plan_lines p.tasks p.version p.calls else refusal_line 10

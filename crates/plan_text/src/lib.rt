@@ -9,20 +9,18 @@ pub mod reading;
 
 use plans::Planned;
 
-// Which line is due: the tasks' line, the version's or a call's, a call's, or none, since a line was outside the grammar.
+// Which line is due: the tasks' line, the version's or a call's, or a call's. After a line outside the grammar none is: an `Option<Due>` is None.
 #[derive(Clone, Copy)]
 pub enum Due {
     Tasks,
     Version,
     Call,
-    Nothing,
 }
 
-// What a line says: T, the version, a call, or nothing, since it is outside the grammar.
+// What a line says: T, the version or a call. A line that may be outside the grammar is an `Option<PlanLine>`.
 #[derive(Clone, Copy)]
 pub enum PlanLine {
     Tasks(u32),
     Version(u32),
     Call(Planned),
-    Outside,
 }

@@ -5,61 +5,58 @@ ghost use Rattle.plan_text.specs.Text.{tasks_said, version_said, call_said, pars
 
 use crate::{Due, PlanLine};
 use plans::Planned;
-use session::{Decimal, EventLine};
+use session::EventLine;
 
-fn tasks_said(d: Decimal) -> PlanLine
+#[tactic(auto, unfolding(crate::specs::Text::tasks_said))]
+fn tasks_said(d: Option<u32>) -> Option<PlanLine>
     ensures { result ≡ tasks_said d }
 {
-    match d {
-        Decimal::Value(n) => PlanLine::Tasks(n),
-        Decimal::NotDecimal => PlanLine::Outside,
-    }
+    Some(PlanLine::Tasks(d?))
 }
 
-fn version_said(d: Decimal, otherwise: PlanLine) -> PlanLine
+#[tactic(auto, unfolding(crate::specs::Text::version_said))]
+fn version_said(d: Option<u32>, otherwise: Option<PlanLine>) -> Option<PlanLine>
     ensures { result ≡ version_said d otherwise }
 {
     match d {
-        Decimal::Value(n) => PlanLine::Version(n),
-        Decimal::NotDecimal => otherwise,
+        Some(n) => Some(PlanLine::Version(n)),
+        None => otherwise,
     }
 }
 
 // The call of a session's start.
-fn call_said(e: EventLine) -> PlanLine
+#[tactic(auto, unfolding(crate::specs::Text::call_said))]
+fn call_said(e: Option<EventLine>) -> Option<PlanLine>
     ensures { result ≡ call_said e }
 {
-    match e {
-        EventLine::Start(_, call, tag) => PlanLine::Call(Planned { call, tag }),
-        EventLine::Step(_) => PlanLine::Outside,
-        EventLine::Outside => PlanLine::Outside,
+    match e? {
+        EventLine::Start(_, call, tag) => Some(PlanLine::Call(Planned { call, tag })),
+        EventLine::Step(_) => None,
     }
 }
 
 // A closed line where a call is due, given without the closing byte.
-fn call_line(s: &[u8]) -> PlanLine
+fn call_line(s: &[u8]) -> Option<PlanLine>
     ensures { result ≡ parse_call_line (closed_line s.now) }
 {
-    if 40 < s.len() {
-        return PlanLine::Outside;
+    if s.len() <= 40 && session_keys::starts_with(s, b"call=") {
+        call_said(session_keys::call(0, &s[5..]))
+    } else {
+        None
     }
-    if session_keys::starts_with(s, b"call=") {
-        return call_said(session_keys::call(0, &s[5..]));
-    }
-    PlanLine::Outside
 }
 
 // A closed line where this line is due, given without the closing byte.
-pub fn line(due: Due, s: &[u8]) -> PlanLine
+#[tactic(auto, unfolding(crate::specs::Text::line_says))]
+pub fn line(due: Option<Due>, s: &[u8]) -> Option<PlanLine>
     ensures { result ≡ line_says due (closed_line s.now) }
 {
-    match due {
+    match due? {
         Due::Tasks => tasks_said(session_header_numbers::header_number(b"tasks=", s)),
         Due::Version => {
             let call = call_line(s);
             version_said(session_header_numbers::header_number(b"version=", s), call)
         }
         Due::Call => call_line(s),
-        Due::Nothing => PlanLine::Outside,
     }
 }

@@ -1,64 +1,57 @@
-// Printing what is planned into a lent buffer, over the printer of a session's lines: each function appends what its definition gives from a
-// place of the buffer on and gives the next place; bytes that find no room are left out.
-ghost use Rattle.std.specs.Prelude.{◌≡◌, ◌≤◌, take};
-ghost use Rattle.session.specs.Buffer.{buffer, append};
+// Printing what is planned on a page, over the printer of a session's lines: each function appends what its definition gives; bytes that find
+// no room are left out.
+ghost use Rattle.std.specs.Prelude.{◌≡◌, ◌≤◌};
+ghost use Rattle.session_bytes.specs.Pages.{Appends};
 ghost use Rattle.plans.specs.Plan.{list_of};
 ghost use Rattle.plan_text.specs.Text.{figures_line, figures_lines, size_lines, plan_lines};
 
 use plans::{Calls, Figures};
+use session_bytes::Page;
 
 // What a call comes to.
-fn figures_line(buf: &mut [u8], at: usize, f: Figures) -> usize
-    ensures { buffer buf.new result ≡ append (figures_line f) (buffer buf.old at) }
+fn figures_line(page: &mut Page<'_>, f: Figures)
+    ensures { Appends (figures_line f) page.old page.new }
 {
-    let answer = f.answer;
-    let a = session_bytes::all_bytes(buf, at, b"plan=");
-    let b = session_print::answer(buf, a, answer);
-    let c = session_bytes::keyed(buf, b, b",", f.own as u64, 44);
-    session_bytes::key_line(buf, c, b"", f.buckets as u64)
+    page.bytes(b"plan=");
+    session_print::answer(page, f.answer);
+    page.keyed(b",", u64::from(f.own), b',');
+    page.key_line(b"", u64::from(f.buckets));
 }
 
-// What the first n calls come to.
-fn figures_lines(buf: &mut [u8], at: usize, figures: [Figures; 64], n: usize) -> usize
-    requires { n ≤ 64 }
-    ensures { buffer buf.new result ≡ append (figures_lines (take n figures)) (buffer buf.old at) }
+// What some calls come to.
+#[tactic(auto, using(crate::proofs::Laws::figures_on, crate::proofs::Laws::figures_end))]
+fn figures_lines(page: &mut Page<'_>, figures: &[Figures])
+    ensures { Appends (figures_lines figures.now) page.old page.new }
 {
-    let mut to = at;
-    let mut i = 0;
-    while i < n {
-        to = figures_line(buf, to, figures[i]);
-        i += 1;
+    for f in figures {
+        figures_line(page, *f);
     }
-    to
 }
 
 // How many records are enough for so many tasks.
-fn sizes(buf: &mut [u8], at: usize, tasks: u32) -> usize
+fn sizes(page: &mut Page<'_>, tasks: u32)
     requires { tasks ≤ 8 }
-    ensures { buffer buf.new result ≡ append (size_lines tasks) (buffer buf.old at) }
+    ensures { Appends (size_lines tasks) page.old page.new }
 {
-    let nodes = 2 * (tasks as u64) + 2;
-    let buckets = 32 * nodes + 4 * (tasks as u64);
-    let a = session_bytes::key_line(buf, at, b"nodes=", nodes);
-    session_bytes::key_line(buf, a, b"buckets=", buckets)
+    let tasks = u64::from(tasks);
+    let nodes = 2 * tasks + 2;
+    let buckets = 32 * nodes + 4 * tasks;
+    page.key_line(b"nodes=", nodes);
+    page.key_line(b"buckets=", buckets);
 }
 
 // What is said of so many tasks, a version and a list.
-pub fn planned(buf: &mut [u8], at: usize, tasks: u32, version: u32, calls: Calls) -> usize
-    ensures { buffer buf.new result ≡ append (plan_lines tasks version (list_of calls)) (buffer buf.old at) }
+pub fn planned(page: &mut Page<'_>, tasks: u32, version: u32, calls: Calls)
+    ensures { Appends (plan_lines tasks version (list_of calls)) page.old page.new }
 {
-    if tasks < 1 {
-        return session_bytes::refusal(buf, at, 1);
+    if tasks < 1 || 8 < tasks {
+        return page.refusal(1);
     }
-    if 8 < tasks {
-        return session_bytes::refusal(buf, at, 1);
+    match planner::plan(version, calls) {
+        Ok(figures) => {
+            sizes(page, tasks);
+            figures_lines(page, &figures[..calls.count]);
+        }
+        Err(r) => page.refusal(r.number()),
     }
-    let p = planner::plan(version, calls);
-    if p.refusal != 0 {
-        return session_bytes::refusal(buf, at, p.refusal);
-    }
-    let a = sizes(buf, at, tasks);
-    let figures = p.figures;
-    let n = calls.count;
-    figures_lines(buf, a, figures, n)
 }

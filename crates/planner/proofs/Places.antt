@@ -1,18 +1,20 @@
 -- The head's places: its size, how many are empty, the steps of filling them, and one more filled. Assumes nothing.
-use Rattle.std.specs.Prelude.{if◌then◌else◌}
+use Rattle.std.specs.Prelude.{if◌then◌else◌, Option, Some, None, not, cond, count_by}
+use Rattle.std.proofs.lemmas.List.Sums.{sum_by-cons}
 use Prim.Native.Nat.{ℕ, zero, suc, ◌+◌, ◌*◌, ◌-◌, ◌≤◌, ◌<◌}
-use native.Mathlib.Numerals.{add-one}
-use native.Mathlib.Nat.{mul-suc}
+use native.Mathlib.Nat.{mul-suc, mul-zero}
 use native.Mathlib.Omega.{arith}
 use mathlib.Core.Path.{◌≡◌, refl, ap, ◌∙◌}
 use mathlib.Core.List.{List, [], ◌∷◌}
 use mathlib.Core.Bool.{Bool, true, false}
-use lib.ListN.{length, get_or, take, drop, replicate, drop_of_length-le}
-use lib.Seq.{length-take-le, slice-cons, get_or-take}
+use lib.ListN.{length, get_or, take, replicate}
+use lib.Seq.{length-take-le, get_or-take}
 use Rattle.spec.specs.declared.Answer.{Answer}
 use Rattle.plans.specs.Plan.{Shape, figures, head_size, fill_steps, place_steps, places_steps, empty_places, update_figures}
 use Rattle.plan_heads.specs.declared.Head.{Head}
-use Rattle.planner.specs.Standing.{shape_of, filling}
+use Rattle.planner.specs.Standing.{pred_of, shape_of, filling_after, filling}
+use borrow.Author.Tests.{ne_eqb}
+use lib.Dec.{eqb}
 
 -- ---- how many are empty
 
@@ -22,24 +24,11 @@ empty_few [] = omega arith
 empty_few (true ∷ fs) = omega (arith, empty_few fs)
 empty_few (false ∷ fs) = omega (arith, empty_few fs)
 
--- the first n places, from the i-th on
-module _ (fs : List Bool) (n : ℕ) (h : n ≤ length fs) (i : ℕ) where
-  empty_next : (b : Bool) → get_or fs i false ≡ b → i < n
-      → empty_places (drop i (take n fs)) ≡ (if b then 0 else 1) + empty_places (drop (i + 1) (take n fs))
-  unfolding empty_places
-  empty_next b e l = rw (slice-cons i n fs false l h, e, add-one i)
-
-  pub empty_here : get_or fs i false ≡ false → i < n → empty_places (drop i (take n fs)) ≡ 1 + empty_places (drop (i + 1) (take n fs))
-  empty_here e l = empty_next false e l
-
-  pub empty_elsewhere : get_or fs i false ≡ true → i < n → empty_places (drop i (take n fs)) ≡ empty_places (drop (i + 1) (take n fs))
-  empty_elsewhere e l = empty_next true e l ∙ omega arith
-
-  pub empty_end : n ≤ i → empty_places (drop i (take n fs)) ≡ 0
-  unfolding empty_places
-  empty_end l =
-      let k : length (take n fs) ≤ i = rw (length-take-le n fs h) l in
-      rw (drop_of_length-le (take n fs) k)
+pub empty_count : (fs : List Bool) → count_by (λ f. not f) fs ≡ empty_places fs
+unfolding empty_places
+empty_count [] = refl
+empty_count (true ∷ fs) = omega (arith, empty_count fs)
+empty_count (false ∷ fs) = sum_by-cons (λ f. cond (not f) 1 0) false fs ∙ ap (λ (n : ℕ). 1 + n) (empty_count fs)
 
 -- ---- the steps of every place: three for a filled one
 
@@ -54,17 +43,29 @@ module _ (h : Head) (ts : List ℕ) (room : length h.filled ≡ 32) (most : h.si
   pub size_shape : head_size (shape_of h ts) ≡ h.size
   size_shape = length-take-le h.size h.filled (omega arith)
 
-  pub fill_shape : fill_steps (shape_of h ts) ≡ filling h
+  pub fill_shape : 0 < h.size → fill_steps (shape_of h ts) ≡ filling h
   unfolding fill_steps
-  fill_shape = rw size_shape
+  fill_shape some = rw size_shape (go h.pred)
+    where
+      go : (p : Option ℕ) → (if eqb h.size (2 * pred_of p) then 7 else 9) ≡ filling_after p h.size
+      go None = rw (ne_eqb h.size (2 * 0) (λ e. omega arith))
+      go (Some p) = refl
 
   pub places_shape : (n steps : ℕ) → n ≡ empty_places (take h.size h.filled) → steps ≡ filling h * n
       → 4 + 3 * (h.size - n) + steps ≡ 4 + places_steps (shape_of h ts) (take h.size h.filled)
   places_shape n steps e f =
-      let all : places_steps (shape_of h ts) (take h.size h.filled) ≡ 3 * (h.size - n) + steps =
-      places_count (shape_of h ts) (take h.size h.filled) ∙ rw (f, e, ← fill_shape, size_shape)
+      let fs = take h.size h.filled in
+      let few : n ≤ h.size = omega (arith, e, empty_few fs, size_shape) in
+      let same : filling h * n ≡ fill_steps (shape_of h ts) * n = go n few in
+      let all : places_steps (shape_of h ts) fs ≡ 3 * (h.size - n) + steps =
+      places_count (shape_of h ts) fs ∙ rw (f, same, e, size_shape)
       in
       omega arith
+    where
+      -- a head of no places has none that is empty
+      go : (n : ℕ) → n ≤ h.size → filling h * n ≡ fill_steps (shape_of h ts) * n
+      go zero few = omega (arith, mul-zero (filling h), mul-zero (fill_steps (shape_of h ts)))
+      go (suc n) few = rw (fill_shape (omega arith))
 
   -- ---- an insert or a remove at place i
 
@@ -80,7 +81,7 @@ module _ (h : Head) (ts : List ℕ) (room : length h.filled ≡ 32) (most : h.si
         → figures a (3 + steps) 1 ≡ update_figures (shape_of h ts) i a
     unfolding update_figures
     update_empty e steps f =
-        let g : steps ≡ fill_steps (shape_of h ts) = omega (arith, fill_shape) in
+        let g : steps ≡ fill_steps (shape_of h ts) = omega (arith, fill_shape (omega arith)) in
         rw (there, e, g)
 
 -- ---- a new head's places

@@ -7,7 +7,7 @@ use mathlib.Core.Path.{◌≡◌, refl, ap, ◌∙◌}
 use mathlib.Core.List.{List, [], ◌∷◌, ◌++◌}
 use borrow.Author.Tests.{lt-ltb, le-ltb, lt-leb, le-leb}
 use lib.ListN.{length, get_or, set, take, drop, replicate, drop_of_length-le}
-use lib.Seq.{sets, sets-eq, slice-cons, length-take-le}
+use lib.Seq.{sets, sets-eq, drop-cons, length-take-le}
 use Rattle.spec.specs.declared.Config.{Config}
 use Rattle.spec.specs.declared.Answer.TheVariants.{No}
 use Rattle.plans.specs.declared.Planned.{Planned}
@@ -25,30 +25,28 @@ drop_none a zero k = let e : k - 0 ≡ k = omega arith in rw e
 drop_none a (suc n) zero = let e : 0 - suc n ≡ 0 = omega arith in rw e
 drop_none a (suc n) (suc k) = let e : suc k - suc n ≡ k - n = omega arith in rw e (drop_none a n k)
 
-module _ (g : Config) (cs : List Planned) (n : ℕ) (fits : n ≤ length cs) where
+module _ (g : Config) (cs : List Planned) where
   -- all of them
-  pub stored_all : n ≤ 64 → (s : Shape) → sets (figures_array []) 0 (all_figures g s (take n cs)) ≡ figures_array (all_figures g s (take n cs))
+  pub stored_all : length cs ≤ 64 → (s : Shape) → sets (figures_array []) 0 (all_figures g s cs) ≡ figures_array (all_figures g s cs)
   unfolding figures_array
   stored_all h s =
-      let fs = all_figures g s (take n cs) in
-      let l : length fs ≡ n = figures_length g s (take n cs) ∙ length-take-le n cs fits in
+      let fs = all_figures g s cs in
+      let l : length fs ≡ length cs = figures_length g s cs in
       sets-eq fs (replicate 64 (figures No 0 0)) 0 (omega arith)
       ∙ ap (λ (r : List Figures). fs ++ r) (drop_none (figures No 0 0) (0 + length fs) 64 ∙ rw (zero-add (length fs)))
 
   module _ (i : ℕ) (s : Shape) (out : List Figures) where
     -- one more
-    pub stored_next : (d : Planned) → i < n → (f : Figures) (t : Shape)
+    pub stored_next : (d : Planned) → i < length cs → (f : Figures) (t : Shape)
         → f ≡ call_figures g s (get_or cs i d).call (get_or cs i d).tag → t ≡ after_call g s (get_or cs i d).call (get_or cs i d).tag
-        → sets (set out i f) (i + 1) (all_figures g t (drop (i + 1) (take n cs))) ≡ sets out i (all_figures g s (drop i (take n cs)))
+        → sets (set out i f) (i + 1) (all_figures g t (drop (i + 1) cs)) ≡ sets out i (all_figures g s (drop i cs))
     unfolding all_figures
-    stored_next d l f t p q = rw (slice-cons i n cs d l fits, p, q, add-one i)
+    stored_next d l f t p q = rw (drop-cons cs i d l, p, q, add-one i)
 
     -- none is left
-    pub stored_end : n ≤ i → sets out i (all_figures g s (drop i (take n cs))) ≡ out
+    pub stored_end : length cs ≤ i → sets out i (all_figures g s (drop i cs)) ≡ out
     unfolding all_figures
-    stored_end l =
-        let k : length (take n cs) ≤ i = rw (length-take-le n cs fits) l in
-        rw (drop_of_length-le (take n cs) k)
+    stored_end l = rw (drop_of_length-le cs l)
 
 -- ---- a list that is refused, and one that is not
 

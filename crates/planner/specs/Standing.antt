@@ -1,5 +1,5 @@
 -- What the planner keeps between two calls, and what of the definitions it stands for. Assumes nothing.
-use Rattle.std.specs.Prelude.{ℕ, ◌+◌, ◌*◌, ◌≤◌, ◌<◌, ◌≡◌, List, true, eqb, length, get_or, set, take, if◌then◌else◌}
+use Rattle.std.specs.Prelude.{ℕ, ◌+◌, ◌*◌, ◌≤◌, ◌<◌, ◌≡◌, List, true, eqb, length, get_or, set, take, if◌then◌else◌, Option, Some, None}
 use Rattle.spec.specs.declared.Answer.{Answer}
 use Rattle.spec.specs.declared.Answer.TheVariants.{Yes, No, Full, Done, Limit}
 use Rattle.spec.specs.declared.Call.{Call}
@@ -20,8 +20,13 @@ use Rattle.planner.specs.declared.Outcome.{Outcome}
 
 -- ---- what is kept, as the definition has it
 
+-- the size of the predecessor, 0 for none
+abbrev pub pred_of : Option ℕ → ℕ
+pred_of None = 0
+pred_of (Some p) = p
+
 abbrev pub shape_of : Head → List ℕ → Shape
-shape_of h ts = record { pred = h.pred; filled = take h.size h.filled; tags = ts }
+shape_of h ts = record { pred = pred_of h.pred; filled = take h.size h.filled; tags = ts }
 
 abbrev pub standing : Head → Bucket → Standing
 standing h b = record { head = h; set = b }
@@ -45,8 +50,12 @@ pub record Fits (h : Head) (i : ℕ) : Type 0 where
 -- ---- parts of a call
 
 -- the steps of filling an empty place
+abbrev pub filling_after : Option ℕ → ℕ → ℕ
+filling_after None n = 9
+filling_after (Some p) n = if eqb n (2 * p) then 7 else 9
+
 abbrev pub filling : Head → ℕ
-filling h = if eqb h.size (2 * h.pred) then 7 else 9
+filling h = filling_after h.pred h.size
 
 abbrev pub filled_at : Head → ℕ → Head
 filled_at h i = record { pred = h.pred; size = h.size; filled = set h.filled i true }

@@ -4,6 +4,7 @@
 -- predecessor's, from which of its places are filled, and from the plain set. That they are those of a run is the crate plan_laws.
 -- Assumes nothing.
 use Rattle.std.specs.Prelude.{ℕ, ◌+◌, ◌*◌, ◌-◌, List, [], ◌∷◌, ◌++◌, Bool, true, false, not, eqb, ltb, length, get_or, set, take, replicate, if◌then◌else◌}
+use Rattle.std.specs.Prelude.{Result, Ok, Err}
 use Rattle.spec.specs.declared.Answer.{Answer}
 use Rattle.spec.specs.declared.Answer.TheVariants.{No, Done, Limit}
 use Rattle.spec.specs.declared.Call.{Call}
@@ -18,7 +19,8 @@ use Rattle.spec.specs.Lines.{at_limit, resized}
 use Rattle.plans.specs.declared.Planned.{Planned}
 use Rattle.plans.specs.declared.Calls.{Calls}
 use Rattle.plans.specs.declared.Figures.{Figures}
-use Rattle.plans.specs.declared.Plan.{Plan}
+use Rattle.plans.specs.declared.Refusal.{Refusal}
+use Rattle.plans.specs.declared.Refusal.TheVariants.{Version, TooLong}
 
 abbrev pub call_of : Call → ℕ → Planned
 call_of call tag = record { call = call; tag = tag }
@@ -137,6 +139,14 @@ list_of l = if ltb 64 l.count then replicate 65 (call_of Contains 0) else take l
 unfoldable pub figures_array : List Figures → List Figures
 figures_array fs = fs ++ replicate (64 - length fs) (figures No 0 0)
 
-unfoldable pub plan_array : PlanReply → Plan
-plan_array (planned fs) = record { refusal = 0; figures = figures_array fs }
-plan_array (refused r) = record { refusal = r; figures = figures_array [] }
+-- a refusal's number, and the refusal that has a number
+abbrev pub refusal_number : Refusal → ℕ
+refusal_number Version = 11
+refusal_number TooLong = 9
+
+abbrev pub refusal_of : ℕ → Refusal
+refusal_of r = if eqb r 9 then TooLong else Version
+
+unfoldable pub plan_array : PlanReply → Result (List Figures) Refusal
+plan_array (planned fs) = Ok (figures_array fs)
+plan_array (refused r) = Err (refusal_of r)

@@ -1,8 +1,8 @@
 -- A list of calls as one task makes them alone, each run to its end, and what a reader takes from the outputs of that run. "Its figures
 -- equal those of the run." is the type PlanIsRun. Proved in the crate plan_laws. Assumes nothing.
-use Rattle.std.specs.Prelude.{ℕ, suc, ◌≡◌, List, [], ◌∷◌, ◌++◌, eqb, replicate, if◌then◌else◌}
-use Rattle.spec.specs.declared.Output.{Output}
-use Rattle.spec.specs.declared.Output.TheVariants.{At, End, Refuse}
+use Rattle.std.specs.Prelude.{ℕ, suc, ◌≡◌, List, [], ◌∷◌, ◌++◌, eqb, replicate, if◌then◌else◌, Ok, Err}
+use Rattle.spec.specs.Outputs.{Output}
+use Rattle.spec.specs.declared.Progress.TheVariants.{At, End}
 use Rattle.spec.specs.Schedule.{Event, starts, steps, schedule}
 use Rattle.plans.specs.declared.Planned.{Planned}
 use Rattle.plans.specs.declared.Figures.{Figures}
@@ -17,9 +17,9 @@ calls_alone p (c ∷ cs) = starts p c.call c.tag ∷ replicate 292 (steps p) ++ 
 -- now: "49 takes a new changeable bucket", and goes on to 50, to which no other line leads (`at_50_tells`, plan_laws)
 unfoldable pub figures_run : ℕ → List Output → List Figures
 figures_run b [] = []
-figures_run b (At l ∷ os) = figures_run (if eqb l 50 then suc b else b) os
-figures_run b (End a own full ∷ os) = figures a own b ∷ figures_run 0 os
-figures_run b (Refuse r ∷ os) = figures_run b os
+figures_run b (Ok (At l) ∷ os) = figures_run (if eqb l 50 then suc b else b) os
+figures_run b (Ok (End a own full) ∷ os) = figures a own b ∷ figures_run 0 os
+figures_run b (Err r ∷ os) = figures_run b os
 
 -- of T tasks, a version, what the two slices held, one of the tasks, and a list
 abbrev pub PlanIsRun : ℕ → ℕ → List ℕ → List ℕ → ℕ → List Planned → Type 0

@@ -1,10 +1,11 @@
 -- Examples for "Its figures equal those of the run.": what a reader takes from told outputs, what the promise says of one plan, tags whose places
 -- differ between the versions, and lists given as arrays. Runs that a plan does not fit: proofs/RunExamples. Assumes nothing.
-use Rattle.std.specs.Prelude.{ℕ, ◌≡◌, refl, List, [], ◌∷◌, map, length, take, drop, replicate}
+use Rattle.std.specs.Prelude.{ℕ, ◌≡◌, refl, List, [], ◌∷◌, map, length, take, drop, replicate, Ok, Err}
+use Rattle.spec.specs.declared.Refusal.TheVariants.{Idle, NoRecord}
 use Rattle.spec.specs.declared.Answer.TheVariants.{Yes, No, Done}
 use Rattle.spec.specs.declared.Call.TheVariants.{Insert, Remove, Contains, Grow}
-use Rattle.spec.specs.declared.Output.{Output}
-use Rattle.spec.specs.declared.Output.TheVariants.{At, Refuse}
+use Rattle.spec.specs.Outputs.{Output}
+use Rattle.spec.specs.declared.Progress.TheVariants.{At}
 use Rattle.spec.specs.Schedule.{starts, steps, schedule}
 use Rattle.spec.specs.Rows.{ended, counted}
 use Rattle.plans.specs.declared.Planned.{Planned}
@@ -17,8 +18,8 @@ use Rattle.plans.specs.Rows.{planning}
 -- a bucket for each 50 since the call's start and for no other line; 7 before the end and 6 after it tell nothing; one call still runs
 unfoldable pub told : List Output
 told =
-    At 20 ∷ At 49 ∷ At 50 ∷ At 51 ∷ Refuse 7 ∷ At 50 ∷ ended Done 9 ∷ Refuse 6 ∷ At 32 ∷ At 40 ∷ counted No 3 1 ∷ At 32 ∷ At 50 ∷ At 36
-    ∷ counted Yes 10 1 ∷ At 12 ∷ At 50 ∷ []
+    Ok (At 20) ∷ Ok (At 49) ∷ Ok (At 50) ∷ Ok (At 51) ∷ Err NoRecord ∷ Ok (At 50) ∷ ended Done 9 ∷ Err Idle ∷ Ok (At 32) ∷ Ok (At 40) ∷ counted No 3 1 ∷ Ok (At 32) ∷ Ok (At 50) ∷ Ok (At 36)
+    ∷ counted Yes 10 1 ∷ Ok (At 12) ∷ Ok (At 50) ∷ []
 
 pub told_figures : figures_run 0 told ≡ figures Done 9 2 ∷ figures No 3 0 ∷ figures Yes 10 1 ∷ []
 unfolding figures_run told

@@ -1,5 +1,8 @@
-// The types of the planner (paper 02, U11). specs/ has the definitions; no code is here.
+// The types of the planner (paper 02, U11). specs/ has the definitions; no code is here but a refusal's number.
 #![tactic(auto)]
+
+ghost use Rattle.std.specs.Prelude.{◌≡◌};
+ghost use Rattle.plans.specs.Plan.{refusal_number};
 
 use spec::{Answer, Call};
 
@@ -25,9 +28,21 @@ pub struct Figures {
     pub buckets: u32,
 }
 
-// What is answered for a list: a refusal's number, 0 for none, and the figures of its calls, in their order.
+// Why a list is refused: the version is not 1 or 2, printed as 11, or it has more than 64 calls, printed as 9.
 #[derive(Clone, Copy)]
-pub struct Plan {
-    pub refusal: u32,
-    pub figures: [Figures; 64],
+pub enum Refusal {
+    Version,
+    TooLong,
+}
+
+impl Refusal {
+    // Its number in the papers.
+    pub fn number(self) -> u32
+        ensures { result ≡ refusal_number self }
+    {
+        match self {
+            Refusal::Version => 11,
+            Refusal::TooLong => 9,
+        }
+    }
 }

@@ -1,27 +1,35 @@
 -- A move tried in a turn: with the pools as they were, it wins or loses as the definition has it, and the pools are again as they were.
 -- Assumes nothing.
 use Prim.Native.Nat.{ℕ}
-use mathlib.Core.Path.{◌≡◌, sym, ap, subst, ◌∙◌}
+use mathlib.Core.Path.{◌≡◌, refl, sym, ap, subst, ◌∙◌}
 use mathlib.Core.List.{List}
 use mathlib.Core.Bool.{Bool, true, false, ◌||◌}
+use Rattle.std.specs.Prelude.{is_some}
+use Rattle.std.specs.declared.option.Option.{Option}
+use Rattle.std.specs.declared.option.Option.TheVariants.{Some, None}
 use Rattle.spec.specs.declared.State.{State}
 use Rattle.spec.specs.Machine.{Machine, machine_of}
 use Rattle.spec.specs.Sound.{sound}
 use Rattle.game.specs.declared.LanesMove.{LanesMove}
 use Rattle.game.specs.declared.OfficeMove.{OfficeMove}
-use Rattle.game.specs.declared.Verdict.{Verdict}
 use Rattle.game.specs.Game.{lanes_may, after_lanes, ends_insert, wins_by, office_may, after_office, loses_by, lanes_win, office_loses}
 use Rattle.game.specs.Game.{winning_move, is_win}
 use Rattle.game.specs.FirstMove.{win_is_move}
 use Rattle.undo.specs.Undo.{nodes_back, buckets_back}
 use Rattle.play.specs.declared.moves.Played.{Played}
-use Rattle.play.specs.Moves.{PlayedTo}
+use Rattle.play.specs.Moves.{said_of, PlayedTo}
 use Rattle.play.proofs.MovesMade.{lanes_keep, office_keeps}
 use Rattle.play.proofs.Tries.{wins_as, loses_as}
 
 -- the insert has not ended
 pub unended : {b x r : Bool} → b ≡ false → x ≡ r → r ≡ (b || x)
 unended {x = x} e f = sym (ap (λ (c : Bool). c || x) e ∙ f)
+
+-- a move is given exactly if what is said is a win
+some_wins : (v : Option LanesMove) → is_some v ≡ is_win (said_of v)
+unfolding is_win
+some_wins (Some m) = refl
+some_wins None = refl
 
 -- the pools ns and bs of the loop are the pools ns₀ and bs₀ that the turn was given
 module _ (s : State) {ns₀ bs₀ ns bs : List ℕ} (p : ns ≡ ns₀) (q : bs ≡ bs₀) where
@@ -59,11 +67,11 @@ module _ (s : State) {ns₀ bs₀ ns bs : List ℕ} (p : ns ≡ ns₀) (q : bs �
     pub sound_after_office : sound given ≡ true → sound (machine_of r.state ns₁ bs₁) ≡ true
     sound_after_office e = ap sound office_made.after ∙ office_keeps given o e
 
-    pub office_loses_as : (n : ℕ) → office_may given o ≡ true → (v : Verdict) → v ≡ winning_move n (machine_of r.state ns₁ bs₁) → (w : Bool) → w ≡ is_win v
-        → loses_by (λ z. lanes_win n z) given o ≡ w
-    office_loses_as n may v g w e =
-        loses_as (λ z. lanes_win n z) given o may w
-        (e ∙ ap is_win (g ∙ ap (λ (z : Machine). winning_move n z) office_made.after) ∙ win_is_move n (after_office given o))
+    pub office_loses_as : (n : ℕ) → office_may given o ≡ true → (v : Option LanesMove) → said_of v ≡ winning_move n (machine_of r.state ns₁ bs₁)
+        → loses_by (λ z. lanes_win n z) given o ≡ is_some v
+    office_loses_as n may v g =
+        loses_as (λ z. lanes_win n z) given o may (is_some v)
+        (some_wins v ∙ ap is_win (g ∙ ap (λ (z : Machine). winning_move n z) office_made.after) ∙ win_is_move n (after_office given o))
 
   -- ---- the pools again
 

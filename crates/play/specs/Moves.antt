@@ -1,22 +1,31 @@
 -- The moves in the order in which the search tries them, and what a move that was made gives it: the definitions that the contracts of
 -- `moves` cite. Assumes nothing.
-use Rattle.std.specs.Prelude.{ℕ, ◌≡◌, List, Bool, ◌&&◌, eqb, if◌then◌else◌}
-use Rattle.spec.specs.declared.Output.{Output}
+use Rattle.std.specs.Prelude.{ℕ, ◌≡◌, List, [], ◌∷◌, Bool, ◌&&◌, eqb}
+use Rattle.std.specs.declared.option.Option.{Option}
+use Rattle.std.specs.declared.option.Option.TheVariants.{Some, None}
+use Rattle.spec.specs.Outputs.{Output}
 use Rattle.spec.specs.Machine.{Machine, machine_of}
 use Rattle.game.specs.declared.LanesMove.{LanesMove}
 use Rattle.game.specs.declared.LanesMove.TheVariants.{StepTask0, StepTask1, LanesPass}
 use Rattle.game.specs.declared.OfficeMove.{OfficeMove}
 use Rattle.game.specs.declared.OfficeMove.TheVariants.{StepTask2, StartGrow, StartShrink, OfficePass}
+use Rattle.game.specs.declared.Verdict.{Verdict}
+use Rattle.game.specs.declared.Verdict.TheVariants.{LanesWin, OfficeHolds}
 use Rattle.game.specs.Game.{ended}
 use Rattle.undo.specs.Undo.{nodes_back, buckets_back}
 use Rattle.play.specs.declared.moves.Played.{Played}
 
 -- "task 0 before task 1 before a pass"
-unfoldable pub nth_lanes : ℕ → LanesMove
-nth_lanes i = if eqb i 0 then StepTask0 else if eqb i 1 then StepTask1 else LanesPass
+abbrev pub lanes_moves : List LanesMove
+lanes_moves = StepTask0 ∷ StepTask1 ∷ LanesPass ∷ []
 
-unfoldable pub nth_office : ℕ → OfficeMove
-nth_office i = if eqb i 0 then OfficePass else if eqb i 1 then StepTask2 else if eqb i 2 then StartGrow else StartShrink
+abbrev pub office_moves : List OfficeMove
+office_moves = OfficePass ∷ StepTask2 ∷ StartGrow ∷ StartShrink ∷ []
+
+-- what is said of the lanes' turn: the move that wins, or that none does
+abbrev pub said_of : Option LanesMove → Verdict
+said_of (Some m) = LanesWin m
+said_of None = OfficeHolds
 
 -- an answer to a step of task k that ends task 0's call
 unfoldable pub ends_of : ℕ → Output → Bool

@@ -8,48 +8,38 @@ mod moves;
 ghost use Rattle.std.specs.Prelude.{◌≡◌, List, true, ◌||◌, ℕ};
 ghost use Rattle.spec.specs.Machine.{machine_of};
 ghost use Rattle.spec.specs.Sound.{sound};
-ghost use Rattle.game.specs.Game.{is_win, winning_move, office_loses, no_game, verdict};
+ghost use Rattle.game.specs.Game.{winning_move, office_loses, no_game, verdict};
+ghost use Rattle.play.specs.Moves.{said_of};
 
-use game::Verdict;
+use game::{LanesMove, OfficeMove, Verdict};
 use spec::State;
 
-fn is_win(v: Verdict) -> bool
-    ensures { result ≡ is_win v }
-{
-    match v {
-        Verdict::LanesWin(_) => true,
-        Verdict::OfficeHolds => false,
-        Verdict::Refused(_) => false,
-    }
-}
-
-// The lanes are to move, with so many plies left: a winning move, task 0 before task 1 before a pass, or that there is none.
+// The lanes are to move, with so many plies left: a winning move, task 0 before task 1 before a pass, or none.
 #[cycle(lanes_turn_office_turn)]
-fn lanes_turn(s: State, left: u32, ns: &mut [u32], bs: &mut [u32]) -> Verdict
+fn lanes_turn(s: State, left: u32, ns: &mut [u32], bs: &mut [u32]) -> Option<LanesMove>
     requires { sound (machine_of s ns.old bs.old) ≡ true }
-    ensures { (result ≡ winning_move left (machine_of s ns.old bs.old))
+    ensures { (said_of result ≡ winning_move left (machine_of s ns.old bs.old))
         × (ns.new ≡ ns.old) × (bs.new ≡ bs.old) }
 {
     if left == 0 {
-        return Verdict::OfficeHolds;
+        return None;
     }
-    let mut i: u32 = 0;
-    while i < 3 {
-        let m = moves::lanes_move(i);
-        i += 1;
+    for m in [
+        LanesMove::StepTask0,
+        LanesMove::StepTask1,
+        LanesMove::LanesPass,
+    ] {
         if !moves::lanes_may(s, m) {
             continue;
         }
         let p = moves::play_lanes(s, m, ns, bs);
-        let next = p.state;
-        let kept = p.kept;
-        let wins = office_turn(p.ends, next, left - 1, ns, bs);
-        undo::put_back(kept, ns, bs);
+        let wins = office_turn(p.ends, p.state, left - 1, ns, bs);
+        undo::put_back(p.kept, ns, bs);
         if wins {
-            return Verdict::LanesWin(m);
+            return Some(m);
         }
     }
-    Verdict::OfficeHolds
+    None
 }
 
 // The office is to move, with so many plies left: task 0's insert has ended, or the lanes win whatever the office does.
@@ -65,19 +55,19 @@ fn office_turn(ended: bool, s: State, left: u32, ns: &mut [u32], bs: &mut [u32])
     if left == 0 {
         return false;
     }
-    let mut i: u32 = 0;
-    while i < 4 {
-        let o = moves::office_move(i);
-        i += 1;
+    for o in [
+        OfficeMove::OfficePass,
+        OfficeMove::StepTask2,
+        OfficeMove::StartGrow,
+        OfficeMove::StartShrink,
+    ] {
         if !moves::office_may(s, o) {
             continue;
         }
         let p = moves::play_office(s, o, ns, bs);
-        let next = p.state;
-        let kept = p.kept;
-        let v = lanes_turn(next, left - 1, ns, bs);
-        undo::put_back(kept, ns, bs);
-        if !is_win(v) {
+        let win = lanes_turn(p.state, left - 1, ns, bs);
+        undo::put_back(p.kept, ns, bs);
+        if win.is_none() {
             return false;
         }
     }
@@ -85,24 +75,11 @@ fn office_turn(ended: bool, s: State, left: u32, ns: &mut [u32], bs: &mut [u32])
 }
 
 // N is out of range, there are fewer than three tasks, or task 0 does not run an insert.
+#[tactic(auto, unfolding(game::specs::Game::no_game, game::specs::Game::inserts, spec::specs::Machine::task_of, spec::specs::Machine::idle))]
 fn no_game(s: State, n: u32) -> bool
     ensures { (ns bs : List ℕ) → result ≡ no_game n (machine_of s ns bs) }
 {
-    if n < 1 {
-        return true;
-    }
-    if 6 < n {
-        return true;
-    }
-    if s.config.tasks < 3 {
-        return true;
-    }
-    let c = s.task[0];
-    let running = c.running;
-    if !running {
-        return true;
-    }
-    c.call != 1
+    !matches!(n, 1..=6) || s.config.tasks < 3 || !s.task[0].running || s.task[0].call != 1
 }
 
 // Whether the lanes can win within n of their turns against every play of the office, and by which first move. Lent memory holds
@@ -117,5 +94,8 @@ pub fn game(s: State, n: u32, ns: &mut [u32], bs: &mut [u32]) -> Verdict
     if no_game(s, n) {
         return Verdict::Refused(16);
     }
-    lanes_turn(s, 2 * n - 1, ns, bs)
+    match lanes_turn(s, 2 * n - 1, ns, bs) {
+        Some(m) => Verdict::LanesWin(m),
+        None => Verdict::OfficeHolds,
+    }
 }

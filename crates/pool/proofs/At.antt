@@ -1,11 +1,13 @@
 -- A bucket of the pool by its number: what reading it, storing it, freezing it, adding to it and removing from it come to for a number
 -- in the pool, and where its words are sound. Assumes nothing.
+use Rattle.std.specs.Prelude.{if◌then◌else◌}
+use Rattle.pool_writes.specs.Writes.{record_at}
 use mathlib.Core.Path.{◌≡◌, refl, sym, ap, ◌∙◌}
 use mathlib.Core.List.{List, [], ◌∷◌, ◌++◌, append_assoc}
 use mathlib.Core.Bool.{Bool, true, false, ◌&&◌}
 use Prim.Native.Nat.{ℕ, suc, ◌+◌, ◌-◌, ◌*◌, ◌/◌, ◌<◌, ◌≤◌}
 use native.Mathlib.Omega.{arith}
-use borrow.Author.Tests.{leb-true, lt-ltb, le-ltb}
+use borrow.Author.Tests.{leb-true, lt-ltb}
 use lib.Dec.{leb, ltb, eqb}
 use lib.ListN.{length, get_or, take, drop, set, replicate, length-drop, take-append-drop}
 use lib.Seq.{take-take, drop-drop, get_or-take, get_or-drop, get_or-append-add, length-take-le}
@@ -27,9 +29,15 @@ pub use Rattle.pool_writes.proofs.Part.{node_here}
 abbrev says : Response → ℕ → Answered
 says r n = record { response = r; count = n }
 
--- the part from word i on, as a loan of it has it
-abbrev pub lent : List ℕ → ℕ → List ℕ
-lent p i = take (length p - i) (drop i p)
+-- the words of a record of 66 words are a bucket's
+pub bucket_record : (p : List ℕ) (k : ℕ) → ◌≡◌ {A = Bucket} (record { words = record_at 66 p k }) (bucket_at p k)
+unfolding record_at bucket_at
+bucket_record p k = go (ltb k (length p / 66))
+  where
+    go : (b : Bool) → ◌≡◌ {A = Bucket} (record { words = if b then take 66 (drop (66 * k) p) else replicate 66 0 })
+        (if b then front_of (drop (66 * k) p) else record { words = replicate 66 0 })
+    go true = refl
+    go false = refl
 
 -- words written over themselves
 pub over_same : (w : List ℕ) (i n : ℕ) → i + n ≤ length w → overwrite w i (take n (drop i w)) ≡ w
@@ -92,21 +100,6 @@ module _ (w : List ℕ) (k : ℕ) (h : 66 * k + 66 ≤ length w) where
       store_here (frozen_of (bucket_at w k)) ∙ ap (λ (b : Bucket). overwrite w (66 * k) (frozen_of b).words) bucket_here
       ∙ sym (back w (66 * k) v (overwrite d 0 v) refl) ∙ back_set w (66 * k) 0 (overwrite d 0 v) (omega arith) (over_first d 0 l)
 
-  -- ---- the part that begins at the bucket's first word, lent: what is asked of the bucket there, and what comes back
-
-  pub lent_room : 66 ≤ length (lent w (66 * k))
-  lent_room = rw (rest w (66 * k), length-drop (66 * k) w) (omega arith)
-
-  pub lent_front : {A : Type 0} (f : Bucket → A) → f (front_of (lent w (66 * k))) ≡ f (bucket_at w k)
-  lent_front f = ap (λ (l : List ℕ). f (front_of l)) (rest w (66 * k)) ∙ ap f (sym bucket_here)
-
-  pub put_back : (f : Bucket → Bucket) (q : List ℕ) → q ≡ overwrite (lent w (66 * k)) 0 (f (front_of (lent w (66 * k)))).words
-      → take (66 * k) w ++ (q ++ drop (length w - 66 * k) (drop (66 * k) w)) ≡ store_bucket w k (f (bucket_at w k))
-  put_back f q e =
-      let whole = ap (λ (l : List ℕ). overwrite l 0 (f (front_of l)).words) (rest w (66 * k)) in
-      let named = ap (λ (b : Bucket). overwrite (drop (66 * k) w) 0 (f b).words) (sym bucket_here) in
-      back w (66 * k) (f (bucket_at w k)).words q (e ∙ whole ∙ named) ∙ sym (store_here (f (bucket_at w k)))
-
   -- a bucket of these tags written there has as many as its second word says
   pub count_over : (ts : List ℕ) → length (tags_in (bucket_of 1 ts)) ≡ count (overwrite w (66 * k) (bucket_of 1 ts)) k
   unfolding count overwrite
@@ -117,24 +110,6 @@ module _ (w : List ℕ) (k : ℕ) (h : 66 * k + 66 ≤ length w) where
       let at : 66 * k + 1 ≡ length before + 1 = omega arith in
       let there : get_or (before ++ (bucket_of 1 ts ++ after)) (66 * k + 1) 0 ≡ length ts = rw at (get_or-append-add before _ 1 0 ∙ second 1 ts after) in
       ap (λ (v : List ℕ). length v) (tags_of_bucket 1 ts) ∙ sym (rw (append_assoc before (bucket_of 1 ts) after) there)
-
--- a bucket number past the pool
-module _ (w : List ℕ) (k : ℕ) (h : length w / 66 ≤ k) where
-  pub bucket_past : bucket_at w k ≡ record { words = replicate 66 0 }
-  unfolding bucket_at
-  bucket_past = rw (le-ltb _ _ h)
-
-  pub store_past : (b : Bucket) → store_bucket w k b ≡ w
-  unfolding store_bucket
-  store_past b = rw (le-ltb _ _ h)
-
-  pub add_past : (x : ℕ) → answer_of (added (bucket_at w k) x) ≡ record { response = Frozen; count = 0 }
-  unfolding added
-  add_past x = rw bucket_past
-
-  pub remove_past : (x : ℕ) → answer_of (removed (bucket_at w k) x) ≡ record { response = Frozen; count = 0 }
-  unfolding removed
-  remove_past x = rw bucket_past
 
 -- the tags of a bucket that has at most 64, whatever its first word
 module _ (w : List ℕ) (k : ℕ) (f : count_in_bounds (drop (66 * k) w) ≡ true) where

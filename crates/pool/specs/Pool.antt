@@ -8,7 +8,7 @@ use Rattle.bucket.specs.declared.Changed.{Changed}
 use Rattle.bucket.specs.declared.Response.{Response}
 use Rattle.bucket.specs.declared.Response.TheVariants.{Yes, No, Frozen, Full}
 use Rattle.pool.specs.declared.buckets.Answered.{Answered}
-unfoldable pub use Rattle.pool_writes.specs.Writes.{write_front, store_node}
+unfoldable pub use Rattle.pool_writes.specs.Writes.{write_front, record_at, store_record, store_node}
 
 -- the bucket whose words are the first of p
 abbrev pub front_of : List ℕ → Bucket

@@ -12,8 +12,8 @@ ghost use Rattle.spec.specs.Listed.{slot};
 
 use spec::Config;
 
-// Zeros, words over the first of a part, a node anew.
-pub use pool_writes::{new_node, write_over, zero};
+// Zeros, words over the first of a part, a record of so many words by its number, a node anew.
+pub use pool_writes::{new_node, put_record, record, write_over, zero};
 
 // A node's words and how many of them are places, a bucket's words and its most tags, the most nodes and buckets.
 pub const NODE_WORDS: usize = pool_writes::NODE_WORDS;
@@ -40,22 +40,26 @@ pub fn word(s: &[u32], at: usize) -> u32
 pub fn number_of(l: u32) -> u32
     ensures { result ≡ number l }
 {
-    if l == 0 { 0 } else { l - 1 }
+    l.saturating_sub(1)
 }
 
-// Of node number k: `_at`. Of the node that a link names: `_of`.
+// Of node number k: `_at`. Of the node that a link names: `_of`. (Both, since a walk has numbers and a line has links: with one of them each of some twenty
+// calls would name the number of its link.)
+#[tactic(auto, unfolding(spec::specs::Words::size))]
 pub fn size_at(ns: &[u32], k: u32) -> u32
     ensures { result ≡ size ns.now k }
 {
     word(ns, NODE_WORDS * (k as usize))
 }
 
+#[tactic(auto, unfolding(spec::specs::Words::pred))]
 pub fn pred_at(ns: &[u32], k: u32) -> u32
     ensures { result ≡ pred ns.now k }
 {
     word(ns, NODE_WORDS * (k as usize) + 1)
 }
 
+#[tactic(auto, unfolding(spec::specs::Words::place))]
 pub fn place_at(ns: &[u32], k: u32, i: u32) -> u32
     ensures { result ≡ place ns.now k i }
 {
@@ -66,57 +70,42 @@ pub fn place_at(ns: &[u32], k: u32, i: u32) -> u32
 pub fn place_for_at(ns: &[u32], k: u32, g: Config, tag: u32) -> u32
     ensures { result ≡ place ns.now k (slot g tag (size ns.now k)) }
 {
-    let z = size_at(ns, k);
-    let i = bucket::slot(g, tag, z);
-    place_at(ns, k, i)
+    place_at(ns, k, bucket::slot(g, tag, size_at(ns, k)))
 }
 
 pub fn size_of(ns: &[u32], l: u32) -> u32
     ensures { result ≡ size ns.now (number l) }
 {
-    let k = number_of(l);
-    size_at(ns, k)
+    size_at(ns, number_of(l))
 }
 
 pub fn pred_of(ns: &[u32], l: u32) -> u32
     ensures { result ≡ pred ns.now (number l) }
 {
-    let k = number_of(l);
-    pred_at(ns, k)
+    pred_at(ns, number_of(l))
 }
 
 pub fn place_of(ns: &[u32], l: u32, i: u32) -> u32
     ensures { result ≡ place ns.now (number l) i }
 {
-    let k = number_of(l);
-    place_at(ns, k, i)
+    place_at(ns, number_of(l), i)
 }
 
 pub fn place_for(ns: &[u32], l: u32, g: Config, tag: u32) -> u32
     ensures { result ≡ place ns.now (number l) (slot g tag (size ns.now (number l))) }
 {
-    let k = number_of(l);
-    place_for_at(ns, k, g, tag)
+    place_for_at(ns, number_of(l), g, tag)
 }
 
 // ---- a whole pool
 
 // So many words are records of this width, 1 up to most.
+#[tactic(auto, unfolding(spec::specs::Entries::pool_fits))]
 pub fn fits(width: usize, most: usize, words: usize) -> bool
     requires { 0 < width }
     ensures { result ≡ pool_fits width most words }
 {
-    if words % width != 0 {
-        return false;
-    }
-    let n = words / width;
-    if n < 1 {
-        return false;
-    }
-    if most < n {
-        return false;
-    }
-    true
+    words % width == 0 && 1 <= words / width && words / width <= most
 }
 
 // ---- a word

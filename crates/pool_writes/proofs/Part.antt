@@ -1,39 +1,15 @@
 -- Laws of a part of the pool whose first words are written over, and of a node written.
 -- Assumes nothing.
-use mathlib.Core.Path.{◌≡◌, refl, sym, ap, ◌∙◌}
+use mathlib.Core.Path.{◌≡◌, sym}
 use mathlib.Core.List.{List, [], ◌++◌, append-nil, append_assoc}
-use Prim.Native.Nat.{ℕ, suc, ◌+◌, ◌-◌, ◌*◌, ◌/◌, ◌<◌, ◌≤◌}
-use native.Mathlib.Numerals.{add-one}
+use Prim.Native.Nat.{ℕ, ◌+◌, ◌-◌, ◌*◌, ◌/◌, ◌<◌, ◌≤◌}
 use native.Mathlib.Omega.{arith}
-use lib.ListN.{length, get_or, take, drop, set, length-drop, drop_of_length-le}
-use lib.Seq.{drop-cons, set_split, set_at, append_snoc, take-suc, length-take-le, drop-drop, take_all}
+use lib.ListN.{length, take, drop, set, length-drop, drop_of_length-le}
+use lib.Seq.{drop-cons, set_split, drop-drop, take_all}
 use borrow.Author.Tests.{lt-ltb}
+use borrow.Rule.Slice.PartMut.{put_mid}
 use Rattle.spec.specs.Words.{overwrite, node_of}
 use Rattle.pool_writes.specs.Writes.{store_node}
-
--- the first i words of s over those of d
-pub over : List ℕ → List ℕ → ℕ → List ℕ
-over d s i = take i s ++ drop i d
-
-pub over_none : (d s : List ℕ) → d ≡ over d s 0
-unfolding over
-over_none d s = refl
-
-pub over_more : (d s : List ℕ) (i : ℕ) (p : List ℕ) → p ≡ over d s i → i < length d → i < length s → set p i (get_or s i 0) ≡ over d s (i + 1)
-unfolding over
-over_more d s i p e hd hs =
-    rw (e, add-one, drop-cons d i 0 hd) (set_at (take i s) (get_or d i 0) (drop (suc i) d) (get_or s i 0) i (length-take-le i s (omega arith))
-    ∙ sym (append_snoc (take i s) (get_or s i 0) (drop (suc i) d)) ∙ ap (λ (l : List ℕ). l ++ drop (suc i) d) (sym (take-suc s i 0 hs)))
-
-pub over_all : (d v : List ℕ) (i : ℕ) (p : List ℕ) → p ≡ over d v i → i ≡ length v → p ≡ overwrite d 0 v
-unfolding over overwrite
-over_all d v i p e h =
-    let z : 0 + length v ≡ length v = omega arith in e ∙ rw (h, z) (ap (λ (w : List ℕ). w ++ drop (length v) d) (take_all (length v) v (omega arith)))
-
--- n words over as many
-pub over_full : (d v : List ℕ) (n : ℕ) → length d ≤ n → over d v n ≡ take n v
-unfolding over
-over_full d v n h = rw (drop_of_length-le d h) (append-nil (take n v))
 
 -- the part from word a on, as a loan of it has it
 pub rest : (d : List ℕ) (a : ℕ) → take (length d - a) (drop a d) ≡ drop a d
@@ -56,6 +32,11 @@ back_set d i v q h e =
     let n : ℕ = length d - i in
     let z : drop n (drop i d) ≡ [] = drop_of_length-le (drop i d) {i = n} (rw (length-drop i d) (omega arith)) in
     rw (z, append-nil, e, drop-cons d i 0 h) (sym (set_split d i v h))
+
+-- the words of a part written anew by those of v
+pub mid_over : (p v q : List ℕ) (a k : ℕ) → q ≡ v → length v ≡ k → put_mid a k p q ≡ overwrite p a v
+unfolding overwrite
+mid_over p v q a k e l = rw (e, l, drop-drop k a p) (sym (append_assoc (take a p) v (drop (a + k) p)))
 
 -- a node number in the pool
 pub node_here : (w : List ℕ) (k sz l : ℕ) → 34 * k + 34 ≤ length w → store_node w k sz l ≡ overwrite w (34 * k) (node_of sz l)

@@ -5,7 +5,7 @@ ghost use Rattle.std.specs.Prelude.{◌≡◌};
 ghost use Rattle.spec.specs.Entries.{show, list};
 ghost use Rattle.spec.specs.Machine.{machine_of};
 
-use spec::{Listing, State};
+use spec::{Listing, Refusal, State};
 
 // Writes the tags in the set, ascending, and gives their number; later words are kept.
 pub fn list(s: State, ns: &[u32], bs: &[u32], out: &mut [u32]) -> Listing
@@ -13,22 +13,17 @@ pub fn list(s: State, ns: &[u32], bs: &[u32], out: &mut [u32]) -> Listing
         × (out.new ≡ (list (machine_of s ns.now bs.now) out.old).words) }
 {
     if !soundness::sound(s, ns, bs) {
-        return Listing::Refused(8);
+        return Err(Refusal::Spoilt);
     }
-    let g = listing::gather(s, ns, bs);
-    let full = g.full;
-    if full {
-        return Listing::Refused(8);
-    }
+    let Some(b) = listing::gather(s, ns, bs) else {
+        return Err(Refusal::Spoilt);
+    };
     if out.len() < bucket::MOST_TAGS {
-        return Listing::Refused(9);
+        return Err(Refusal::ShortList);
     }
-    let b = g.bucket;
-    let n = b.count();
-    let w = b.words;
-    let e = 2 + n;
-    pool::write_over(out, &w[2..e]);
-    Listing::Count(n as u32)
+    let tags = b.tags();
+    pool::write_over(out, tags);
+    Ok(tags.len() as u32)
 }
 
 // The tags of bucket k, where they stand; an empty part for a bad number or spoilt memory.
@@ -36,20 +31,20 @@ pub fn show<'a>(s: State, ns: &[u32], bs: &'a [u32], k: u32) -> &'a [u32]
     ensures { result.now ≡ show (machine_of s ns.now bs.now) k }
 {
     if !soundness::sound(s, ns, bs) {
-        return &bs[0..0];
+        return &[];
     }
     if s.buckets <= k {
-        return &bs[0..0];
+        return &[];
     }
     if pool::MOST_BUCKETS <= k {
-        return &bs[0..0];
+        return &[];
     }
     let a = bucket::WORDS * (k as usize);
     let n = pool::word(bs, a + 1);
     let f = a + 2;
     let e = f + n as usize;
     if bs.len() < e {
-        return &bs[0..0];
+        return &[];
     }
     &bs[f..e]
 }

@@ -6,8 +6,8 @@ use mathlib.Core.List.{List}
 use mathlib.Core.Bool.{Bool, true, false}
 use Prim.Native.Nat.{ℕ, suc, ◌≤◌, min}
 use native.Mathlib.Omega.{arith}
-use lib.ListN.{take, drop, take-append-drop}
-use Rattle.spec.specs.declared.Output.{Output}
+use lib.ListN.{take-append-drop}
+use Rattle.spec.specs.Outputs.{Output}
 use Rattle.spec.specs.declared.State.{State}
 use Rattle.spec.specs.Schedule.{Event, event}
 use Rattle.lines.specs.declared.Stepped.{Stepped}

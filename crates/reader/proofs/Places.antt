@@ -1,16 +1,17 @@
 -- The line at a place of the listing: its bytes, as they are printed for a list call's answer, `counted_line`, `refused_line`; and what comparing it
 -- leaves. Assumes nothing.
-use Rattle.std.specs.Prelude.{if◌then◌else◌}
+use Rattle.std.specs.Prelude.{if◌then◌else◌, Ok, Err}
 use mathlib.Core.Path.{◌≡◌, refl, sym, ap, ◌∙◌}
 use mathlib.Core.List.{List, []}
-use mathlib.Core.Bool.{Bool, true, false, not}
+use mathlib.Core.Bool.{Bool, true, false}
 use Prim.Native.Nat.{ℕ, zero, suc, ◌+◌, ◌-◌, ◌<◌, ◌≤◌}
 use native.Mathlib.Omega.{arith}
 use borrow.Author.Tests.{ne_eqb, ltb-true, ltb-false}
 use lib.Dec.{ltb}
 use lib.ListN.{length, get_or, take, drop, replicate}
-use Rattle.spec.specs.declared.Listing.{Listing}
-use Rattle.spec.specs.declared.Listing.TheVariants.{Count, Refused}
+use Rattle.spec.specs.Numbers.{refusal_number}
+use Rattle.spec.specs.declared.Refusal.{Refusal as SetRefusal}
+use Rattle.spec.specs.Outputs.{Listing}
 use Rattle.spec.specs.Machine.{Machine, machine_of}
 use Rattle.spec.specs.Words.{size}
 use Rattle.spec.specs.Listed.{listed, head_of, size_of}
@@ -50,7 +51,7 @@ past_end zero = refl
 past_end (suc k) = refl
 
 module _ (y : Machine) where
-  pub counted_line : (n k : ℕ) → (list y (replicate 64 0)).says ≡ Count n
+  pub counted_line : (n k : ℕ) → (list y (replicate 64 0)).says ≡ Ok n
       → listed_line (size_of y (head_of y)) (listed y) k ≡ first_bytes (drop k (listing y))
   unfolding listed_line first_bytes
   counted_line n zero e = rw (size_first y n e)
@@ -62,14 +63,14 @@ module _ (y : Machine) where
       go true q = rw (tag_at y n e j (ltb-true _ _ q))
       go false q = rw (none_after y n e j (ltb-false _ _ q))
 
-  pub refused_line : (n k : ℕ) → (list y (replicate 64 0)).says ≡ Refused n → k ≡ 0 → refusal_line n ≡ first_bytes (drop k (listing y))
+  pub refused_line : (r : SetRefusal) (k : ℕ) → (list y (replicate 64 0)).says ≡ Err r → k ≡ 0 → refusal_line (refusal_number r) ≡ first_bytes (drop k (listing y))
   unfolding first_bytes
-  refused_line n k e z = rw (z, refused_listing y n e)
+  refused_line r k e z = rw (z, refused_listing y r e)
 
-  pub refused_none : (n k : ℕ) → (list y (replicate 64 0)).says ≡ Refused n → (k ≡ 0 → ⊥) → [] ≡ first_bytes (drop k (listing y))
+  pub refused_none : (r : SetRefusal) (k : ℕ) → (list y (replicate 64 0)).says ≡ Err r → (k ≡ 0 → ⊥) → [] ≡ first_bytes (drop k (listing y))
   unfolding first_bytes
-  refused_none n zero e z = absurd (z refl)
-  refused_none n (suc k) e z = rw (refused_listing y n e, past_end k)
+  refused_none r zero e z = absurd (z refl)
+  refused_none r (suc k) e z = rw (refused_listing y r e, past_end k)
 
 -- what is printed for a list call over the reader's part of the pools
 module _ (r : Reader) (ns bs : List ℕ) (a b : ℕ) (ea : a ≡ node_extent r.header ns) (eb : b ≡ bucket_extent r.header bs)
@@ -82,11 +83,11 @@ module _ (r : Reader) (ns bs : List ℕ) (a b : ℕ) (ea : a ≡ node_extent r.h
   says_is = hs ∙ ap (λ (y : Machine). (list y (replicate 64 0)).says) (same_part r.header ns bs a b ea eb r.state)
 
   pub prints_counted : (w : List ℕ) → w ≡ (list (machine_of r.state (take a ns) (take b bs)) (replicate 64 0)).words
-      → (n k z : ℕ) (t u : Buffer) → s ≡ Count n → z ≡ size (take a ns) r.state.head
+      → (n k z : ℕ) (t u : Buffer) → s ≡ Ok n → z ≡ size (take a ns) r.state.head
       → u ≡ append (listed_line z (take n w) k) t → u ≡ append (first_bytes (drop k (listing part))) t
   unfolding with_part size_of head_of
   prints_counted w hw n k z t u e f p =
-      let q : (list part (replicate 64 0)).says ≡ Count n = sym says_is ∙ e in
+      let q : (list part (replicate 64 0)).says ≡ Ok n = sym says_is ∙ e in
       let words = hw ∙ ap (λ (y : Machine). (list y (replicate 64 0)).words) (same_part r.header ns bs a b ea eb r.state) in
       let tags : take n w ≡ listed part = ap (take n) words ∙ (lists part (replicate 64 0) n q).tags in
       let head : r.state.head ≡ r.state.head + 1 - 1 = omega arith in
@@ -96,12 +97,13 @@ module _ (r : Reader) (ns bs : List ℕ) (a b : ℕ) (ea : a ≡ node_extent r.h
       ∙ ap (λ (l : List ℕ). append (listed_line (size_of part (head_of part)) l k) t) tags
       ∙ ap (λ (l : List ℕ). append l t) (counted_line part n k q)
 
-  pub prints_refused : (n k : ℕ) (t u : Buffer) → s ≡ Refused n → k ≡ 0 → u ≡ append (refusal_line n) t → u ≡ append (first_bytes (drop k (listing part))) t
-  prints_refused n k t u e z p = p ∙ ap (λ (l : List ℕ). append l t) (refused_line part n k (sym says_is ∙ e) z)
+  pub prints_refused : (why : SetRefusal) (k : ℕ) (t u : Buffer) → s ≡ Err why → k ≡ 0 → u ≡ append (refusal_line (refusal_number why)) t
+      → u ≡ append (first_bytes (drop k (listing part))) t
+  prints_refused why k t u e z p = p ∙ ap (λ (l : List ℕ). append l t) (refused_line part why k (sym says_is ∙ e) z)
 
-  pub prints_none : (n k : ℕ) (t : Buffer) → s ≡ Refused n → (k ≡ 0 → ⊥) → t ≡ append (first_bytes (drop k (listing part))) t
+  pub prints_none : (why : SetRefusal) (k : ℕ) (t : Buffer) → s ≡ Err why → (k ≡ 0 → ⊥) → t ≡ append (first_bytes (drop k (listing part))) t
   unfolding append
-  prints_none n k t e z = ap (λ (l : List ℕ). append l t) (refused_none part n k (sym says_is ∙ e) z)
+  prints_none why k t e z = ap (λ (l : List ℕ). append l t) (refused_none part why k (sym says_is ∙ e) z)
 
 -- ---- what is done with it
 

@@ -1,6 +1,6 @@
 -- What a line is, and the end of the input, by what the reader awaits: laws in the form in which the branches of the functions use them.
 -- Assumes nothing.
-use Rattle.std.specs.Prelude.{if◌then◌else◌}
+use Rattle.std.specs.Prelude.{if◌then◌else◌, Option}
 use mathlib.Core.Path.{◌≡◌, refl, sym, ap, subst, ◌∙◌}
 use mathlib.Core.List.{List}
 use mathlib.Core.Bool.{Bool, true, false}
@@ -40,7 +40,7 @@ pub turn_lists : (l : List ℕ) → starts_with size_key l ≡ true → turn (cl
 unfolding turn
 turn_lists l e = rw e
 
-pub turn_event : (l : List ℕ) (x : EventLine) → starts_with size_key l ≡ false → parse_event_line (closed_line l) ≡ x → turn (closed_line l) ≡ event_turn x
+pub turn_event : (l : List ℕ) (x : Option EventLine) → starts_with size_key l ≡ false → parse_event_line (closed_line l) ≡ x → turn (closed_line l) ≡ event_turn x
 unfolding turn
 turn_event l x e f = rw (e, f)
 

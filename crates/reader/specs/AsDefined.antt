@@ -37,7 +37,6 @@ use Rattle.recording.specs.Reader.{reader, moved, after_comparing as compared-by
 use Rattle.recording.specs.Reader.{read_opened, read_header_line, read_phase, opened_end, read_phase_end, read_end, read_lines}
 use Rattle.recording.specs.Reader.{read_line as read-defined}
 use Rattle.recording_laws.specs.ReaderVerdict.{stays_decided, unclosed_listed}
-use Rattle.reader_state.specs.declared.Reader.{Reader}
 use Rattle.reader_state.specs.Standing.{most_lines, next_number, missing, with_part, LineRead, put_back, decided, awaits_event, opened}
 use Rattle.reader_state.specs.Standing.{turn_line, opened_line, header_line, phase_line, read_line, judged_end, phase_end, read_end as end-given}
 

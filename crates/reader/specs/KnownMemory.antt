@@ -9,7 +9,7 @@ use Rattle.spec.specs.declared.State.{State}
 use Rattle.spec.specs.Machine.{Machine}
 use Rattle.spec.specs.Sound.{sound}
 use Rattle.spec.specs.Entries.{Opened, opening}
-use Rattle.spec.specs.Schedule.{Event, event}
+use Rattle.spec.specs.Schedule.{Event}
 use Rattle.laws.specs.Tests.{tf}
 use Rattle.laws.specs.OpeningSound.{opening_sound}
 use Rattle.known_memory.specs.EventSound.{event_sound}

@@ -2,8 +2,11 @@
 -- Assumes nothing.
 use Rattle.std.specs.Prelude.{◌≡◌, refl, List, [], ◌∷◌, ◌++◌, Bool, true, false, not, ◌||◌, ℕ, zero, suc, ◌+◌, ◌<◌, ◌≤◌, ltb, leb, length, take, drop, replicate, if◌then◌else◌}
 use Rattle.std.proofs.Common.{ap, subst, arith, ltb-false, length-append, length-take, take_at}
-use Rattle.spec.specs.declared.Listing.{Listing}
-use Rattle.spec.specs.declared.Listing.TheVariants.{Count, Refused}
+use Rattle.std.specs.Prelude.{Ok, Err}
+use Rattle.spec.specs.declared.Refusal.{Refusal}
+use Rattle.spec.specs.Numbers.{refusal_number}
+use Rattle.spec.specs.declared.Refusal.TheVariants.{Spoilt, ShortList}
+use Rattle.spec.specs.Outputs.{Listing}
 use Rattle.spec.specs.Machine.{Machine}
 use Rattle.spec.specs.Sound.{sound}
 use Rattle.spec.specs.Listed.{listed}
@@ -15,7 +18,7 @@ use Rattle.recording.specs.Recording.{Role, RecordedLine, recorded_line, tag_lis
 
 -- ---- where a list call gives a count
 
-count_of : (a n : ℕ) → Count a ≡ Count n → a ≡ n
+count_of : (a n : ℕ) → ◌≡◌ {A = Listing} (Ok a) (Ok n) → a ≡ n
 count_of a n e = cc
 
 -- it is at most 64, and that many of the words are the tags
@@ -23,18 +26,18 @@ pub record Lists (y : Machine) (w : List ℕ) (n : ℕ) : Type 0 where
   pub few : n ≤ 64
   pub tags : take n (list y w).words ≡ listed y
 
-pub lists : (y : Machine) (w : List ℕ) (n : ℕ) → (list y w).says ≡ Count n → Lists y w n
+pub lists : (y : Machine) (w : List ℕ) (n : ℕ) → (list y w).says ≡ Ok n → Lists y w n
 unfolding list
 lists y w n h = let r = go (not (sound y)) (ltb 64 (length (listed y))) (not (leb 64 (length w))) refl h in record { few = r.0; tags = r.1 }
   where
-    refused : ℕ → Written
-    refused r = record { says = Refused r; words = w }
+    refused : Refusal → Written
+    refused r = record { says = Err r; words = w }
 
     given : Written
-    given = record { says = Count (length (listed y)); words = listed y ++ drop (length (listed y)) w }
+    given = record { says = Ok (length (listed y)); words = listed y ++ drop (length (listed y)) w }
 
-    go : (a b c : Bool) → ltb 64 (length (listed y)) ≡ b → (if a || b then refused 8 else if c then refused 9 else given).says ≡ Count n
-        → (n ≤ 64) × (take n (if a || b then refused 8 else if c then refused 9 else given).words ≡ listed y)
+    go : (a b c : Bool) → ltb 64 (length (listed y)) ≡ b → (if a || b then refused Spoilt else if c then refused ShortList else given).says ≡ Ok n
+        → (n ≤ 64) × (take n (if a || b then refused Spoilt else if c then refused ShortList else given).words ≡ listed y)
     go true b c p e = let z : ◌≡◌ {A = ℕ} 0 1 = cc in absurd (omega arith)
     go false true c p e = let z : ◌≡◌ {A = ℕ} 0 1 = cc in absurd (omega arith)
     go false false true p e = let z : ◌≡◌ {A = ℕ} 0 1 = cc in absurd (omega arith)
@@ -68,12 +71,12 @@ tags_from (t ∷ ts) k h = key_from _ tag_key t (omega arith) (omega arith) (tag
 
 listing_from : (y : Machine) (l : Listing) → (list y (replicate 64 0)).says ≡ l → LinesFrom 0 (listing_of y l)
 unfolding listing_of refusal_line
-listing_from y (Count n) e =
+listing_from y (Ok n) e =
     let w : List ℕ = replicate 64 0 in
     let few = lists y w n e in
     let long : length (listed y) ≤ 64 = omega (arith, few.few, ap length few.tags, length-take n (list y w).words) in
     key_from _ size_key _ (omega arith) (omega arith) (key_from _ tags_key _ (omega arith) (omega arith) (tags_from (listed y) 2 (omega arith)))
-listing_from y (Refused r) e = key_from _ refuse_key r (omega arith) (omega arith) none_from
+listing_from y (Err r) e = key_from _ refuse_key (refusal_number r) (omega arith) (omega arith) none_from
 
 place_from : (j k : ℕ) (rs : List RecordedLine) → LinesFrom j rs → PlaceIn (j + k) (drop k rs)
 place_from j zero rs none_from = no_line

@@ -1,10 +1,11 @@
 -- A line that is printed has at most 41 bytes with the one that closes it, since the numbers in it are of 32 bits, and own steps of 16. Assumes nothing.
-use Rattle.std.specs.Prelude.{◌≡◌, refl, [], ◌∷◌, ◌++◌, Bool, true, false, ℕ, zero, suc, ◌+◌, ◌*◌, ◌/◌, ◌%◌, ◌<◌, ◌≤◌, ltb, length, if◌then◌else◌}
+use Rattle.std.specs.Prelude.{◌≡◌, refl, [], ◌∷◌, ◌++◌, Bool, true, false, ℕ, zero, suc, ◌+◌, ◌*◌, ◌/◌, ◌%◌, ◌<◌, ◌≤◌, ltb, length, if◌then◌else◌, Some, None, Ok, Err}
 use Rattle.std.proofs.Common.{arith, ltb-false}
 use Rattle.std.proofs.Math.ListN.{length-append}
+use Rattle.spec.specs.declared.Refusal.{Refusal}
 use Rattle.spec.specs.declared.Answer.{Answer}
-use Rattle.spec.specs.declared.Occupancy.TheVariants.{NotGiven, Tags}
-use Rattle.spec.specs.declared.Output.TheVariants.{At, End, Refuse}
+use Rattle.spec.specs.declared.Progress.TheVariants.{At, End}
+use Rattle.spec.specs.Numbers.{refusal_number}
 use Rattle.session.specs.OutputLengths.{decimal_length, refusal_length, word_length}
 use Rattle.recording.specs.declared.ReaderPhase.{ReaderPhase}
 use Rattle.recording.specs.declared.ReaderPhase.TheVariants.{Due, Event as EventDue, Printed, Listed, Decided}
@@ -44,19 +45,19 @@ unfolding decimal tenfold
 decimal_five n h = digits_few 20 4 n (omega arith)
 
 module _ (k : ℕ) (few : k ≤ 4294967295) where
-  pub at_short : (l : ℕ) → length (output_line k (At l)) ≤ 41
+  pub at_short : (l : ℕ) → length (output_line k (Ok (At l))) ≤ 41
   unfolding output_line
   at_short l = simp length-append (omega (arith, decimal_ten k few, decimal_length l))
 
-  pub refuse_short : (r : ℕ) → length (output_line k (Refuse r)) ≤ 41
+  pub refuse_short : (r : Refusal) → length (output_line k (Err r)) ≤ 41
   unfolding output_line
-  refuse_short r = omega (arith, refusal_length r)
+  refuse_short r = omega (arith, refusal_length (refusal_number r))
 
   module _ (a : Answer) (own : ℕ) (steps : own ≤ 65535) where
-    pub end_short : length (output_line k (End a own NotGiven)) ≤ 41
+    pub end_short : length (output_line k (Ok (End a own None))) ≤ 41
     unfolding output_line occupancy_field
     end_short = simp length-append (omega (arith, decimal_ten k few, word_length a, decimal_five own steps))
 
-    pub end_full_short : (n : ℕ) → n ≤ 4294967295 → length (output_line k (End a own (Tags n))) ≤ 41
+    pub end_full_short : (n : ℕ) → n ≤ 4294967295 → length (output_line k (Ok (End a own (Some n)))) ≤ 41
     unfolding output_line occupancy_field
     end_full_short n h = simp length-append (omega (arith, decimal_ten k few, word_length a, decimal_five own steps, decimal_ten n h))

@@ -1,7 +1,7 @@
 // One line of a recording: a header line, an event run afresh and its output line, a line of the listing; and the end of the input.
 ghost use Rattle.session.specs.Grammar.{closed_line};
 ghost use Rattle.session.specs.Header.{header_step};
-ghost use Rattle.session.specs.Buffer.{buffer, append};
+ghost use Rattle.session_bytes.specs.Pages.{Appends};
 ghost use Rattle.spec.specs.Schedule.{starts, steps};
 ghost use Rattle.std.specs.Prelude.{◌≡◌, List, ℕ, drop};
 ghost use Rattle.spec.specs.Sound.{sound};
@@ -10,37 +10,27 @@ ghost use Rattle.reader.specs.KnownMemory.{KnownIn};
 ghost use Rattle.recording.specs.Recording.{listing};
 ghost use Rattle.recording.specs.Reader.{run_event, read_listed, listing_end};
 ghost use Rattle.reader_state.specs.ListedLines.{first_bytes};
-ghost use Rattle.reader_state.specs.Standing.{reader_of, with_part, put_back, turn_line, header_line, read_line, read_end, ReadAs};
+ghost use Rattle.reader_state.specs.Standing.{with_part, put_back, turn_line, header_line, read_line, read_end, ReadAs};
 
 use reader_state::Reader;
 use recording::{ReaderPhase, Verdict};
-use session::{EventLine, Header, HeaderLine};
+use session::{EventLine, HeaderLine};
+use session_bytes::Page;
 use session_machine::Stage;
-use spec::{Call, Listing, State};
-
-fn made(phase: ReaderPhase, header: Header, state: State, number: u64) -> Reader
-    ensures { result ≡ reader_of phase header state number }
-{
-    Reader {
-        phase,
-        header,
-        state,
-        number,
-    }
-}
+use spec::Call;
 
 // Starts a call for a task; its output line comes next.
 fn start_task(ok: bool, r: Reader, k: u32, call: Call, tag: u32) -> Reader
     ensures { (ns bs : List ℕ) → ok ≡ sound (part_machine r.state r.header ns bs)
         → ReadAs (put_back (run_event (starts k call tag) (with_part r ns bs)) ns bs) result ns bs }
 {
-    let header = r.header;
-    let before = r.state;
-    let d = session_machine::start(ok, before, k, call, tag);
-    let answered = d.out;
-    let m = d.state;
-    let next = reader_state::next_number(r.number);
-    made(ReaderPhase::Printed(k, answered), header, m, next)
+    let d = session_machine::start(ok, r.state, k, call, tag);
+    Reader {
+        phase: ReaderPhase::Printed(k, d.out),
+        state: d.state,
+        number: reader_state::next_number(r.number),
+        ..r
+    }
 }
 
 // Steps a task by one line of Figure 2; its output line comes next.
@@ -49,38 +39,30 @@ fn step_task(ok: bool, r: Reader, k: u32, ns: &mut [u32], bs: &mut [u32]) -> Rea
     ensures { ReadAs (put_back (run_event (steps k) (with_part r ns.old bs.old)) ns.old bs.old) result
         ns.new bs.new }
 {
-    let header = r.header;
-    let before = r.state;
-    let d = session_machine::step(ok, before, header, k, ns, bs);
-    let answered = d.out;
-    let m = d.state;
-    let next = reader_state::next_number(r.number);
-    made(ReaderPhase::Printed(k, answered), header, m, next)
+    let d = session_machine::step(ok, r.state, r.header, k, ns, bs);
+    Reader {
+        phase: ReaderPhase::Printed(k, d.out),
+        state: d.state,
+        number: reader_state::next_number(r.number),
+        ..r
+    }
 }
 
 // Prints the line at place k of the listing, made anew; nothing past its end.
-fn print_listed(r: Reader, k: u32, ns: &[u32], bs: &[u32], buf: &mut [u8]) -> usize
-    ensures { buffer buf.new result ≡ append (first_bytes (drop k (listing (with_part r ns.now bs.now).machine)))
-        (buffer buf.old 0) }
+fn print_listed(r: Reader, k: u32, ns: &[u32], bs: &[u32], page: &mut Page<'_>)
+    ensures { Appends (first_bytes (drop k (listing (with_part r ns.now bs.now).machine))) page.old page.new }
 {
-    let header = r.header;
-    let a = session_pools::node_extent(header.nodes, ns.len());
-    let b = session_pools::bucket_extent(header.buckets, bs.len());
-    let m = r.state;
-    let head = m.head;
-    let size = session_pools::node_size(&ns[..a], head);
+    let a = session_pools::node_extent(r.header.nodes, ns.len());
+    let b = session_pools::bucket_extent(r.header.buckets, bs.len());
+    let size = session_pools::node_size(&ns[..a], r.state.head);
     let mut w = [0u32; 64];
-    let listed = queries::list(m, &ns[..a], &bs[..b], &mut w);
+    let listed = queries::list(r.state, &ns[..a], &bs[..b], &mut w);
     match listed {
-        Listing::Count(n) => {
-            let e = n as usize;
-            reader_state::comparing::print_listed(buf, size, &w[..e], k)
-        }
-        Listing::Refused(n) => {
+        Ok(n) => { reader_state::comparing::print_listed(page, size, &w[..n as usize], k) }
+        Err(why) => {
             if k == 0 {
-                return session_bytes::refusal(buf, 0, n);
+                page.refusal(why.number());
             }
-            0
         }
     }
 }
@@ -91,8 +73,9 @@ fn listed_line(r: Reader, k: u32, ns: &[u32], bs: &[u32], line: &[u8]) -> Reader
         bs.now) result ns.now bs.now }
 {
     let mut w = [0u8; 73];
-    let n = print_listed(r, k, ns, bs, &mut w);
-    reader_state::comparing::compare_listed(r, k, &w[..n], line)
+    let mut page = Page::new(&mut w);
+    print_listed(r, k, ns, bs, &mut page);
+    reader_state::comparing::compare_listed(r, k, page.text(), line)
 }
 
 // The end of the input, where the line at place k of the listing comes next.
@@ -100,11 +83,13 @@ fn listed_end(r: Reader, k: u32, ns: &[u32], bs: &[u32]) -> Verdict
     ensures { result ≡ listing_end (drop k (listing (with_part r ns.now bs.now).machine)) }
 {
     let mut w = [0u8; 73];
-    let n = print_listed(r, k, ns, bs, &mut w);
-    if n == 0 {
-        return Verdict::Same;
+    let mut page = Page::new(&mut w);
+    print_listed(r, k, ns, bs, &mut page);
+    if page.printed() == 0 {
+        Verdict::Same
+    } else {
+        Verdict::Refusal(12)
     }
-    Verdict::Refusal(12)
 }
 
 // The line of an event, or the listing's first.
@@ -116,9 +101,9 @@ fn turn_line(ok: bool, r: Reader, ns: &mut [u32], bs: &mut [u32], line: &[u8]) -
         return listed_line(r, 0, ns, bs, line);
     }
     match session_parse::event_line(line) {
-        EventLine::Start(k, call, tag) => start_task(ok, r, k, call, tag),
-        EventLine::Step(k) => step_task(ok, r, k, ns, bs),
-        EventLine::Outside => reader_state::decided(Verdict::Refusal(10), r),
+        Some(EventLine::Start(k, call, tag)) => start_task(ok, r, k, call, tag),
+        Some(EventLine::Step(k)) => step_task(ok, r, k, ns, bs),
+        None => reader_state::decided(Verdict::Refusal(10), r),
     }
 }
 
@@ -127,28 +112,33 @@ fn header_line(r: Reader, due: HeaderLine, ns: &mut [u32], bs: &mut [u32], line:
     ensures { ReadAs (header_line (header_step due r.header (closed_line line.now)) r ns.old bs.old
         (closed_line line.now)) result ns.new bs.new }
 {
-    let n = r.number;
-    let header = r.header;
-    let before = r.state;
-    let t = session_machine::header_line(due, header, before, ns, bs, line);
-    let h = t.header;
-    let m = t.state;
-    let number = reader_state::next_number(n);
-    let stage = t.stage;
-    match stage {
-        Stage::NextDue(next) => made(ReaderPhase::Due(next), h, m, number),
-        Stage::OpenedBy => made(ReaderPhase::Event, h, m, number),
+    let t = session_machine::header_line(due, r.header, r.state, ns, bs, line);
+    let here = Reader {
+        header: t.header,
+        state: t.state,
+        ..r
+    };
+    let number = reader_state::next_number(r.number);
+    match t.stage {
+        Stage::NextDue(next) => Reader {
+            phase: ReaderPhase::Due(next),
+            number,
+            ..here
+        },
+        Stage::OpenedBy => Reader {
+            phase: ReaderPhase::Event,
+            number,
+            ..here
+        },
         Stage::OpenedBefore => {
             let opened = Reader {
                 phase: ReaderPhase::Event,
-                header: h,
-                state: m,
-                number: n,
+                ..here
             };
             turn_line(true, opened, ns, bs, line)
         }
-        Stage::OpeningRefused(why) => made(ReaderPhase::Decided(Verdict::Refusal(why)), h, m, n),
-        Stage::Incomplete => made(ReaderPhase::Decided(Verdict::Refusal(10)), h, m, n),
+        Stage::OpeningRefused(why) => reader_state::decided(Verdict::Refusal(why), here),
+        Stage::Incomplete => reader_state::decided(Verdict::Refusal(10), here),
     }
 }
 
@@ -157,8 +147,7 @@ pub fn read_line(ok: bool, r: Reader, ns: &mut [u32], bs: &mut [u32], line: &[u8
     requires { KnownIn ok r ns.old bs.old }
     ensures { ReadAs (read_line r ns.old bs.old (closed_line line.now)) result ns.new bs.new }
 {
-    let phase = r.phase;
-    match phase {
+    match r.phase {
         ReaderPhase::Due(due) => header_line(r, due, ns, bs, line),
         ReaderPhase::Event => turn_line(ok, r, ns, bs, line),
         ReaderPhase::Printed(k, o) => reader_state::comparing::compare_output(r, k, o, line),
@@ -172,27 +161,25 @@ pub fn read_end(closed: bool, r: Reader, ns: &[u32], bs: &[u32]) -> Verdict
     ensures { result ≡ read_end closed r ns.now bs.now }
 {
     let refusal = reader_state::missing(closed);
-    let phase = r.phase;
-    match phase {
+    match r.phase {
         ReaderPhase::Due(due) => {
-            if session_parse::optional(due) {
-                let header = r.header;
-                let why = session_machine::judge_opening(header, ns, bs);
-                if why != 0 {
-                    return Verdict::Refusal(why);
-                }
+            if !session_parse::optional(due) {
                 return Verdict::Refusal(refusal);
             }
-            Verdict::Refusal(refusal)
+            match session_machine::judge_opening(r.header, ns, bs) {
+                None => Verdict::Refusal(refusal),
+                Some(why) => Verdict::Refusal(why.number()),
+            }
         }
-        ReaderPhase::Event => reader_state::answer_at_end(phase, refusal),
-        ReaderPhase::Printed(_, _) => reader_state::answer_at_end(phase, refusal),
         ReaderPhase::Listed(k) => {
             if closed {
-                return listed_end(r, k, ns, bs);
+                listed_end(r, k, ns, bs)
+            } else {
+                Verdict::Refusal(refusal)
             }
-            Verdict::Refusal(refusal)
         }
-        ReaderPhase::Decided(_) => reader_state::answer_at_end(phase, refusal),
+        ReaderPhase::Event | ReaderPhase::Printed(..) | ReaderPhase::Decided(_) => {
+            reader_state::answer_at_end(r.phase, refusal)
+        }
     }
 }

@@ -4,9 +4,11 @@ use mathlib.Core.Path.{◌≡◌, refl, sym, ap, subst, ◌∙◌}
 use mathlib.Core.List.{List, [], ◌++◌, append-nil}
 use mathlib.Core.Bool.{Bool, true, false}
 use Prim.Native.Nat.{ℕ, ◌+◌, ◌-◌, ◌≤◌}
+use native.Mathlib.Omega.{arith}
 use lib.ListN.{length, take, drop}
 use Rattle.session.specs.Buffer.{Buffer, buffer, append}
-use Rattle.session.specs.BufferLaws.{append_both}
+use Rattle.session.specs.BufferLaws.{append_both, append_within}
+use Rattle.session_bytes.proofs.Laws.{length_kept, ends_within}
 use Rattle.session.specs.Grammar.{InputLine, parse_event_line}
 use Rattle.session.specs.Transcript.{is_event}
 use Rattle.session_state.specs.declared.Phase.{Phase}
@@ -14,7 +16,7 @@ use Rattle.session_state.specs.declared.Session.{Session}
 use Rattle.session_state.specs.declared.Handled.{Handled}
 use Rattle.session_state.specs.Handling.{handled, LineEffect, LineHandled, silent, line_effect, end_effect}
 use Rattle.session_lines.proofs.Laws.{BySaid}
-use Rattle.session_lines.specs.BufferParts.{appends_on}
+use Rattle.session_lines.specs.BufferParts.{rest_length, appends_on}
 use Rattle.recording.specs.Recording.{close}
 use Rattle.recorder_lines.specs.declared.KeptLines.{KeptLines}
 use Rattle.recorder_lines.specs.KeptLines.{kept_bytes}
@@ -35,6 +37,19 @@ module _ (bytes before first : List ℕ) (a : ℕ) (fits : a ≤ length first) (
         buckets = h.buckets;
         wrote = appends_on bytes d.prints before first tail a t.printed fits wrote h.wrote;
       }
+
+-- both end within the buffer
+pub both_within : (bytes before prints first tail : List ℕ) (a n : ℕ)
+    → buffer tail n ≡ append prints (buffer (take (length first - a) (drop a first)) 0) → buffer first a ≡ append bytes (buffer before 0)
+    → a + n ≤ length before
+both_within bytes before prints first tail a n e f =
+    omega (
+      arith,
+      ends_within bytes before first a f,
+      length_kept bytes before first a f,
+      append_within prints _ tail n e,
+      rest_length first a,
+    )
 
 -- bytes, and a line after them
 pub line_after : (bytes line before : List ℕ) (t u : Buffer) → t ≡ append bytes (buffer before 0) → u ≡ append (close line) t

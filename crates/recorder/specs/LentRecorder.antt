@@ -14,7 +14,6 @@ use Rattle.session_state.specs.Handling.{session, new_session, LineEffect, pools
 use Rattle.recording.specs.Recording.{close}
 use Rattle.recorder_lines.specs.declared.KeptLines.{KeptLines}
 use Rattle.recorder.specs.declared.Recorder.{Recorder}
-use Rattle.recorder.specs.declared.Recorded.{Recorded}
 use Rattle.recorder_lines.specs.KeptLines.{no_lines, kept_bytes, kept_after}
 
 -- ---- what a line does to the session and its pools, and what is written for it in the place of what the session prints
@@ -68,9 +67,6 @@ recorder s k = record { session = s; kept = k }
 
 unfoldable pub new_recorder : Recorder
 new_recorder = recorder new_session no_lines
-
-abbrev pub recorded : Recorder → ℕ → Recorded
-recorded r n = record { recorder = r; written = n }
 
 -- where it stands, and what the lent pools hold
 pub record Lent : Type 0 where

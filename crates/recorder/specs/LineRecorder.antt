@@ -1,6 +1,6 @@
 -- The recorder as a reader of lines (stdio, Readers): a line that is too long or not closed is as the end of the input, `recorder_fixes`. Once the
 -- session has stopped nothing more is written, `recorder_decides`, so that no more need be read. Assumes nothing.
-use Rattle.std.specs.Prelude.{ℕ, ◌<◌, ◌≡◌, refl, List, [], ◌∷◌, ◌++◌, Bool, true, false, eqb, length, if◌then◌else◌}
+use Rattle.std.specs.Prelude.{ℕ, ◌<◌, ◌≡◌, refl, List, [], ◌∷◌, ◌++◌, Bool, true, false, eqb, length, if◌then◌else◌, Option}
 use Rattle.std.proofs.Common.{sym, ap, ◌∙◌, append-nil}
 use Rattle.std.proofs.lemmas.Bool.{lt-leb}
 use Rattle.spec.specs.Entries.{Opened, opening}
@@ -35,7 +35,7 @@ outside_recorded : (p : Phase) (k : KeptLines) (l : InputLine) (s : Session) (ns
 unfolding recorded_phase recorded_end recorded_header recorded_opening first_recorded recorded_event is_event
 outside_recorded (Due due) k l s ns bs e = rw (outside_step due s.header l e) (go (optional due))
   where
-    after : EventLine → LineEffect
+    after : Option EventLine → LineEffect
     after x =
         open_then s.header ns bs
         (λ s' n b. after_bytes (kept_bytes k) (if is_event x then after_bytes (close l.bytes) (line_effect s' n b l) else end_effect s' n b))

@@ -2,7 +2,7 @@
 -- listing, whenever these come. So a caller can lend room for all of it: `line_bound`, `end_bound`. Assumes nothing.
 use Rattle.std.proofs.Math.Path.{◌≡◌, refl}
 use Rattle.std.proofs.Common.{sym, ap, subst, ◌∙◌, leb-true, length-take}
-use Rattle.std.specs.Prelude.{List, [], ◌++◌, Bool, ℕ, ◌+◌, ◌≤◌, eqb, leb, if◌then◌else◌}
+use Rattle.std.specs.Prelude.{List, [], ◌++◌, Bool, ℕ, ◌+◌, ◌≤◌, eqb, leb, if◌then◌else◌, Option, Some, None}
 use Rattle.std.proofs.Math.Bool.{true, false}
 use native.Mathlib.Omega.{arith}
 use Rattle.std.proofs.Math.ListN.{length, length-append}
@@ -10,7 +10,7 @@ use Rattle.spec.specs.declared.State.{State}
 use Rattle.spec.specs.Entries.{Opened, opening}
 use Rattle.laws.specs.Tests.{and_right}
 use Rattle.session.specs.declared.EventLine.{EventLine}
-use Rattle.session.specs.declared.EventLine.TheVariants.{Start, Step, Outside}
+use Rattle.session.specs.declared.EventLine.TheVariants.{Start, Step}
 use Rattle.session.specs.declared.Header.{Header}
 use Rattle.session.specs.declared.HeaderLine.{HeaderLine}
 use Rattle.session.specs.declared.HeaderStep.{HeaderStep}
@@ -77,11 +77,11 @@ module _ (h : Header) (m : State) (ns bs : List ℕ) where
   abbrev s : Session
   s = session Events h m
 
-  event_goes_on : (x : EventLine) → is_event x ≡ true → still_due (event_effect x s ns bs).session.phase ≡ longest_end
+  event_goes_on : (x : Option EventLine) → is_event x ≡ true → still_due (event_effect x s ns bs).session.phase ≡ longest_end
   unfolding is_event event_effect reply_effect with_machine still_due
-  event_goes_on (Start k call tag) e = refl
-  event_goes_on (Step k) e = refl
-  event_goes_on Outside e = let w : ◌≡◌ {A = ℕ} 0 1 = cc in absurd (omega arith)
+  event_goes_on (Some (Start k call tag)) e = refl
+  event_goes_on (Some (Step k)) e = refl
+  event_goes_on None e = let w : ◌≡◌ {A = ℕ} 0 1 = cc in absurd (omega arith)
 
   end_spends : Spends (end_effect s ns bs) longest_end
   unfolding end_effect phase_end listing_effect pools_kept still_due

@@ -1,54 +1,59 @@
--- A run of the recorder, over standard input or bytes in memory: where it stands between two calls for a line, and what the whole program comes to, in
+-- The recorder as a program that prints as it goes (line_printers): what is known of it, and how many bytes it writes; and what the whole program comes to, in
 -- the terms of the paper: it writes the recording, and where there is none the session's refusal (`recorder_output`). Assumes nothing.
-use Rattle.std.specs.Prelude.{ℕ, ◌+◌, ◌*◌, ◌≤◌, ◌≡◌, List, ◌++◌, Bool, true, false, ℤ, pos, length, take}
+use Rattle.std.specs.Prelude.{ℕ, ◌+◌, ◌≤◌, ◌≡◌, List, true, false, ℤ, pos, length}
+use Rattle.std.proofs.Common.{refl, sym, subst, ◌∙◌}
+use Rattle.session.specs.Buffer.{buffer}
+use Rattle.session.specs.Grammar.{closed_line}
+use Rattle.session_state.specs.declared.Phase.{Phase}
+use Rattle.session_state.specs.declared.Phase.TheVariants.{Due, Events, Stopped}
 use Rattle.session_lines.specs.KnownMemory.{KnownIn}
 use Rattle.stdio.specs.declared.input.Input.{Input}
-use Rattle.stdio.specs.declared.output.Text.{Text}
 use Rattle.stdio.specs.Inputs.{leaves_out}
-use Rattle.stdio.specs.Readers.{Countable}
+use Rattle.stdio.specs.Readers.{Countable, last_lines}
 use Rattle.stdio.specs.Outcomes.{status_number, outcome_with}
 use Rattle.stdio.specs.Runs.{Prints, Ran, exact}
-use Rattle.stdio.specs.Streams.{printed_by, Took, Streamed}
-use Rattle.recording.specs.Recorder.{recorder_output}
-use Rattle.recorder.specs.declared.Recorded.{Recorded}
-use Rattle.recorder.specs.declared.program.Reading.{Reading}
-use Rattle.recorder.specs.LentRecorder.{new_recorder, Lent, lent, end_of, recorded_from, take_line, line_prints}
-use Rattle.recorder.specs.OutputBounds.{longest_pair, longest_last, still_due}
+use Rattle.stdio.specs.Streams.{PrintsLines}
+use Rattle.recording.specs.Recording.{close}
+use Rattle.recording.specs.Recorder.{longest_header, recorder_output}
+use Rattle.recorder_lines.specs.declared.KeptLines.{KeptLines}
+use Rattle.recorder_lines.specs.KeptBytes.{append_length}
+use Rattle.recorder_lines.specs.KeptLines.{keep_line, kept_after}
+use Rattle.recorder.specs.LentRecorder.{Lent, after_line, recorded_from, take_line, line_prints}
+use Rattle.recorder.specs.LineRecorder.{recorder_ends}
+use Rattle.recorder.specs.OutputBounds.{longest_pair, longest_last, still_due, due_most, line_bound, end_bound}
+use Rattle.recorder.specs.Known.{recorded_known}
 
--- what is written for a call for a line
-abbrev pub written_by : Lent → Input → List ℕ
-written_by s q = printed_by recorded_from take_line line_prints s q
+-- memory is sound, and there is room for the header's lines
+abbrev pub Knows : Lent → Type 0
+Knows s = KnownIn true s.recorder.session s.nodes s.buckets × (length s.recorder.kept.bytes ≡ longest_header)
 
--- the line that a call gave is taken, and what is written for it stands behind what was there
-abbrev pub TookLine : Lent → ℕ → Input → List ℕ → Recorded → List ℕ → List ℕ → List ℕ → Type 0
-TookLine s due q out d ns bs out' = Took recorded_from take_line line_prints s due q out (lent d.recorder ns bs) d.written out'
+pub prints_lines : PrintsLines recorded_from take_line line_prints
+unfolding recorded_from take_line line_prints
+prints_lines s l ls short = refl
 
--- how a run began: `input` is the room of standard input or, if nothing is read, all of the input; `nodes` and `buckets` are what the pools held
-pub record Beginning : Type 0 where
-  pub reads : Bool
-  pub input : List ℕ
-  pub nodes : List ℕ
-  pub buckets : List ℕ
+kept_room : (p : Phase) (k : KeptLines) (line : List ℕ) → length (kept_after p k line).bytes ≡ length k.bytes
+unfolding kept_after keep_line
+kept_room (Due due) k line = append_length (close line) (buffer k.bytes k.len)
+kept_room Events k line = refl
+kept_room Stopped k line = refl
 
-abbrev pub beginning : Bool → List ℕ → List ℕ → List ℕ → Beginning
-beginning reads input ns bs = record { reads = reads; input = input; nodes = ns; buckets = bs }
+pub line_keeps : (s : Lent) (l : List ℕ) → Knows s → Knows (take_line s l)
+unfolding take_line after_line
+line_keeps s l k =
+    let r = s.recorder in
+    (recorded_known true (closed_line l) r.kept r.session s.nodes s.buckets k.0, kept_room r.session.phase r.kept l ∙ k.1)
 
--- a run between two calls. There is room for `longest_pair` bytes for each byte at hand, and once for the kept header lines and the listing
-pub record Reads (x : Beginning) (g : Reading) (ns bs room out : List ℕ) : Type 0 where
-  pub streamed : Streamed recorded_from take_line line_prints longest_pair longest_last (still_due g.recorder.session.phase) x.reads x.input
-      (lent new_recorder x.nodes x.buckets) g.input room (lent g.recorder ns bs) g.due out
-  pub known : KnownIn true g.recorder.session ns bs
-  pub has_room : longest_pair * length room + longest_last ≤ length out
+-- `longest_pair` bytes for a line, and once the kept header lines and the listing
+pub line_spends : (s : Lent) (l : List ℕ) → Knows s
+    → length (line_prints s l) + still_due (take_line s l).recorder.session.phase ≤ still_due s.recorder.session.phase + longest_pair
+unfolding take_line line_prints after_line
+line_spends s l k = line_bound s (closed_line l) k.1
 
-abbrev pub HasRead : Reading → List ℕ → List ℕ → List ℕ → List ℕ → Type 0
-HasRead g ns bs room out = (x : Beginning) × Reads x g ns bs room out
+pub due_few : (s : Lent) → still_due s.recorder.session.phase ≤ longest_last
+due_few s = due_most s.recorder.session.phase
 
--- the end: what is written then stands behind what was there
-pub record Finished (g : Reading) (ns bs out : List ℕ) (t : Text) (out' : List ℕ) : Type 0 where
-  pub input : t.input ≡ g.input
-  pub line : length g.input.line.bytes ≡ 41
-  pub within : t.len ≤ length out
-  pub wrote : take t.len out' ≡ take g.due out ++ (end_of (lent g.recorder ns bs)).prints
+pub end_spends : (s : Lent) (p : Input) → Knows s → length (recorded_from s (last_lines p)) ≤ still_due s.recorder.session.phase
+end_spends s p k = subst (λ (w : List ℕ). length w ≤ still_due s.recorder.session.phase) (sym (recorder_ends s p)) (end_bound s k.1)
 
 -- the whole program; `said` is the status of what its last line says. Where a line is left out the input counts as refused
 pub record RanRecorder (status : ℤ) : Type 0 where

@@ -1,7 +1,7 @@
 -- Over lent pools of at least 64 nodes and 200 buckets, whatever they hold, what is written for an input is its recording, and where there
 -- is none the session's refusal: `writes_recording`. The recorder over lent pools stands where that of the definition does, line by
 -- line. Assumes nothing.
-use Rattle.std.specs.Prelude.{◌≡◌, Bool, ℕ, ◌≤◌, length, if◌then◌else◌}
+use Rattle.std.specs.Prelude.{◌≡◌, Bool, ℕ, ◌≤◌, length, if◌then◌else◌, Option, Some, None}
 use Rattle.std.proofs.Math.Path.{refl, ap}
 use Rattle.std.proofs.Common.{sym, subst, ◌∙◌, arith}
 use mathlib.Core.List.{List, [], ◌∷◌, ◌++◌, append-nil}
@@ -13,7 +13,7 @@ use Rattle.spec.specs.Machine.{Machine}
 use Rattle.spec.specs.Entries.{Opened, opening}
 use Rattle.spec.specs.Schedule.{Event, starts, steps, event}
 use Rattle.session.specs.declared.EventLine.{EventLine}
-use Rattle.session.specs.declared.EventLine.TheVariants.{Start, Step, Outside}
+use Rattle.session.specs.declared.EventLine.TheVariants.{Start, Step}
 use Rattle.session.specs.declared.Header.{Header}
 use Rattle.session.specs.declared.HeaderLine.{HeaderLine}
 use Rattle.session.specs.declared.HeaderStep.{HeaderStep}
@@ -98,11 +98,11 @@ module _ (h : Header) (m : State) (ns bs kept : List ℕ) (k : KeptLines) where
   unfolding recorded_event line_effect phase_effect is_event event_effect event record_event task_in
   event_follows l = go (parse_event_line l)
     where
-      go : (x : EventLine)
+      go : (x : Option EventLine)
           → Follows (if is_event x then after_bytes (close l.bytes) (event_effect x s ns bs) else end_effect s ns bs) k (record_event x q l)
-      go (Start task call tag) = pair_follows l (starts task call tag) task refl
-      go (Step task) = pair_follows l (steps task) task refl
-      go Outside = listing_follows
+      go (Some (Start task call tag)) = pair_follows l (starts task call tag) task refl
+      go (Some (Step task)) = pair_follows l (steps task) task refl
+      go None = listing_follows
 
 -- ---- the opening
 

@@ -9,7 +9,7 @@ ghost use Rattle.std.specs.Prelude.{◌≡◌};
 ghost use Rattle.session.specs.Grammar.{closed_line};
 ghost use Rattle.session_state.specs.Handling.{LineHandled};
 ghost use Rattle.session_lines.specs.KnownMemory.{KnownIn};
-ghost use Rattle.recorder.specs.LentRecorder.{recorded_line, recorder, new_recorder, recorded};
+ghost use Rattle.recorder.specs.LentRecorder.{recorded_line, new_recorder};
 
 use recorder_lines::KeptLines;
 use session_state::{Handled, Phase, Session};
@@ -21,28 +21,15 @@ pub struct Recorder {
     pub kept: KeptLines,
 }
 
-// The recorder after a line, and how many bytes of the buffer are written then.
-#[derive(Clone, Copy)]
-pub struct Recorded {
-    pub recorder: Recorder,
-    pub written: usize,
-}
-
 // A recorder of which no line is read yet.
+#[tactic(auto, unfolding(crate::specs::LentRecorder::new_recorder))]
 pub fn new_recorder() -> Recorder
     ensures { result ≡ new_recorder }
 {
-    let session = session_state::new_session();
-    let kept = recorder_lines::no_lines();
-    Recorder { session, kept }
-}
-
-// A recorder of these parts, and how many bytes were written.
-fn made(session: Session, kept: KeptLines, written: usize) -> Recorded
-    ensures { result ≡ recorded (recorder session kept) written }
-{
-    let recorder = Recorder { session, kept };
-    Recorded { recorder, written }
+    Recorder {
+        session: session_state::new_session(),
+        kept: recorder_lines::no_lines(),
+    }
 }
 
 // One closed line, without its closing byte 10: the session after it, and how many bytes are written for it, from the buffer's first byte on.
@@ -61,8 +48,7 @@ pub fn record_line(
     ensures { LineHandled (recorded_line (closed_line line.now) k s ns.old bs.old) result ns.new
         bs.new out.old out.new }
 {
-    let phase = s.phase;
-    match phase {
+    match s.phase {
         Phase::Due(due) => writing::header_line(s, k, due, ns, bs, line, out),
         Phase::Events => writing::event_line(ok, s, ns, bs, line, out),
         Phase::Stopped => Handled {

@@ -10,6 +10,7 @@ ghost use Rattle.recorder.specs.LentRecorder.{after_bytes, recorded_event, first
 
 use recorder_lines::KeptLines;
 use session::HeaderLine;
+use session_bytes::Page;
 use session_machine::Stage;
 use session_state::{Handled, Phase, Session};
 
@@ -27,15 +28,17 @@ pub fn event_line(
         bs.new out.old out.new }
 {
     if recorder_lines::is_event(line) {
-        let n = recorder_lines::closed(out, 0, line);
+        let mut page = Page::new(out);
+        recorder_lines::closed(&mut page, line);
+        let n = page.printed();
         let t = session_lines::known_line(ok, s, ns, bs, line, &mut out[n..]);
-        let next = t.session;
-        return Handled {
-            session: next,
+        Handled {
             printed: n + t.printed,
-        };
+            ..t
+        }
+    } else {
+        session_lines::end_input(s, ns, bs, out)
     }
-    session_lines::end_input(s, ns, bs, out)
 }
 
 // After an opening that is accepted: the kept lines, and then the header's last line, if `own` says that it is the line, or what the
@@ -54,20 +57,20 @@ fn after_opening(
         ns.new bs.new out.old out.new }
 {
     let m = recorder_lines::kept_length(k);
-    let b = k.bytes;
-    let n = session_bytes::all_bytes(out, 0, &b[..m]);
+    let mut page = Page::new(out);
+    page.bytes(&k.bytes[..m]);
     if own {
-        let e = recorder_lines::closed(out, n, line);
+        recorder_lines::closed(&mut page, line);
         return Handled {
             session: s,
-            printed: e,
+            printed: page.printed(),
         };
     }
+    let n = page.printed();
     let t = event_line(true, s, ns, bs, line, &mut out[n..]);
-    let next = t.session;
     Handled {
-        session: next,
         printed: n + t.printed,
+        ..t
     }
 }
 
@@ -84,19 +87,14 @@ pub fn header_line(
     ensures { LineHandled (recorded_header (header_step due s.header (closed_line line.now)) k (closed_line line.now) s
         ns.old bs.old) result ns.new bs.new out.old out.new }
 {
-    let header = s.header;
-    let before = s.state;
-    let t = session_machine::header_line(due, header, before, ns, bs, line);
-    let h = t.header;
-    let m = t.state;
+    let t = session_machine::header_line(due, s.header, s.state, ns, bs, line);
     let opened = Session {
         phase: Phase::Events,
-        header: h,
-        state: m,
+        header: t.header,
+        state: t.state,
     };
-    let stage = t.stage;
-    match stage {
-        Stage::NextDue(next) => session_state::after_line(Phase::Due(next), h, m, 0),
+    match t.stage {
+        Stage::NextDue(next) => session_state::after_line(Phase::Due(next), t.header, t.state, 0),
         Stage::OpenedBy => after_opening(opened, k, true, ns, bs, line, out),
         Stage::OpenedBefore => after_opening(opened, k, false, ns, bs, line, out),
         Stage::OpeningRefused(n) => session_state::stop(opened, n, out),

@@ -1,5 +1,5 @@
 -- What is kept of the header's lines in an array is what the definition keeps in a list: `kept_more`. Assumes nothing.
-use Rattle.std.specs.Prelude.{◌≡◌, refl, List, [], ◌∷◌, ◌++◌, Bool, true, false, ℕ, ◌+◌, ◌-◌, ◌<◌, ◌≤◌, min, leb, ltb, length, take, drop, set, if◌then◌else◌}
+use Rattle.std.specs.Prelude.{◌≡◌, refl, List, [], ◌∷◌, ◌++◌, Bool, true, false, ℕ, ◌+◌, ◌<◌, ◌≤◌, min, leb, ltb, length, take, drop, set, if◌then◌else◌}
 use Rattle.std.proofs.Common.{sym, ap, ◌∙◌, append_assoc, arith, leb-true, leb-false, length-append, length-set, length-drop, length-take-le, take_all, take_at}
 use Rattle.std.proofs.Math.Seq.{take-append-add}
 use Rattle.session.specs.Buffer.{Buffer, buffer, append_byte, append}
@@ -32,7 +32,7 @@ take_room xs n = go (leb (length xs) n) refl
         ap (λ (k : ℕ). take k xs) m
 
 -- a buffer stays as long as it is
-append_length : (xs : List ℕ) (t : Buffer) → length (append xs t).bytes ≡ length t.bytes
+pub append_length : (xs : List ℕ) (t : Buffer) → length (append xs t).bytes ≡ length t.bytes
 unfolding append append_byte
 append_length [] t = refl
 append_length (x ∷ xs) t = append_length xs (append_byte x t) ∙ go (ltb t.at (length t.bytes))

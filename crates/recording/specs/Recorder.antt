@@ -1,12 +1,12 @@
 -- The recorder, one line at a time: where it stands, what a line has it write, and what it writes at the end. The header's lines are kept until
 -- the opening is accepted. Where nothing is recorded it writes what the session prints, a refusal's line: `recorder_output` has the whole. It is
 -- what code is held to; that it writes that is shown in RecorderRecords. Assumes nothing.
-use Rattle.std.specs.Prelude.{ℕ, List, [], ◌∷◌, ◌++◌, eqb, take, replicate, if◌then◌else◌}
+use Rattle.std.specs.Prelude.{ℕ, List, [], ◌∷◌, ◌++◌, eqb, take, replicate, if◌then◌else◌, Option, Some, None}
 use Rattle.spec.specs.Machine.{Machine}
 use Rattle.spec.specs.Entries.{Opened, list}
 use Rattle.spec.specs.Schedule.{Event, starts, steps, event}
 use Rattle.session.specs.declared.EventLine.{EventLine}
-use Rattle.session.specs.declared.EventLine.TheVariants.{Start, Step, Outside}
+use Rattle.session.specs.declared.EventLine.TheVariants.{Start, Step}
 use Rattle.session.specs.declared.Header.{Header}
 use Rattle.session.specs.declared.HeaderLine.TheVariants.{Tasks}
 use Rattle.session.specs.declared.HeaderStep.{HeaderStep}
@@ -62,10 +62,10 @@ write_pair e r l =
     recorder_effect (recorder Events r.header (event r.machine e).machine r.kept) (close l.bytes ++ printed_for r.machine e)
 
 -- "an input line that gives 10 is left out, and the listing follows at once"
-unfoldable pub record_event : EventLine → Recorder → InputLine → RecorderEffect
-record_event (Start k call tag) r l = write_pair (starts k call tag) r l
-record_event (Step k) r l = write_pair (steps k) r l
-record_event Outside r l = write_listing r
+unfoldable pub record_event : Option EventLine → Recorder → InputLine → RecorderEffect
+record_event (Some (Start k call tag)) r l = write_pair (starts k call tag) r l
+record_event (Some (Step k)) r l = write_pair (steps k) r l
+record_event None r l = write_listing r
 
 -- what was kept, and then what is written
 unfoldable pub after_kept : Recorder → RecorderEffect → RecorderEffect

@@ -1,10 +1,9 @@
 -- What a terminal writes of its shift: `recording`, of a session's whole input. "A terminal is to write its shift as a recording: the
 -- session's header lines, then for each event its input line followed by its output line, closed by the final listing." Each line
 -- is kept with its role, so that statements can say which line they mean. Assumes nothing.
-use Rattle.std.specs.Prelude.{ℕ, List, [], ◌∷◌, ◌++◌, map, eqb, length, replicate, if◌then◌else◌}
-use Rattle.spec.specs.declared.Listing.{Listing}
-use Rattle.spec.specs.declared.Listing.TheVariants.{Count, Refused}
-use Rattle.spec.specs.declared.Output.{Output}
+use Rattle.std.specs.Prelude.{ℕ, List, [], ◌∷◌, ◌++◌, map, eqb, length, replicate, if◌then◌else◌, Ok, Err}
+use Rattle.spec.specs.Numbers.{refusal_number}
+use Rattle.spec.specs.Outputs.{Output, Listing}
 use Rattle.spec.specs.Lists.{concat_map}
 use Rattle.spec.specs.Machine.{Machine}
 use Rattle.spec.specs.Listed.{listed, head_of, size_of}
@@ -58,11 +57,11 @@ tag_listing (t ∷ ts) = recorded_line listing_role (key_line tag_key t) ∷ tag
 
 -- what a session prints at the end of its input (`final_listing`), line by line. From an opening onward a list call is never refused
 unfoldable pub listing_of : Machine → Listing → List RecordedLine
-listing_of y (Count n) =
+listing_of y (Ok n) =
     recorded_line size_role (key_line size_key (size_of y (head_of y)))
     ∷ recorded_line listing_role (key_line tags_key (length (listed y)))
     ∷ tag_listing (listed y)
-listing_of y (Refused r) = recorded_line listing_role (refusal_line r) ∷ []
+listing_of y (Err r) = recorded_line listing_role (refusal_line (refusal_number r)) ∷ []
 
 unfoldable pub listing : Machine → List RecordedLine
 listing y = listing_of y (list y (replicate 64 0)).says

@@ -2,12 +2,12 @@
 -- the number, from 1, of the first line that is not what the machine prints." The lines are judged in order and the first that fails
 -- gives the answer, so "of a difference, a 10 and a 12 the earliest line decides"; a line is asked first whether it is closed, so "on
 -- one line 10 goes before a difference". Assumes nothing.
-use Rattle.std.specs.Prelude.{ℕ, suc, ◌+◌, List, [], ◌∷◌, not, eqb, length, if◌then◌else◌}
+use Rattle.std.specs.Prelude.{ℕ, suc, ◌+◌, List, [], ◌∷◌, not, eqb, length, if◌then◌else◌, Option, Some, None}
 use Rattle.spec.specs.Machine.{Machine}
 use Rattle.spec.specs.Entries.{Opened}
 use Rattle.spec.specs.Schedule.{Event, starts, steps, event}
 use Rattle.session.specs.declared.EventLine.{EventLine}
-use Rattle.session.specs.declared.EventLine.TheVariants.{Start, Step, Outside}
+use Rattle.session.specs.declared.EventLine.TheVariants.{Start, Step}
 use Rattle.session.specs.Keys.{size_key}
 use Rattle.session.specs.Grammar.{InputLine, input_lines, starts_with, equals, parse_event_line}
 use Rattle.session.specs.Print.{output_line}
@@ -41,10 +41,10 @@ pub data Turn : Type 0 where
   lists : Turn
   gives_10 : Turn
 
-unfoldable pub event_turn : EventLine → Turn
-event_turn (Start k call tag) = runs (starts k call tag)
-event_turn (Step k) = runs (steps k)
-event_turn Outside = gives_10
+unfoldable pub event_turn : Option EventLine → Turn
+event_turn (Some (Start k call tag)) = runs (starts k call tag)
+event_turn (Some (Step k)) = runs (steps k)
+event_turn None = gives_10
 
 unfoldable pub turn : InputLine → Turn
 turn l =

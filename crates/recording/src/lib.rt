@@ -6,7 +6,7 @@ use session::HeaderLine;
 use spec::Output;
 
 // What a reader answers: each line is what the machine prints, or the number, from 1, of the first that is not, or a refusal's number.
-#[derive(Clone, Copy)]
+#[derive(Clone, Copy, PartialEq, Eq)]
 pub enum Verdict {
     Same,
     Differs(u64),

@@ -1,7 +1,6 @@
 -- What rests on statements of specs/RecordingRead.antt that a must-fail edit makes false: theorems moved from there as they stood. Assumes nothing.
-use Rattle.std.specs.Prelude.{◌≡◌, refl, List, [], ◌∷◌, ◌++◌, true, ℕ, suc, drop, replicate}
+use Rattle.std.specs.Prelude.{◌≡◌, refl, List, [], ◌∷◌, ◌++◌, true, ℕ, suc, drop, replicate, Option, Some, None, Ok}
 use Rattle.std.proofs.Common.{ap, ◌∙◌}
-use Rattle.spec.specs.declared.Listing.TheVariants.{Count}
 use Rattle.spec.specs.Lists.{every}
 use Rattle.spec.specs.Machine.{Machine}
 use Rattle.spec.specs.Listed.{head_of, size_of}
@@ -9,7 +8,7 @@ use Rattle.spec.specs.Entries.{list}
 use Rattle.spec.specs.Schedule.{Event, starts, steps, event, run}
 use Rattle.laws.specs.Tests.{and2}
 use Rattle.session.specs.declared.EventLine.{EventLine}
-use Rattle.session.specs.declared.EventLine.TheVariants.{Start, Step, Outside}
+use Rattle.session.specs.declared.EventLine.TheVariants.{Start, Step}
 use Rattle.session.specs.declared.Header.{Header}
 use Rattle.session.specs.Keys.{size_key}
 use Rattle.session.specs.Grammar.{InputLine, closed_line, starts_with, input_lines, parse_event_line}
@@ -43,7 +42,7 @@ events_read (l ∷ ls) p y a h n =
     q : (plain_line l ≡ true) × (every plain_line ls ≡ true)
     q = and2 (plain_line l) (every plain_line ls) p
 
-    pair : (e : Event) (x : EventLine) → parse_event_line l ≡ x → is_event x ≡ true → event_turn x ≡ runs e → add_event x (events ls) ≡ e ∷ events ls
+    pair : (e : Event) (x : Option EventLine) → parse_event_line l ≡ x → is_event x ≡ true → event_turn x ≡ runs e → add_event x (events ls) ≡ e ∷ events ls
         → ReadToEnd (reader EventDue h (event y e).machine (suc (suc n))) (recorded_events (event y e).machine ls)
         → ReadToEnd (reader EventDue h y n) (recorded_events y (l ∷ ls))
     pair e x r i u f rest =
@@ -53,14 +52,14 @@ events_read (l ∷ ls) p y a h n =
         (after_line (output_awaited h (event y e).machine (suc n) (task_in e) (event y e).out) rest))
 
     go : ((e : Event) → ReadToEnd (reader EventDue h (event y e).machine (suc (suc n))) (recorded_events (event y e).machine ls))
-        → (x : EventLine) → parse_event_line l ≡ x → ReadToEnd (reader EventDue h y n) (recorded_events y (l ∷ ls))
-    go ih (Start k call tag) r = pair (starts k call tag) (Start k call tag) r refl refl refl (ih (starts k call tag))
-    go ih (Step k) r = pair (steps k) (Step k) r refl refl refl (ih (steps k))
-    go ih Outside r =
+        → (x : Option EventLine) → parse_event_line l ≡ x → ReadToEnd (reader EventDue h y n) (recorded_events y (l ∷ ls))
+    go ih (Some (Start k call tag)) r = pair (starts k call tag) (Some (Start k call tag)) r refl refl refl (ih (starts k call tag))
+    go ih (Some (Step k)) r = pair (steps k) (Some (Step k)) r refl refl refl (ih (steps k))
+    go ih None r =
         let c = a.counts [] in
         rw (listing_at_once y l ls r) (listing_read h y n c.0 c.1)
 
-size_begins : (ls : List InputLine) (y : Machine) (n : ℕ) → (list y (replicate 64 0)).says ≡ Count n → Begins ls (listing y)
+size_begins : (ls : List InputLine) (y : Machine) (n : ℕ) → (list y (replicate 64 0)).says ≡ Ok n → Begins ls (listing y)
 unfolding only_compared without_newline every starts_with
 size_begins ls y n e =
     let v = size_of y (head_of y) in
@@ -95,15 +94,15 @@ events_begin [] p y a =
     rw (none_recorded y) (size_begins [] y c.0 c.1)
 events_begin (l ∷ ls) p y a = go (parse_event_line l) refl
   where
-    pair : (e : Event) (x : EventLine) → parse_event_line l ≡ x → is_event x ≡ true → add_event x (events ls) ≡ e ∷ events ls
+    pair : (e : Event) (x : Option EventLine) → parse_event_line l ≡ x → is_event x ≡ true → add_event x (events ls) ≡ e ∷ events ls
         → Begins (l ∷ ls) (recorded_events y (l ∷ ls))
     pair e x r i f =
         rw (event_recorded y l ls e x r f)
         (event_begins l ls _ (and2 (plain_line l) (every plain_line ls) p).0 (event_turned l x r i).closed)
 
-    go : (x : EventLine) → parse_event_line l ≡ x → Begins (l ∷ ls) (recorded_events y (l ∷ ls))
-    go (Start k call tag) r = pair (starts k call tag) (Start k call tag) r refl refl
-    go (Step k) r = pair (steps k) (Step k) r refl refl
-    go Outside r =
+    go : (x : Option EventLine) → parse_event_line l ≡ x → Begins (l ∷ ls) (recorded_events y (l ∷ ls))
+    go (Some (Start k call tag)) r = pair (starts k call tag) (Some (Start k call tag)) r refl refl
+    go (Some (Step k)) r = pair (steps k) (Some (Step k)) r refl refl
+    go None r =
         let c = a.counts [] in
         rw (listing_at_once y l ls r) (size_begins (l ∷ ls) y c.0 c.1)

@@ -1,19 +1,17 @@
 -- A recording holds what the session prints: its output lines and its listing are the session's transcript, where the opening is accepted
 -- and no line gives 10: `records_what_is_printed`. Since both print the outputs of one run. Assumes nothing.
-use Rattle.std.specs.Prelude.{◌≡◌, refl, Bool, true, false, ℕ, replicate, if◌then◌else◌}
+use Rattle.std.specs.Prelude.{◌≡◌, refl, Bool, true, false, ℕ, replicate, if◌then◌else◌, Option, Some, None, Ok, Err}
 use Rattle.std.proofs.Math.Path.{sym, ap}
 use Rattle.std.proofs.Common.{◌∙◌, eq-eqb}
 use mathlib.Core.List.{List, [], ◌∷◌, ◌++◌, map, append_assoc}
-use Rattle.spec.specs.declared.Listing.{Listing}
-use Rattle.spec.specs.declared.Listing.TheVariants.{Count, Refused}
-use Rattle.spec.specs.declared.Output.{Output}
+use Rattle.spec.specs.Outputs.{Output, Listing}
 use Rattle.spec.specs.Lists.{filter, concat_map}
 use Rattle.spec.specs.Machine.{Machine}
 use Rattle.spec.specs.Listed.{listed}
 use Rattle.spec.specs.Entries.{list}
 use Rattle.spec.specs.Schedule.{Event, starts, steps, run}
 use Rattle.session.specs.declared.EventLine.{EventLine}
-use Rattle.session.specs.declared.EventLine.TheVariants.{Start, Step, Outside}
+use Rattle.session.specs.declared.EventLine.TheVariants.{Start, Step}
 use Rattle.session.specs.Keys.{tag_key}
 use Rattle.session.specs.Grammar.{InputLine, input_lines, parse_event_line}
 use Rattle.session.specs.Print.{key_line, output_line}
@@ -70,11 +68,11 @@ outputs_printed (l ∷ ls) os = go (outputs_printed ls) (parse_event_line l)
     pair ih e [] = refl
     pair ih e (o ∷ ps) = ap (λ (b : List ℕ). output_line (task_in e) o ++ b) (ih ps)
 
-    go : ((ps : List Output) → printed_of (event_pairs ls (events ls) ps) ≡ output_lines (events ls) ps) → (x : EventLine)
+    go : ((ps : List Output) → printed_of (event_pairs ls (events ls) ps) ≡ output_lines (events ls) ps) → (x : Option EventLine)
         → printed_of (event_pairs (l ∷ ls) (add_event x (events ls)) os) ≡ output_lines (add_event x (events ls)) os
-    go ih (Start k call tag) = pair ih (starts k call tag) os
-    go ih (Step k) = pair ih (steps k) os
-    go ih Outside = refl
+    go ih (Some (Start k call tag)) = pair ih (starts k call tag) os
+    go ih (Some (Step k)) = pair ih (steps k) os
+    go ih None = refl
 
 -- every line of the listing is printed
 all_printed : (ts : List ℕ) → printed_lines (tag_listing ts) ≡ tag_listing ts
@@ -84,8 +82,8 @@ all_printed (t ∷ ts) = ap (λ (rs : List RecordedLine). record { role = listin
 
 listing_printed : (y : Machine) (l : Listing) → printed_lines (listing_of y l) ≡ listing_of y l
 unfolding listing_of filter is_printed
-listing_printed y (Count n) = rw (all_printed (listed y))
-listing_printed y (Refused r) = refl
+listing_printed y (Ok n) = rw (all_printed (listed y))
+listing_printed y (Err r) = refl
 
 -- ---- the whole
 

@@ -1,10 +1,9 @@
 -- Each line of a recording is the one that its reader waits for, where the reader's machine is the recorder's: `event_awaited`,
 -- `output_awaited`, `listing_read`. Assumes nothing.
-use Rattle.std.specs.Prelude.{◌≡◌, List, [], ◌∷◌, true, ℕ, suc, ◌+◌, length, drop, replicate}
+use Rattle.std.specs.Prelude.{◌≡◌, List, [], ◌∷◌, true, ℕ, suc, ◌+◌, length, drop, replicate, Ok}
 use Rattle.std.proofs.Math.Path.{refl, ap}
 use Rattle.std.proofs.Common.{◌∙◌}
-use Rattle.spec.specs.declared.Listing.TheVariants.{Count}
-use Rattle.spec.specs.declared.Output.{Output}
+use Rattle.spec.specs.Outputs.{Output}
 use Rattle.spec.specs.Lists.{every}
 use Rattle.spec.specs.Machine.{Machine}
 use Rattle.spec.specs.Listed.{listed}
@@ -93,7 +92,7 @@ module _ (h : Header) (y : Machine) where
       }
 
   -- where a list call gives a count
-  pub listing_read : (n m : ℕ) → (list y (replicate 64 0)).says ≡ Count m → ReadToEnd (reader EventDue h y n) (listing y)
+  pub listing_read : (n m : ℕ) → (list y (replicate 64 0)).says ≡ Ok m → ReadToEnd (reader EventDue h y n) (listing y)
   unfolding listing listing_of without_newline every
   listing_read n m e =
       let f = ap (listing_of y) e in

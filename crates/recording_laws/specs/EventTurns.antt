@@ -1,10 +1,9 @@
 -- A line that is an event's in a session is closed, and an event's for the reader too: `event_turned`. For no event line starts with
 -- `size=`. Assumes nothing.
-use Rattle.std.specs.Prelude.{◌≡◌, refl, List, [], ◌∷◌, Bool, true, false, ◌&&◌, ℕ, eqb, leb, length, if◌then◌else◌}
+use Rattle.std.specs.Prelude.{◌≡◌, refl, List, [], ◌∷◌, Bool, true, false, ◌&&◌, ℕ, eqb, leb, length, if◌then◌else◌, Option, None}
 use Rattle.std.proofs.Common.{sym, ap, ◌∙◌, arith, eqb-true, ne_eqb}
 use Rattle.laws.specs.Tests.{tf, and_left, and_right, and_never}
 use Rattle.session.specs.declared.EventLine.{EventLine}
-use Rattle.session.specs.declared.EventLine.TheVariants.{Outside}
 use Rattle.session.specs.Keys.{size_key}
 use Rattle.session.specs.Grammar.{InputLine, closed_line, starts_with, parse_event, admissible, parse_event_line}
 use Rattle.session.specs.Transcript.{is_event}
@@ -22,23 +21,23 @@ other_key key (a ∷ b ∷ s) e =
     let d : b ≡ 116 → ⊥ = λ q. omega arith in
     and_never (eqb a 115) (eqb b 116 && starts_with key s) (λ c. rw (ne_eqb b 116 d))
 
-size_outside : (s : List ℕ) → starts_with size_key s ≡ true → parse_event s ≡ Outside
+size_outside : (s : List ℕ) → starts_with size_key s ≡ true → parse_event s ≡ None
 unfolding parse_event
 size_outside s e = rw (other_key (101 ∷ 112 ∷ 61 ∷ []) s e, other_key (97 ∷ 114 ∷ 116 ∷ 61 ∷ []) s e)
 
-pub record EventTurned (l : InputLine) (x : EventLine) : Type 0 where
+pub record EventTurned (l : InputLine) (x : Option EventLine) : Type 0 where
   pub closed : closed_line l.bytes ≡ l
   pub turned : turn l ≡ event_turn x
 
-no_event : {A : Type 0} {x : EventLine} → Outside ≡ x → is_event x ≡ true → A
+no_event : {A : Type 0} {x : Option EventLine} → None ≡ x → is_event x ≡ true → A
 unfolding is_event
 no_event p e = absurd (tf (ap is_event p ∙ e) refl)
 
-pub event_turned : (l : InputLine) (x : EventLine) → parse_event_line l ≡ x → is_event x ≡ true → EventTurned l x
+pub event_turned : (l : InputLine) (x : Option EventLine) → parse_event_line l ≡ x → is_event x ≡ true → EventTurned l x
 unfolding parse_event_line admissible turn
 event_turned l x p e = go (admissible l) refl p
   where
-    go : (b : Bool) → admissible l ≡ b → (if b then parse_event l.bytes else Outside) ≡ x → EventTurned l x
+    go : (b : Bool) → admissible l ≡ b → (if b then parse_event l.bytes else None) ≡ x → EventTurned l x
     go true a q = record { closed = closed_again l (closed_of a); turned = sized (starts_with size_key l.bytes) refl }
       where
         closed_of : admissible l ≡ true → l.closed ≡ true

@@ -1,10 +1,8 @@
 -- What the other proofs need of a header line: `header_known`, by what it comes to; of one that starts with `size=`, `size_step`. And that
 -- the header is the one that a session reads: `as_session`. Session's `header_step` is opened here and in its `LineLaws` alone. Assumes nothing.
-use Rattle.std.specs.Prelude.{◌≡◌, refl, List, [], ◌∷◌, Bool, true, false, ◌&&◌, ℕ, suc, ◌≤◌, eqb, leb, length, if◌then◌else◌}
+use Rattle.std.specs.Prelude.{◌≡◌, refl, List, [], ◌∷◌, Bool, true, false, ◌&&◌, ℕ, suc, ◌≤◌, eqb, leb, length, if◌then◌else◌, Option, Some, None}
 use Rattle.std.proofs.Common.{sym, ap, ◌∙◌, arith, eqb-true, ne_eqb, leb-true}
 use Rattle.laws.specs.Tests.{and_left, and_right}
-use Rattle.session.specs.declared.Decimal.{Decimal}
-use Rattle.session.specs.declared.Decimal.TheVariants.{Value, NotDecimal}
 use Rattle.session.specs.declared.Header.{Header}
 use Rattle.session.specs.declared.HeaderLine.{HeaderLine}
 use Rattle.session.specs.declared.HeaderLine.TheVariants.{Tasks, Nodes, Buckets, Version, Blank}
@@ -48,7 +46,7 @@ pub data HeaderKnown (due : HeaderLine) (h : Header) (l : InputLine) : HeaderSte
 
 -- ---- a line
 
-number_taken : (due : HeaderLine) (l : InputLine) (n : ℕ) → line_number due l ≡ Value n → TakenLine l
+number_taken : (due : HeaderLine) (l : InputLine) (n : ℕ) → line_number due l ≡ Some n → TakenLine l
 unfolding admissible
 number_taken due l n e = go (admissible l) refl
   where
@@ -73,9 +71,9 @@ without_version : (h : Header) (l : InputLine) → HeaderKnown Version h l (numb
 unfolding number_step with_number optional
 without_version h l = go (line_number Blank l) refl
   where
-    go : (x : Decimal) → line_number Blank l ≡ x → HeaderKnown Version h l (number_step Blank h x (Absent h))
-    go (Value n) e = last_taken (number_taken Blank l n e)
-    go NotDecimal e = left_out refl
+    go : (x : Option ℕ) → line_number Blank l ≡ x → HeaderKnown Version h l (number_step Blank h x (Absent h))
+    go (Some n) e = last_taken (number_taken Blank l n e)
+    go None e = left_out refl
 
 other_known : (due : HeaderLine) (h : Header) (l : InputLine) → HeaderKnown due h l (other_step due h l)
 unfolding other_step optional
@@ -89,9 +87,9 @@ pub header_known : (due : HeaderLine) (h : Header) (l : InputLine) → HeaderKno
 unfolding header_step number_step
 header_known due h l = go (line_number due l) refl
   where
-    go : (x : Decimal) → line_number due l ≡ x → HeaderKnown due h l (number_step due h x (other_step due h l))
-    go (Value n) e = with_known due h l n (number_taken due l n e)
-    go NotDecimal e = other_known due h l
+    go : (x : Option ℕ) → line_number due l ≡ x → HeaderKnown due h l (number_step due h x (other_step due h l))
+    go (Some n) e = with_known due h l n (number_taken due l n e)
+    go None e = other_known due h l
 
 -- ---- a line that starts with `size=`
 
@@ -108,12 +106,12 @@ either_way : (b : Bool) {A : Type 0} (x : A) → (if b then x else x) ≡ x
 either_way true x = refl
 either_way false x = refl
 
-no_number : (a : ℕ) (key : List ℕ) (l : InputLine) → (a ≡ 115 → ⊥) → starts_with size_key l.bytes ≡ true → parse_header_line (a ∷ key) l ≡ NotDecimal
+no_number : (a : ℕ) (key : List ℕ) (l : InputLine) → (a ≡ 115 → ⊥) → starts_with size_key l.bytes ≡ true → parse_header_line (a ∷ key) l ≡ None
 unfolding parse_header_line parse_keyed_number
-no_number a key l d e = rw (other_key a key l.bytes d e) (either_way (admissible l) NotDecimal)
+no_number a key l d e = rw (other_key a key l.bytes d e) (either_way (admissible l) None)
 
 -- is of no header line's form
-size_number : (d : HeaderLine) (l : InputLine) → starts_with size_key l.bytes ≡ true → line_number d l ≡ NotDecimal
+size_number : (d : HeaderLine) (l : InputLine) → starts_with size_key l.bytes ≡ true → line_number d l ≡ None
 unfolding line_number parse_fixed_line equals
 size_number Tasks l e = no_number 116 _ l (λ q. omega arith) e
 size_number Nodes l e = no_number 110 _ l (λ q. omega arith) e
@@ -121,7 +119,7 @@ size_number Buckets l e = no_number 98 _ l (λ q. omega arith) e
 size_number Version l e = no_number 118 _ l (λ q. omega arith) e
 size_number Blank l e = rw (other_key 98 _ l.bytes (λ q. omega arith) e) (neither (admissible l) (eqb (length l.bytes) 8))
   where
-    neither : (a b : Bool) → (if a && (b && false) then Value 0 else NotDecimal) ≡ NotDecimal
+    neither : (a b : Bool) → ◌≡◌ {A = Option ℕ} (if a && (b && false) then Some 0 else None) None
     neither true true = refl
     neither true false = refl
     neither false b = refl

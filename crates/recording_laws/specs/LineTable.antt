@@ -3,7 +3,7 @@
 -- `end_12`, `end_same`. By cases on where it stands. Assumes nothing.
 use Rattle.std.proofs.Math.Path.{◌≡◌, refl, ap}
 use Rattle.std.proofs.Common.{◌∙◌, inr}
-use Rattle.std.specs.Prelude.{◌⊎◌, Bool, ℕ, suc, ◌+◌, if◌then◌else◌}
+use Rattle.std.specs.Prelude.{◌⊎◌, Bool, ℕ, suc, ◌+◌, if◌then◌else◌, Option, Some, None}
 use Rattle.std.proofs.Math.Logic.{inl}
 use mathlib.Core.List.{List, [], ◌∷◌}
 use Rattle.std.proofs.Math.Bool.{true, false, not}
@@ -12,7 +12,7 @@ use Rattle.std.proofs.Math.ListN.{drop}
 use Rattle.spec.specs.Machine.{Machine}
 use Rattle.laws.specs.Tests.{tf}
 use Rattle.session.specs.declared.EventLine.{EventLine}
-use Rattle.session.specs.declared.EventLine.TheVariants.{Start, Step, Outside}
+use Rattle.session.specs.declared.EventLine.TheVariants.{Start, Step}
 use Rattle.session.specs.Keys.{size_key}
 use Rattle.session.specs.Grammar.{InputLine, starts_with, parse_event_line}
 use Rattle.session.specs.Print.{output_line}
@@ -40,7 +40,7 @@ judging (Decided v) = false
 -- "10 is for header and event lines and for a line not closed": at an event's turn, a line outside the grammar too
 unfoldable pub Gives10 : ReaderPhase → InputLine → Type 0
 Gives10 (Due due) l = ⊥
-Gives10 EventDue l = (l.closed ≡ false) ⊎ ((starts_with size_key l.bytes ≡ false) × (parse_event_line l ≡ Outside))
+Gives10 EventDue l = (l.closed ≡ false) ⊎ ((starts_with size_key l.bytes ≡ false) × (parse_event_line l ≡ None))
 Gives10 (Printed k o) l = l.closed ≡ false
 Gives10 (Listed k) l = l.closed ≡ false
 Gives10 (Decided v) l = ⊥
@@ -105,12 +105,12 @@ module _ (r : Reader) (l : InputLine) where
           first_same : {a : RecordedLine} {later : List RecordedLine} → drop k (listing r.machine) ≡ a ∷ later → a ≡ q
           first_same h = cc
 
-  event_view : (x : EventLine) → parse_event_line l ≡ x → l.closed ≡ true → starts_with size_key l.bytes ≡ false
+  event_view : (x : Option EventLine) → parse_event_line l ≡ x → l.closed ≡ true → starts_with size_key l.bytes ≡ false
       → LineView EventDue r l (read_turn (event_turn x) r l)
   unfolding read_turn event_turn run_event moved decided judging Gives10
-  event_view (Start k call tag) e c s = goes_on refl refl
-  event_view (Step k) e c s = goes_on refl refl
-  event_view Outside e c s = is_10 (inr (s, e)) refl
+  event_view (Some (Start k call tag)) e c s = goes_on refl refl
+  event_view (Some (Step k)) e c s = goes_on refl refl
+  event_view None e c s = is_10 (inr (s, e)) refl
 
   pub phase_view : (p : ReaderPhase) → judging p ≡ true → LineView p r l (read_phase p r l)
   unfolding read_phase judging read_turn read_listed after_comparing moved decided turn Gives10 NotPrinted

@@ -1,9 +1,10 @@
 -- The listing's lines: joined they are what a session prints at the end of its input, `listing_bytes`; and
 -- which line stands at each place, `size_first`, `tags_second`, `tag_at`, `none_after`, so that code can make line k alone. Assumes nothing.
-use Rattle.std.specs.Prelude.{◌≡◌, refl, List, [], ◌∷◌, ◌++◌, ℕ, zero, suc, ◌<◌, ◌≤◌, length, get_or, drop, replicate}
+use Rattle.std.specs.Prelude.{◌≡◌, refl, List, [], ◌∷◌, ◌++◌, ℕ, zero, suc, ◌<◌, ◌≤◌, length, get_or, drop, replicate, Ok, Err}
 use Rattle.std.proofs.Common.{sym, ap, ◌∙◌, append_assoc, append-nil, arith}
-use Rattle.spec.specs.declared.Listing.{Listing}
-use Rattle.spec.specs.declared.Listing.TheVariants.{Count, Refused}
+use Rattle.spec.specs.declared.Refusal.{Refusal}
+use Rattle.spec.specs.Numbers.{refusal_number}
+use Rattle.spec.specs.Outputs.{Listing}
 use Rattle.spec.specs.Lists.{concat_map}
 use Rattle.spec.specs.Machine.{Machine}
 use Rattle.spec.specs.Listed.{listed, head_of, size_of}
@@ -22,11 +23,11 @@ tags_bytes (t ∷ ts) = ap (λ (b : List ℕ). key_line tag_key t ++ b) (tags_by
 
 bytes_by : (y : Machine) (l : Listing) → bytes_of (listing_of y l) ≡ final_listing y l
 unfolding listing_of final_listing listing_lines bytes_of concat_map
-bytes_by y (Count n) =
+bytes_by y (Ok n) =
     let size = key_line size_key (size_of y (head_of y)) in
     let tags = key_line tags_key (length (listed y)) in
     ap (λ (b : List ℕ). size ++ (tags ++ b)) (tags_bytes (listed y)) ∙ sym (append_assoc size tags (tag_lines (listed y)))
-bytes_by y (Refused r) = append-nil (refusal_line r)
+bytes_by y (Err r) = append-nil (refusal_line (refusal_number r))
 
 pub listing_bytes : (y : Machine) → bytes_of (listing y) ≡ final_listing y (list y (replicate 64 0)).says
 unfolding listing
@@ -49,7 +50,7 @@ none_from (t ∷ ts) zero h = absurd (omega arith)
 none_from (t ∷ ts) (suc j) h = none_from ts j (omega arith)
 
 -- where a list call gives a count
-module _ (y : Machine) (n : ℕ) (e : (list y (replicate 64 0)).says ≡ Count n) where
+module _ (y : Machine) (n : ℕ) (e : (list y (replicate 64 0)).says ≡ Ok n) where
   pub size_first : listing y ≡ recorded_line size_role (key_line size_key (size_of y (head_of y))) ∷ drop 1 (listing y)
   unfolding listing listing_of
   size_first = rw e
@@ -68,6 +69,7 @@ module _ (y : Machine) (n : ℕ) (e : (list y (replicate 64 0)).says ≡ Count n
   none_after j h = rw e (none_from (listed y) j h)
 
 -- where it is refused, which does not happen from an opening onward
-pub refused_listing : (y : Machine) (r : ℕ) → (list y (replicate 64 0)).says ≡ Refused r → listing y ≡ recorded_line listing_role (refusal_line r) ∷ []
+pub refused_listing : (y : Machine) (r : Refusal) → (list y (replicate 64 0)).says ≡ Err r
+    → listing y ≡ recorded_line listing_role (refusal_line (refusal_number r)) ∷ []
 unfolding listing listing_of
 refused_listing y r e = rw e

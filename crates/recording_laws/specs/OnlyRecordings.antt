@@ -1,7 +1,7 @@
 -- The reader says "same" of recordings alone: `same_is_recorded`, bytes that give "same" are what a terminal writes for some session's
 -- input. That input is the header lines and the event lines in them; the lines between were compared with what the machine prints.
 -- Assumes nothing.
-use Rattle.std.specs.Prelude.{◌≡◌, refl, Bool, true, false, not, ℕ, suc, ◌+◌, eqb, length, if◌then◌else◌}
+use Rattle.std.specs.Prelude.{◌≡◌, refl, Bool, true, false, not, ℕ, suc, ◌+◌, eqb, length, if◌then◌else◌, Option, Some, None}
 use Rattle.std.proofs.Common.{sym, ◌∙◌, arith}
 use Rattle.std.proofs.Math.Path.{ap, subst}
 use mathlib.Core.List.{List, [], ◌∷◌, ◌++◌, map, append-nil}
@@ -12,7 +12,7 @@ use Rattle.spec.specs.Machine.{Machine}
 use Rattle.spec.specs.Schedule.{Event, starts, steps, event}
 use Rattle.laws.specs.Tests.{tf, and2}
 use Rattle.session.specs.declared.EventLine.{EventLine}
-use Rattle.session.specs.declared.EventLine.TheVariants.{Start, Step, Outside}
+use Rattle.session.specs.declared.EventLine.TheVariants.{Start, Step}
 use Rattle.session.specs.declared.Header.{Header}
 use Rattle.session.specs.declared.HeaderLine.TheVariants.{Tasks}
 use Rattle.session.specs.Keys.{newline, size_key}
@@ -125,11 +125,11 @@ turn_runs l e p = go l.closed (starts_with size_key l.bytes) refl p
     go true false q f = (q, f)
     go false b q f = let z : ◌≡◌ {A = ℕ} 0 1 = cc in absurd (omega arith)
 
-event_added : (x : EventLine) (e : Event) (es : List Event) → event_turn x ≡ runs e → add_event x es ≡ e ∷ es
+event_added : (x : Option EventLine) (e : Event) (es : List Event) → event_turn x ≡ runs e → add_event x es ≡ e ∷ es
 unfolding event_turn add_event
-event_added (Start k call tag) e es p = let q : starts k call tag ≡ e = cc in ap (λ (f : Event). f ∷ es) q
-event_added (Step k) e es p = let q : steps k ≡ e = cc in ap (λ (f : Event). f ∷ es) q
-event_added Outside e es p = let z : ◌≡◌ {A = ℕ} 0 1 = cc in absurd (omega arith)
+event_added (Some (Start k call tag)) e es p = let q : starts k call tag ≡ e = cc in ap (λ (f : Event). f ∷ es) q
+event_added (Some (Step k)) e es p = let q : steps k ≡ e = cc in ap (λ (f : Event). f ∷ es) q
+event_added None e es p = let z : ◌≡◌ {A = ℕ} 0 1 = cc in absurd (omega arith)
 
 record SameFrom (ls : List InputLine) : Type 0 where
   at_events : (n : ℕ) (y : Machine) → events_verdict n y ls ≡ Same → FromEvents y ls

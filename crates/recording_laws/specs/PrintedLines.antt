@@ -1,14 +1,13 @@
 -- Each line that a session prints is bytes without byte 10, closed by one: `output_closed`, `key_closed`. For it is put together of
 -- fixed words and of digits, which are at least 48. Assumes nothing.
-use Rattle.std.specs.Prelude.{◌≡◌, refl, List, [], ◌∷◌, ◌++◌, Bool, true, false, ℕ, zero, suc, ◌+◌, ◌/◌, ◌%◌, ltb, if◌then◌else◌}
+use Rattle.std.specs.Prelude.{◌≡◌, refl, List, [], ◌∷◌, ◌++◌, Bool, true, false, ℕ, zero, suc, ◌+◌, ◌/◌, ◌%◌, ltb, if◌then◌else◌, Option, Some, None, Ok, Err}
 use Rattle.std.proofs.Common.{arith, ne_eqb}
 use Rattle.spec.specs.declared.Answer.{Answer}
 use Rattle.spec.specs.declared.Answer.TheVariants.{Yes, No, Full, Done, Lost, Limit}
-use Rattle.spec.specs.declared.Occupancy.{Occupancy}
-use Rattle.spec.specs.declared.Occupancy.TheVariants.{NotGiven, Tags}
-use Rattle.spec.specs.declared.Output.{Output}
-use Rattle.spec.specs.declared.Output.TheVariants.{At, End, Refuse}
+use Rattle.spec.specs.Outputs.{Output}
+use Rattle.spec.specs.declared.Progress.TheVariants.{At, End}
 use Rattle.spec.specs.Lists.{every}
+use Rattle.spec.specs.Numbers.{refusal_number}
 use Rattle.session.specs.Keys.{comma, at_key, end_key, refuse_key}
 use Rattle.session.specs.Print.{decimal_digits, decimal, key_line, answer_word, occupancy_field, refusal_line, output_line}
 use Rattle.recording.specs.Recording.{close}
@@ -49,10 +48,10 @@ word_plain Done = refl
 word_plain Lost = refl
 word_plain Limit = refl
 
-field_plain : (full : Occupancy) → without_newline (occupancy_field full) ≡ true
+field_plain : (full : Option ℕ) → without_newline (occupancy_field full) ≡ true
 unfolding occupancy_field without_newline every
-field_plain NotGiven = refl
-field_plain (Tags n) = plain_append (comma ∷ []) (decimal n) refl (decimal_plain n)
+field_plain None = refl
+field_plain (Some n) = plain_append (comma ∷ []) (decimal n) refl (decimal_plain n)
 
 -- ---- bytes with their proof, put together as the printed lines are
 
@@ -69,7 +68,7 @@ number n = record { bytes = decimal n; plain = decimal_plain n }
 abbrev word : Answer → Plain
 word a = record { bytes = answer_word a; plain = word_plain a }
 
-abbrev field : Occupancy → Plain
+abbrev field : Option ℕ → Plain
 field full = record { bytes = occupancy_field full; plain = field_plain full }
 
 infixl 5 ◌then◌
@@ -93,8 +92,8 @@ refusal_closed r = key_closed refuse_key r refl
 
 pub output_closed : (k : ℕ) (o : Output) → ClosedBytes (output_line k o)
 unfolding output_line without_newline every
-output_closed k (At l) = closing (fixed at_key refl then number k then fixed (comma ∷ []) refl then number l)
-output_closed k (End a own full) =
+output_closed k (Ok (At l)) = closing (fixed at_key refl then number k then fixed (comma ∷ []) refl then number l)
+output_closed k (Ok (End a own full)) =
     closing
     (fixed end_key refl then number k then fixed (comma ∷ []) refl then word a then fixed (comma ∷ []) refl then number own then field full)
-output_closed k (Refuse r) = refusal_closed r
+output_closed k (Err r) = refusal_closed (refusal_number r)

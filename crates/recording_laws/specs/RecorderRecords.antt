@@ -1,7 +1,7 @@
 -- Given one line after the other, and ended, the recorder writes the recording, and where there is none what the session prints:
 -- `recorder_writes`, which is a refusal's line, `refused_line`. By induction over the lines, since a run is its first event and the run after
 -- it; and no more than four header lines are kept, which have room. Assumes nothing.
-use Rattle.std.specs.Prelude.{◌≡◌, Bool, true, false, eqb, length, take, replicate, if◌then◌else◌}
+use Rattle.std.specs.Prelude.{◌≡◌, Bool, true, false, eqb, length, take, replicate, if◌then◌else◌, Option, Some, None}
 use Rattle.std.proofs.Math.Path.{refl, sym, ap}
 use Rattle.std.proofs.Common.{◌∙◌, arith, length-append, take_all}
 use mathlib.Core.List.{List, [], ◌∷◌, ◌++◌, map, append_assoc, append-nil}
@@ -11,7 +11,7 @@ use Rattle.spec.specs.Machine.{Machine}
 use Rattle.spec.specs.Entries.{Opened, list}
 use Rattle.spec.specs.Schedule.{Event, starts, steps, event}
 use Rattle.session.specs.declared.EventLine.{EventLine}
-use Rattle.session.specs.declared.EventLine.TheVariants.{Start, Step, Outside}
+use Rattle.session.specs.declared.EventLine.TheVariants.{Start, Step}
 use Rattle.session.specs.declared.Header.{Header}
 use Rattle.session.specs.declared.HeaderLine.{HeaderLine}
 use Rattle.session.specs.declared.HeaderLine.TheVariants.{Tasks}
@@ -65,10 +65,10 @@ module _ (h : Header) (kept : List ℕ) where
   events_written [] y = sym (listing_bytes y) ∙ ap bytes_of (sym (none_recorded y))
   events_written (l ∷ ls) y = go (λ z. events_written ls z) (parse_event_line l) refl
     where
-      after : EventLine → List ℕ
+      after : Option EventLine → List ℕ
       after x = with_rest (record_event x (recorder Events h y kept) l) ls
 
-      pair : ((z : Machine) → record_lines (recorder Events h z kept) ls ≡ bytes_of (recorded_events z ls)) → (e : Event) (x : EventLine)
+      pair : ((z : Machine) → record_lines (recorder Events h z kept) ls ≡ bytes_of (recorded_events z ls)) → (e : Event) (x : Option EventLine)
           → parse_event_line l ≡ x → after x ≡ with_rest (write_pair e (recorder Events h y kept) l) ls → add_event x (events ls) ≡ e ∷ events ls
           → record_lines (recorder Events h y kept) (l ∷ ls) ≡ bytes_of (recorded_events y (l ∷ ls))
       pair ih e x p f q =
@@ -78,11 +78,11 @@ module _ (h : Header) (kept : List ℕ) where
           ∙ ap (λ (b : List ℕ). close l.bytes ++ (printed_for y e ++ b)) (ih z)
           ∙ ap bytes_of (sym (event_recorded y l ls e x p q))
 
-      go : ((z : Machine) → record_lines (recorder Events h z kept) ls ≡ bytes_of (recorded_events z ls)) → (x : EventLine) → parse_event_line l ≡ x
+      go : ((z : Machine) → record_lines (recorder Events h z kept) ls ≡ bytes_of (recorded_events z ls)) → (x : Option EventLine) → parse_event_line l ≡ x
           → record_lines (recorder Events h y kept) (l ∷ ls) ≡ bytes_of (recorded_events y (l ∷ ls))
-      go ih (Start k call tag) p = pair ih (starts k call tag) (Start k call tag) p refl refl
-      go ih (Step k) p = pair ih (steps k) (Step k) p refl refl
-      go ih Outside p = ap after p ∙ listing_last y ls ∙ ap bytes_of (sym (listing_at_once y l ls p))
+      go ih (Some (Start k call tag)) p = pair ih (starts k call tag) (Some (Start k call tag)) p refl refl
+      go ih (Some (Step k)) p = pair ih (steps k) (Some (Step k)) p refl refl
+      go ih None p = ap after p ∙ listing_last y ls ∙ ap bytes_of (sym (listing_at_once y l ls p))
 
 -- ---- the opening
 

@@ -1,10 +1,9 @@
 -- What a recording holds after its header is read to its end: `events_read`. The reader's machine is the recorder's at each event, since
 -- both run the same events, so it waits for just the line that was recorded; and from an opening onward a list call gives a count, by
 -- the crate linear. Assumes nothing.
-use Rattle.std.specs.Prelude.{◌≡◌, List, ◌∷◌, ◌++◌, false, ℕ, length, replicate}
+use Rattle.std.specs.Prelude.{◌≡◌, List, ◌∷◌, ◌++◌, false, ℕ, length, replicate, Ok}
 use Rattle.std.proofs.Common.{ap, ◌∙◌, arith, eq-eqb}
 use Rattle.spec.specs.declared.Config.{Config}
-use Rattle.spec.specs.declared.Listing.TheVariants.{Count}
 use Rattle.spec.specs.Machine.{Machine}
 use Rattle.spec.specs.Listed.{listed}
 use Rattle.spec.specs.Entries.{opening, Written, list}
@@ -21,7 +20,7 @@ use Rattle.recording_laws.specs.ReadToEnd.{only_compared}
 -- ---- a list call gives a count, whatever events come before it
 
 pub record AlwaysLists (y : Machine) : Type 0 where
-  pub counts : (es : List Event) → (n : ℕ) × ((list (run y es).machine (replicate 64 0)).says ≡ Count n)
+  pub counts : (es : List Event) → (n : ℕ) × ((list (run y es).machine (replicate 64 0)).says ≡ Ok n)
 
 module _ (g : Config) (ns bs : List ℕ) (ok : (opening g ns bs).refusal ≡ 0) where
   opened_runs : (es : List Event) → run (opening g ns bs).machine es ≡ schedule g ns bs es

@@ -108,12 +108,10 @@ fn tells(w: &Memory, all: usize, n: u32, of: u32) -> bool {
 
 // Whether one of so many words does.
 pub fn among(w: &Memory, all: usize, count: u32, of: u32) -> bool {
-    let mut n: u32 = 0;
-    while n < count {
+    for n in 0..count {
         if tells(w, all, n, of) {
             return true;
         }
-        n += 1;
     }
     false
 }

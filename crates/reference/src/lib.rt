@@ -27,7 +27,7 @@ use sight::{line_refusal, made, set_made};
 use stores::{chosen, reply, store};
 use table::SPOILT;
 use tags::{count, gather};
-use taking::found;
+use taking::{free_record, running_task};
 
 // "Start: 8, 4, 5. Step: 8, 4, 6, 8 of the step, 7." "14, starting an insert of tag 0 under the new rule, after 5"
 fn event_refusal(w: &Memory, made: u32) -> u32 {
@@ -56,15 +56,24 @@ fn refusal(w: &Memory, made: u32) -> u32 {
     }
 }
 
-// The task that is meant (a turn is a step of the task that it finds), where its record is, the row of the table, and the record that the line would take.
+// The task that is meant: a turn is a step of the task that it finds.
+fn task_meant(w: &Memory, what: u32) -> u32 {
+    if what == 9 {
+        less_1(running_task(w))
+    } else {
+        get(w, ASKED_K)
+    }
+}
+
+// The task that is meant, where its record is, the row of the table, and the record that the line would take.
 fn looked(w: &Memory) -> [u32; 4] {
     let bad = spoilt(w);
     let what = either(bad, SPOILT, get(w, WHAT));
-    let k = either(what == 9, less_1(found(w, what)), get(w, ASKED_K));
+    let k = task_meant(w, what);
     let none = bad | (get(w, T) <= k);
     let at = either(none, NOWHERE as u32, plus(RECORDS as u32, k % 8 * 13));
     let row = either(what % 9 == 0, get(w, at as usize + 3), what);
-    [k, at, row, found(w, row)]
+    [k, at, row, free_record(w, row)]
 }
 
 // What a call asks of the whole of memory, the sets of tags that it makes, and whether it is refused.

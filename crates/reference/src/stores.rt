@@ -2,11 +2,11 @@
 use super::places::{bucket_at, node_at};
 use super::sight::{answer, becomes, look_at, next_line, own_after, stored};
 use super::table::SPOILT;
-use super::taking::by_kind;
+use super::taking::last_taken_at;
 use reference_words::words::{
     AFTERWARDS, ASKED_K, ASKED_RULE, ASKED_TAG, AT_B, B, BUCKET_WORDS, BUCKETS, CHOSEN, FREE, H,
-    LAST_BUCKET, LAST_NODE, LENT, MADE, Memory, NODE_WORDS, NODES, NOWHERE, RECORD, ROW, SPAN,
-    STATE_END, T, TASK, VERSION, WHAT, WHY, ZERO_WITHDRAWN, either, get, less_1, plus, put,
+    LENT, MADE, Memory, NODE_WORDS, NODES, NOWHERE, RECORD, ROW, SPAN, STATE_END, T, TASK, VERSION,
+    WHAT, WHY, ZERO_WITHDRAWN, either, get, less_1, plus, put,
 };
 
 // The reply begins with its kind. 0: the task is at a line, the next or the first; or it is a list or a show, with the count, or an opening. 1: the call ended.
@@ -49,7 +49,7 @@ fn step_to(w: &Memory, j: u32) -> usize {
     }
     match j {
         13 => look_at(w),
-        14 => by_kind(get(w, ROW), NOWHERE, LAST_NODE, LAST_BUCKET),
+        14 => last_taken_at(get(w, ROW)),
         _ => record_at(w) % SPAN + (j - 15) as usize,
     }
 }
@@ -126,11 +126,9 @@ fn words(w: &Memory) -> u32 {
 
 pub fn store(w: &mut Memory) {
     let n = words(w);
-    let mut j: u32 = 0;
-    while j < n {
+    for j in 0..n {
         let at = to(w, j);
         let v = word(w, j);
         put(w, at, v);
-        j += 1;
     }
 }

@@ -78,11 +78,8 @@ pub fn smallest(w: &Memory, set: u32, from: u64) -> u64 {
     let none = (set == NO_TAGS) | (NONE <= from);
     let all = either(none, 0, get(w, B) % 4096 * 64);
     let mut best = brought(w, set, from);
-    let mut n: u32 = 0;
-    while n < all {
-        let b = better(w, set, n, from, best);
-        best = b;
-        n += 1;
+    for n in 0..all {
+        best = better(w, set, n, from, best);
     }
     best
 }
@@ -90,26 +87,22 @@ pub fn smallest(w: &Memory, set: u32, from: u64) -> u64 {
 // How many tags a set has. A count of 65 says that there are more than 64.
 pub fn count(w: &Memory, set: u32) -> u32 {
     let mut from: u64 = 0;
-    let mut n: u32 = 0;
-    while n < 65 {
+    for n in 0..65 {
         let tag = smallest(w, set, from);
         if NONE <= tag {
             return n;
         }
         from = tag + 1;
-        n += 1;
     }
-    n
+    65
 }
 
 // The tags of a set, of a record that is made, then zeros.
 pub fn gather(w: &mut Memory, set: u32) {
     let mut from: u64 = 0;
-    let mut at: usize = MADE + 2;
-    while at < MADE + 67 {
+    for at in MADE + 2..MADE + 67 {
         let tag = smallest(w, set, from);
         put(w, at, (tag % NONE) as u32);
         from = tag % (NONE + 1) + 1;
-        at += 1;
     }
 }

@@ -16,52 +16,54 @@ fn root(w: &Memory, r: u32) -> u32 {
 // "or the predecessor of a held node": 64 nodes from each root on, one after the other, which always do, also round a cycle.
 pub fn is_held_node(w: &Memory, of: u32) -> bool {
     let mut place: u32 = 0;
-    let mut at: u32 = 0;
-    while at < 1600 {
-        let next = either(at % 64 == 0, root(w, at / 64), node(w, place, 1));
-        place = next;
+    for at in 0..1600 {
+        place = either(at % 64 == 0, root(w, at / 64), node(w, place, 1));
         if place == of {
             return true;
         }
-        at += 1;
     }
     false
 }
 
-// What a turn (9), line 27 or line 49 looks for: a task that runs, a node or a bucket that is not held. "A bucket is held if a held node places it, or it is the
-// b, m, n or new bucket of a running task."
-fn is_sought(w: &Memory, kind: u32, place: u32) -> bool {
-    match kind {
-        9 => get(w, field_at(less_1(place), 0)) != 0,
-        27 => !is_held_node(w, place),
-        _ => !among(w, RECORDS, 104, place) & !among(w, NODES, get(w, NODE_WORDS), place),
+// "A record is taken as the first one not held after the last taken, going round and trying the last taken itself at the end"; a turn goes "round from the
+// last one chosen, .. passing idle tasks". The place of what is found, 0 for none, of so many places, after the number that was last.
+fn go_round<F: Fn(&Memory, u32) -> bool>(w: &Memory, count: u32, last: u32, is_sought: F) -> u32
+    requires { F.IsAlwaysCallable is_sought }
+{
+    let mut place = plus(last, 1);
+    for _ in 0..count {
+        place = plus(rest(place, count), 1);
+        if is_sought(w, place) {
+            return place;
+        }
     }
+    0
 }
 
-// One of three words, by who looks: a turn, line 27, line 49.
-pub fn by_kind(kind: u32, turn: usize, line_27: usize, line_49: usize) -> usize {
-    match kind {
-        9 => turn,
-        27 => line_27,
-        49 => line_49,
+// The task that a turn goes to: one that runs.
+pub fn running_task(w: &Memory) -> u32 {
+    go_round(w, get(w, T), get(w, CHOSEN), |w, place| {
+        get(w, field_at(less_1(place), 0)) != 0
+    })
+}
+
+// Where the number of the record last taken is, of line 27's nodes and line 49's buckets.
+pub fn last_taken_at(row: u32) -> usize {
+    match row {
+        27 => LAST_NODE,
+        49 => LAST_BUCKET,
         _ => NOWHERE,
     }
 }
 
-// "A record is taken as the first one not held after the last taken, going round and trying the last taken itself at the end"; a turn goes "round from the
-// last one chosen, .. passing idle tasks". The place of what is found, 0 for none, and if nobody looks.
-pub fn found(w: &Memory, kind: u32) -> u32 {
-    let count = get(w, by_kind(kind, T, H, B));
-    let last = get(w, by_kind(kind, CHOSEN, LAST_NODE, LAST_BUCKET));
-    let mut place = plus(last, 1);
-    let mut tried: u32 = 0;
-    while tried < count {
-        let next = plus(rest(place, count), 1);
-        place = next;
-        if is_sought(w, kind, place) {
-            return place;
-        }
-        tried += 1;
+// The record that line 27 or line 49 would take. "A bucket is held if a held node places it, or it is the b, m, n or new bucket of a running task."
+pub fn free_record(w: &Memory, row: u32) -> u32 {
+    let last = get(w, last_taken_at(row));
+    match row {
+        27 => go_round(w, get(w, H), last, |w, place| !is_held_node(w, place)),
+        49 => go_round(w, get(w, B), last, |w, place| {
+            !among(w, RECORDS, 104, place) & !among(w, NODES, get(w, NODE_WORDS), place)
+        }),
+        _ => 0,
     }
-    0
 }

@@ -1,5 +1,5 @@
-// One memory of words, and total ways to reach a word of it: a read past the end gives 0, and a store past the end changes nothing. So no words
-// whatever can break the code above.
+// One memory of words, and total ways to reach a word of it, or of any slice: a read past the end gives 0, and a store past the end changes
+// nothing. So no words whatever can break the code above.
 
 // The state. From RECORDS on eight tasks of 13 words: running, call, tag, line, i, own steps, t, s, b, m, n, new node, new bucket.
 pub const T: usize = 0;
@@ -94,40 +94,34 @@ pub const NOWHERE: usize = 1000000;
 
 pub const SPAN: usize = 1048576;
 
-pub const SIZE: usize = 150060;
-
 pub type Memory = [u32; 150060];
 
-pub fn get(w: &Memory, at: usize) -> u32 {
-    if at < SIZE { w[at] } else { 0 }
+pub fn get(w: &[u32], at: usize) -> u32 {
+    if at < w.len() { w[at] } else { 0 }
 }
 
-pub fn put(w: &mut Memory, at: usize, v: u32) {
-    if at < SIZE {
+pub fn put(w: &mut [u32], at: usize, v: u32) {
+    if at < w.len() {
         w[at] = v;
     }
 }
 
 // These words in the place of those from `to` on.
-pub fn put_words(w: &mut Memory, to: usize, words: &[u32]) {
+pub fn put_words(w: &mut [u32], to: usize, words: &[u32]) {
     let a = to % SPAN;
-    let mut i: usize = 0;
-    while i < words.len() {
-        put(w, a + i % SPAN, words[i]);
-        i += 1;
+    for (i, v) in words.iter().enumerate() {
+        put(w, a + i % SPAN, *v);
     }
 }
 
 // So many words are copied. From NOWHERE they are zeros, and to NOWHERE they change nothing.
-pub fn copy(w: &mut Memory, from: usize, to: usize, count: usize) {
+pub fn copy(w: &mut [u32], from: usize, to: usize, count: usize) {
     let a = from % SPAN;
     let b = to % SPAN;
     let n = count % SPAN;
-    let mut i: usize = 0;
-    while i < n {
+    for i in 0..n {
         let v = get(w, a + i);
         put(w, b + i, v);
-        i += 1;
     }
 }
 

@@ -1,15 +1,13 @@
 -- The refusals of lane against office as text (paper 02, U14), of any bytes: a table of them, each with its condition, and that one is printed exactly
 -- if the table has it (`game_refused`). When a verdict is 8 or 16 is said in `game/Theorems`. Assumes nothing.
-use Rattle.std.specs.Prelude.{ℕ, ◌<◌, ◌≡◌, Bool, true, false, ◌↔◌, eqb, get_or, if◌then◌else◌}
+use Rattle.std.specs.Prelude.{ℕ, ◌<◌, ◌≡◌, Bool, true, false, ◌↔◌, eqb, get_or, if◌then◌else◌, Option, Some, None}
 use Rattle.std.proofs.Math.Path.{refl}
 use Rattle.std.proofs.Common.{ap, arith}
 use mathlib.Core.List.{List, [], ◌∷◌}
 use borrow.Author.Tests.{eqb-true, eqb-false, eq-eqb, ne_eqb}
 use Rattle.spec.specs.Schedule.{Event, run}
-use Rattle.session.specs.declared.Decimal.{Decimal}
-use Rattle.session.specs.declared.Decimal.TheVariants.{Value, NotDecimal}
 use Rattle.session.specs.declared.EventLine.{EventLine}
-use Rattle.session.specs.declared.EventLine.TheVariants.{Start, Step, Outside}
+use Rattle.session.specs.declared.EventLine.TheVariants.{Start, Step}
 use Rattle.session.specs.Grammar.{InputLine, input_lines, parse_event_line}
 use Rattle.session.specs.Header.{HeaderRead, complete, incomplete, read_header}
 use Rattle.session.specs.Print.{refusal_line}
@@ -32,10 +30,10 @@ pub data NoGameAsked : List InputLine → Type 0 where
   -- there is no game's line
   missing : NoGameAsked []
   -- a line before it is outside the grammar: neither a game's nor an event's
-  line_outside : {l : InputLine} {ls : List InputLine} → parse_game_line l ≡ NotDecimal → NoEvent l → NoGameAsked (l ∷ ls)
+  line_outside : {l : InputLine} {ls : List InputLine} → parse_game_line l ≡ None → NoEvent l → NoGameAsked (l ∷ ls)
   -- one stands behind it
-  line_behind : {n : ℕ} {l k : InputLine} {ls : List InputLine} → parse_game_line l ≡ Value n → NoGameAsked (l ∷ k ∷ ls)
-  later : {l : InputLine} {ls : List InputLine} → parse_game_line l ≡ NotDecimal → NoGameAsked ls → NoGameAsked (l ∷ ls)
+  line_behind : {n : ℕ} {l k : InputLine} {ls : List InputLine} → parse_game_line l ≡ Some n → NoGameAsked (l ∷ k ∷ ls)
+  later : {l : InputLine} {ls : List InputLine} → parse_game_line l ≡ None → NoGameAsked ls → NoGameAsked (l ∷ ls)
 
 other : {A : Type 0} → ◌≡◌ {A = ℕ} 0 1 → A
 other z = absurd (omega arith)
@@ -45,26 +43,26 @@ unfolding asked line_then event_then first_event game_then
 not_asked [] e = missing
 not_asked (l ∷ ls) e = at_line (parse_game_line l) refl e (not_asked ls)
   where
-    at_event : parse_game_line l ≡ NotDecimal → (x : EventLine) → parse_event_line l ≡ x → (a : Asked) → asked ls ≡ a → event_then x a ≡ outside
+    at_event : parse_game_line l ≡ None → (x : Option EventLine) → parse_event_line l ≡ x → (a : Asked) → asked ls ≡ a → event_then x a ≡ outside
         → (asked ls ≡ outside → NoGameAsked ls) → NoGameAsked (l ∷ ls)
     at_event g x q outside p t ih = later g (ih p)
-    at_event g Outside q (asks es n) p t ih = line_outside g q
-    at_event g (Start k call tag) q (asks es n) p t ih = other cc
-    at_event g (Step k) q (asks es n) p t ih = other cc
+    at_event g None q (asks es n) p t ih = line_outside g q
+    at_event g (Some (Start k call tag)) q (asks es n) p t ih = other cc
+    at_event g (Some (Step k)) q (asks es n) p t ih = other cc
 
-    behind : {n : ℕ} → parse_game_line l ≡ Value n → (ks : List InputLine) → game_then n ks ≡ outside → NoGameAsked (l ∷ ks)
+    behind : {n : ℕ} → parse_game_line l ≡ Some n → (ks : List InputLine) → game_then n ks ≡ outside → NoGameAsked (l ∷ ks)
     behind q [] t = other cc
     behind q (k ∷ ks) t = line_behind q
 
-    at_line : (d : Decimal) → parse_game_line l ≡ d → line_then d l ls (asked ls) ≡ outside → (asked ls ≡ outside → NoGameAsked ls) → NoGameAsked (l ∷ ls)
-    at_line (Value n) q t ih = behind q ls t
-    at_line NotDecimal q t ih = at_event q (parse_event_line l) refl (asked ls) refl t ih
+    at_line : (d : Option ℕ) → parse_game_line l ≡ d → line_then d l ls (asked ls) ≡ outside → (asked ls ≡ outside → NoGameAsked ls) → NoGameAsked (l ∷ ls)
+    at_line (Some n) q t ih = behind q ls t
+    at_line None q t ih = at_event q (parse_event_line l) refl (asked ls) refl t ih
 
-then_outside : (x : EventLine) → event_then x outside ≡ outside
+then_outside : (x : Option EventLine) → event_then x outside ≡ outside
 unfolding event_then first_event
-then_outside (Start k call tag) = refl
-then_outside (Step k) = refl
-then_outside Outside = refl
+then_outside (Some (Start k call tag)) = refl
+then_outside (Some (Step k)) = refl
+then_outside None = refl
 
 asked_none : {ls : List InputLine} → NoGameAsked ls → asked ls ≡ outside
 unfolding asked line_then event_then game_then

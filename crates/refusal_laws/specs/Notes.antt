@@ -1,6 +1,6 @@
 -- The refusals of two lanes' notes as text (paper 02, U8), of any bytes: a table of them, each with its condition, and that one is
 -- printed exactly if the table has it (`notes_refused`). Assumes nothing.
-use Rattle.std.specs.Prelude.{ℕ, ◌<◌, ◌≡◌, refl, Bool, true, false, ◌&&◌, ◌||◌, ◌⊎◌, ◌↔◌, get_or}
+use Rattle.std.specs.Prelude.{ℕ, ◌<◌, ◌≡◌, refl, Bool, true, false, ◌&&◌, ◌||◌, ◌⊎◌, ◌↔◌, get_or, Option, Some, None}
 use Rattle.std.proofs.Common.{sym, ap, ◌∙◌, arith}
 use mathlib.Core.List.{List, [], ◌∷◌}
 use Rattle.std.proofs.Math.Logic.{inl, inr}
@@ -10,7 +10,7 @@ use Rattle.session.specs.Grammar.{InputLine, input_lines}
 use Rattle.session.specs.Print.{refusal_line}
 use Rattle.notes.specs.declared.Note.{Note}
 use Rattle.notes.specs.declared.NoteLine.{NoteLine}
-use Rattle.notes.specs.declared.NoteLine.TheVariants.{First, Second, Outside}
+use Rattle.notes.specs.declared.NoteLine.TheVariants.{First, Second}
 use Rattle.notes.specs.Orders.{Lane, first, second}
 use Rattle.notes.specs.Merge.{Found, order, none, Outcome as Merged, searched, refused, unfit, merge, search_all}
 use Rattle.notes.specs.Text.{parse_note_line, note_line, order_lines, outcome_lines, merge_lines, first_notes, second_notes, is_note, all_notes, notes_output}
@@ -22,13 +22,13 @@ use Rattle.refusal_laws.specs.LastLine.{Outcome, refuses, prints, refused_by, be
 
 -- "a line outside the grammar, too long or not closed" (paper 01)
 abbrev pub NoNote : InputLine → Type 0
-NoNote l = parse_note_line l ≡ Outside
+NoNote l = parse_note_line l ≡ None
 
-not_note : (x : NoteLine) → (is_note x ≡ false) ↔ (x ≡ Outside)
+not_note : (x : Option NoteLine) → (is_note x ≡ false) ↔ (x ≡ None)
 unfolding is_note
-not_note (First x) = (λ e. absurd (tf refl e), λ e. let z : ◌≡◌ {A = ℕ} 0 1 = cc in absurd (omega arith))
-not_note (Second x) = (λ e. absurd (tf refl e), λ e. let z : ◌≡◌ {A = ℕ} 0 1 = cc in absurd (omega arith))
-not_note Outside = (λ e. refl, λ e. refl)
+not_note (Some (First x)) = (λ e. absurd (tf refl e), λ e. let z : ◌≡◌ {A = ℕ} 0 1 = cc in absurd (omega arith))
+not_note (Some (Second x)) = (λ e. absurd (tf refl e), λ e. let z : ◌≡◌ {A = ℕ} 0 1 = cc in absurd (omega arith))
+not_note None = (λ e. refl, λ e. refl)
 
 is_every : (ls : List InputLine) → all_notes ls ≡ every (λ l. is_note (parse_note_line l)) ls
 unfolding all_notes every

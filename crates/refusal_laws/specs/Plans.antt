@@ -1,6 +1,6 @@
 -- The refusals of the planner's input as text (paper 02, U11), of any bytes: a table of them, each with its condition, and that one
 -- is printed exactly if the table has it (`plan_refused`). Assumes nothing.
-use Rattle.std.specs.Prelude.{ℕ, ◌≤◌, ◌<◌, List, [], ◌∷◌, ◌++◌, not, ◌⊎◌, ◌↔◌, leb, length, get_or}
+use Rattle.std.specs.Prelude.{ℕ, ◌≤◌, ◌<◌, List, [], ◌∷◌, ◌++◌, not, ◌⊎◌, ◌↔◌, leb, length, get_or, Option, Some, None}
 use Rattle.std.proofs.Math.Path.{◌≡◌, refl}
 use Rattle.std.proofs.Common.{ap, le-leb}
 use Rattle.std.proofs.Math.Bool.{true, false}
@@ -16,9 +16,9 @@ use Rattle.plans.specs.declared.Figures.{Figures}
 use Rattle.plans.specs.Plan.{PlanReply, plan}
 use Rattle.plan_laws.specs.Refusals.{VersionRight, PlanOf, other_version, longer_list, figured, plan_outcome, refused_11, refused_9}
 use Rattle.plan_text.specs.declared.Due.{Due}
-use Rattle.plan_text.specs.declared.Due.TheVariants.{Tasks, Version, Call, Nothing}
+use Rattle.plan_text.specs.declared.Due.TheVariants.{Tasks, Version, Call}
 use Rattle.plan_text.specs.declared.PlanLine.{PlanLine}
-use Rattle.plan_text.specs.declared.PlanLine.TheVariants.{Tasks as SaysTasks, Version as SaysVersion, Call as SaysCall, Outside}
+use Rattle.plan_text.specs.declared.PlanLine.TheVariants.{Tasks as SaysTasks, Version as SaysVersion, Call as SaysCall}
 use Rattle.plan_text.specs.Text.{line_says, PlanInput, no_input, after_line, after_lines, figures_lines, size_lines, reply_lines, plan_lines, in_grammar}
 use Rattle.plan_text.specs.Text.{plan_output, plan_transcript}
 use Rattle.refusal_laws.specs.LastLine.{Outcome, refuses, prints, refused_by, begins}
@@ -27,33 +27,33 @@ use Rattle.refusal_laws.specs.LastLine.{Outcome, refuses, prints, refused_by, be
 
 -- after what was read until now, some line is outside the grammar where it stands: "a line outside the grammar, too long or not closed" (paper 01)
 pub data LineOutside : PlanInput → List InputLine → Type 0 where
-  here : {p : PlanInput} {l : InputLine} {ls : List InputLine} → line_says p.due l ≡ Outside → LineOutside p (l ∷ ls)
+  here : {p : PlanInput} {l : InputLine} {ls : List InputLine} → line_says p.due l ≡ None → LineOutside p (l ∷ ls)
   later : {p : PlanInput} {l : InputLine} {ls : List InputLine} → LineOutside (after_line p (line_says p.due l)) ls → LineOutside p (l ∷ ls)
 
 other : {A : Type 0} → ◌≡◌ {A = ℕ} 0 1 → A
 other z = absurd (omega arith)
 
 -- what a line leaves due: never the tasks' line, and nothing only if it is outside the grammar
-not_tasks : (p : PlanInput) (x : PlanLine) → ¬ ((after_line p x).due ≡ Tasks)
+not_tasks : (p : PlanInput) (x : Option PlanLine) → ¬ ((after_line p x).due ≡ Some Tasks)
 unfolding after_line
-not_tasks p (SaysTasks n) e = other cc
-not_tasks p (SaysVersion n) e = other cc
-not_tasks p (SaysCall c) e = other cc
-not_tasks p Outside e = other cc
+not_tasks p (Some (SaysTasks n)) e = other cc
+not_tasks p (Some (SaysVersion n)) e = other cc
+not_tasks p (Some (SaysCall c)) e = other cc
+not_tasks p None e = other cc
 
-outside_alone : (p : PlanInput) (x : PlanLine) → ((after_line p x).due ≡ Nothing) ↔ (x ≡ Outside)
+outside_alone : (p : PlanInput) (x : Option PlanLine) → ((after_line p x).due ≡ None) ↔ (x ≡ None)
 unfolding after_line
-outside_alone p (SaysTasks n) = (λ e. other cc, λ e. other cc)
-outside_alone p (SaysVersion n) = (λ e. other cc, λ e. other cc)
-outside_alone p (SaysCall c) = (λ e. other cc, λ e. other cc)
-outside_alone p Outside = (λ e. refl, λ e. refl)
+outside_alone p (Some (SaysTasks n)) = (λ e. other cc, λ e. other cc)
+outside_alone p (Some (SaysVersion n)) = (λ e. other cc, λ e. other cc)
+outside_alone p (Some (SaysCall c)) = (λ e. other cc, λ e. other cc)
+outside_alone p None = (λ e. refl, λ e. refl)
 
-tasks_due : (ls : List InputLine) (p : PlanInput) → (after_lines p ls).due ≡ Tasks → (ls ≡ []) × (p.due ≡ Tasks)
+tasks_due : (ls : List InputLine) (p : PlanInput) → (after_lines p ls).due ≡ Some Tasks → (ls ≡ []) × (p.due ≡ Some Tasks)
 unfolding after_lines
 tasks_due [] p e = (refl, e)
 tasks_due (l ∷ ls) p e = absurd (not_tasks p (line_says p.due l) (tasks_due ls (after_line p (line_says p.due l)) e).1)
 
-nothing_due : (ls : List InputLine) (p : PlanInput) → (after_lines p ls).due ≡ Nothing → (p.due ≡ Nothing) ⊎ LineOutside p ls
+nothing_due : (ls : List InputLine) (p : PlanInput) → (after_lines p ls).due ≡ None → (p.due ≡ None) ⊎ LineOutside p ls
 unfolding after_lines
 nothing_due [] p e = inl e
 nothing_due (l ∷ ls) p e = elim (nothing_due ls (after_line p (line_says p.due l)) e) [
@@ -62,12 +62,12 @@ nothing_due (l ∷ ls) p e = elim (nothing_due ls (after_line p (line_says p.due
 ]
 
 -- with nothing due every line is outside the grammar
-stays : (ls : List InputLine) (p : PlanInput) → p.due ≡ Nothing → (after_lines p ls).due ≡ Nothing
+stays : (ls : List InputLine) (p : PlanInput) → p.due ≡ None → (after_lines p ls).due ≡ None
 unfolding after_lines after_line line_says
 stays [] p e = e
-stays (l ∷ ls) p e = stays ls (after_line p (line_says p.due l)) (ap (λ (d : Due). (after_line p (line_says d l)).due) e)
+stays (l ∷ ls) p e = stays ls (after_line p (line_says p.due l)) (ap (λ (d : Option Due). (after_line p (line_says d l)).due) e)
 
-outside_due : {p : PlanInput} {ls : List InputLine} → LineOutside p ls → (after_lines p ls).due ≡ Nothing
+outside_due : {p : PlanInput} {ls : List InputLine} → LineOutside p ls → (after_lines p ls).due ≡ None
 unfolding after_lines
 outside_due (here {p = p} {l = l} {ls = ls} e) = stays ls (after_line p (line_says p.due l)) ((outside_alone p (line_says p.due l)).1 e)
 outside_due (later a) = outside_due a
@@ -101,11 +101,11 @@ module _ (input : List ℕ) where
   unfolding in_grammar no_input after_lines
   grammar_iff = (to said.due refl, from)
     where
-      to : (d : Due) → said.due ≡ d → in_grammar d ≡ false → NoPlan
-      to Tasks q e = inl (tasks_due (input_lines input) no_input q).0
-      to Version q e = absurd (tf refl e)
-      to Call q e = absurd (tf refl e)
-      to Nothing q e = elim (nothing_due (input_lines input) no_input q) [ inl z ↦ other cc | inr a ↦ inr a ]
+      to : (d : Option Due) → said.due ≡ d → in_grammar d ≡ false → NoPlan
+      to (Some Tasks) q e = inl (tasks_due (input_lines input) no_input q).0
+      to (Some Version) q e = absurd (tf refl e)
+      to (Some Call) q e = absurd (tf refl e)
+      to None q e = elim (nothing_due (input_lines input) no_input q) [ inl z ↦ other cc | inr a ↦ inr a ]
 
       from : NoPlan → in_grammar said.due ≡ false
       from (inl e) = ap (λ (ls : List InputLine). in_grammar (after_lines no_input ls).due) e

@@ -1,7 +1,7 @@
 -- The refusals of a session's header and lines, of any bytes, each exactly under its condition. The transcript ends with refusal 10 exactly if
 -- the header is not complete, or it opens and some line after it is no event's (`refused_10_iff`); it is the opening's refusal alone exactly if the
 -- header's numbers call for it (`refused_opening_iff`). For a listing ends with another key, and two refusals have two numbers. Assumes nothing.
-use Rattle.std.specs.Prelude.{ℕ, ◌<◌, ◌≡◌, Bool, ◌&&◌, ◌⊎◌, ◌↔◌, eqb}
+use Rattle.std.specs.Prelude.{ℕ, ◌<◌, ◌≡◌, Bool, ◌&&◌, ◌⊎◌, ◌↔◌, eqb, Option, Some, None}
 use Rattle.std.proofs.Math.Path.{refl}
 use Rattle.std.proofs.Common.{sym, ap, ◌∙◌, arith}
 use mathlib.Core.List.{List, [], ◌∷◌, ◌++◌}
@@ -13,7 +13,7 @@ use Rattle.spec.specs.Machine.{Machine}
 use Rattle.spec.specs.Listed.{listed, head_of, size_of}
 use Rattle.spec.specs.Schedule.{run}
 use Rattle.session.specs.declared.EventLine.{EventLine}
-use Rattle.session.specs.declared.EventLine.TheVariants.{Start, Step, Outside}
+use Rattle.session.specs.declared.EventLine.TheVariants.{Start, Step}
 use Rattle.session.specs.declared.Header.{Header}
 use Rattle.session.specs.Grammar.{InputLine, input_lines, parse_event_line}
 use Rattle.session.specs.Header.{HeaderRead, complete, incomplete, read_header}
@@ -28,13 +28,13 @@ use Rattle.refusal_laws.specs.LastLine.{EndsIn, not_listing, one_number, same_re
 
 -- "a line outside the grammar, too long or not closed", among those after the header
 abbrev pub NoEvent : InputLine → Type 0
-NoEvent l = parse_event_line l ≡ Outside
+NoEvent l = parse_event_line l ≡ None
 
-not_event : (x : EventLine) → (is_event x ≡ false) ↔ (x ≡ Outside)
+not_event : (x : Option EventLine) → (is_event x ≡ false) ↔ (x ≡ None)
 unfolding is_event
-not_event (Start k call tag) = (λ e. let z : ◌≡◌ {A = ℕ} 0 1 = cc in absurd (omega arith), λ e. let z : ◌≡◌ {A = ℕ} 0 1 = cc in absurd (omega arith))
-not_event (Step k) = (λ e. let z : ◌≡◌ {A = ℕ} 0 1 = cc in absurd (omega arith), λ e. let z : ◌≡◌ {A = ℕ} 0 1 = cc in absurd (omega arith))
-not_event Outside = (λ e. refl, λ e. refl)
+not_event (Some (Start k call tag)) = (λ e. let z : ◌≡◌ {A = ℕ} 0 1 = cc in absurd (omega arith), λ e. let z : ◌≡◌ {A = ℕ} 0 1 = cc in absurd (omega arith))
+not_event (Some (Step k)) = (λ e. let z : ◌≡◌ {A = ℕ} 0 1 = cc in absurd (omega arith), λ e. let z : ◌≡◌ {A = ℕ} 0 1 = cc in absurd (omega arith))
+not_event None = (λ e. refl, λ e. refl)
 
 is_every : (ls : List InputLine) → all_events ls ≡ every (λ l. is_event (parse_event_line l)) ls
 unfolding all_events every

@@ -8,11 +8,13 @@ use native.Mathlib.Omega.{arith}
 use borrow.Author.Tests.{eq-eqb, ne_eqb, ltb-false}
 use lib.Dec.{eqb, leb, ltb}
 use lib.ListN.{length, drop}
+use Rattle.std.specs.Prelude.{Err}
+use Rattle.laws.specs.RefusalNumbers.{never_0, numbered_back}
+use Rattle.spec.specs.declared.Refusal.{Refusal}
+use Rattle.spec.specs.Outputs.{Listing}
 use Rattle.spec.specs.declared.Config.{Config}
-use Rattle.spec.specs.declared.Listing.{Listing}
-use Rattle.spec.specs.declared.Listing.TheVariants.{Refused}
 use Rattle.spec.specs.Lists.{concat_map}
-use Rattle.spec.specs.Numbers.{output_words}
+use Rattle.spec.specs.Numbers.{output_words, refusal_number, refusal_numbered}
 use Rattle.spec.specs.Machine.{Machine}
 use Rattle.spec.specs.Words.{overwrite}
 use Rattle.spec.specs.Sound.{sound}
@@ -24,7 +26,6 @@ use Rattle.spec.specs.Schedule.{Event, event, run, run_opened, schedule}
 use Rattle.schedule_events.specs.Events.{events_of, listing_number}
 use Rattle.schedule_events.specs.EventLaws.{events_length, event_at, events_on, events_end}
 use Rattle.schedule_words.proofs.Laws.{output_length, over_none, over_then}
-use Rattle.opening.proofs.Laws.{refusal_small}
 use Rattle.schedule.specs.Encoding.{room_for, decoded, list_opened, run_words}
 
 -- ---- what is left: the machine and the outputs of a run are those of the events es from the machine y on, whose words go to
@@ -95,10 +96,13 @@ outs_length y (e ∷ es) = ap suc (outs_length (event y e).machine es)
 
 module _ (g : Config) (ns bs ws os ts : List ℕ) (refusal : ℕ) (r : refusal ≡ (opening g ns bs).refusal) (y₀ : Machine)
     (o : y₀ ≡ (opening g ns bs).machine) where
-  pub not_run : (refusal ≡ 0 → ⊥)
-      → record { refusal = refusal; ran = 0; machine = y₀; outs = os; listing = Refused refusal; tags = ts } ≡ run_words g ns bs ws os ts
+  pub not_run : (why : Refusal) → refusal ≡ refusal_number why
+      → record { refusal = refusal; ran = 0; machine = y₀; outs = os; listing = Err why; tags = ts } ≡ run_words g ns bs ws os ts
   unfolding run_words schedule run_opened list_opened concat_map
-  not_run d = rw (← r, ← o, ne_eqb refusal 0 d, over_none os 0)
+  not_run why e =
+      let d : ¬ (refusal ≡ 0) = λ z. never_0 why (sym e ∙ z) in
+      let same : refusal_numbered refusal ≡ why = ap refusal_numbered e ∙ numbered_back why in
+      rw (← r, ← o, ne_eqb refusal 0 d, over_none os 0, same)
 
   module _ (z : refusal ≡ 0) (n : ℕ) (m : n ≡ room_for ws os) (y : Machine) (e : y ≡ (run y₀ (events_of n ws)).machine)
       (os' : List ℕ) (f : os' ≡ overwrite os 0 (concat_map output_words (run y₀ (events_of n ws)).outs))
@@ -109,22 +113,3 @@ module _ (g : Config) (ns bs ws os ts : List ℕ) (refusal : ℕ) (r : refusal �
         let q : length (run y₀ (events_of n ws)).outs ≡ n = outs_length y₀ (events_of n ws) ∙ events_length n ws in
         rw (← r, ← o, eq-eqb refusal 0 z, ← m, ← e, ← f, q, ← says≡, ← words≡)
         (ap (λ (x : ℕ). record { refusal = x; ran = n; machine = y; outs = os'; listing = l; tags = ts' }) (sym z))
-
--- ---- the number for C is small: at most 64 tags are listed, and refusals are numbered to 9
-
-abbrev Small : Written → Type 0
-Small l = listing_number l.says ≤ 267
-
-pub list_small : (y : Machine) (w : List ℕ) → Small (list y w)
-unfolding list
-list_small y w =
-    choose Small (not (sound y) || ltb 64 (length (listed y))) _ _ (λ p. omega arith) (λ p.
-    choose Small (not (leb 64 (length w))) _ _ (λ q. omega arith) (λ q.
-    let z = ltb-false 64 (length (listed y)) (or_none (not (sound y)) (ltb 64 (length (listed y))) p).1 in omega arith))
-
-pub number_small : (g : Config) (ns bs ws os ts : List ℕ) → listing_number (run_words g ns bs ws os ts).listing ≤ 267
-unfolding run_words list_opened
-number_small g ns bs ws os ts =
-    let o = (opening g ns bs).refusal in
-    let y = (schedule g ns bs (decoded ws os)).machine in
-    choose Small (eqb o 0) (list y ts) _ (λ p. list_small y ts) (λ p. let z = refusal_small g ns bs in omega arith)

@@ -17,8 +17,6 @@ ghost use Rattle.schedule_events.specs.Events.{event_of, events_of};
 ghost use Rattle.schedule.specs.Encoding.{c_config, decoded, run_words, result_of};
 
 use lines::Moved;
-use schedule_events::Asked;
-use soundness::Checked;
 use spec::{Config, Listing, State, Task};
 
 // What a run gives: the opening's refusal, or 0; the number of events run; the state; the list's answer, in whose place the refusal
@@ -35,32 +33,24 @@ pub struct Outcome {
 pub fn config(tasks: u32, version: u32, withdrawn: u32) -> Config
     ensures { result ≡ c_config tasks version withdrawn }
 {
-    let g = state::config(tasks);
-    let h = state::with_version(g, version);
-    state::with_zero_withdrawn(h, withdrawn != 0)
+    let g = state::with_version(state::config(tasks), version);
+    state::with_zero_withdrawn(g, withdrawn != 0)
 }
 
-// What a check of sound memory gives for task k, where c is record k mod 8: that record, or an idle one where there is no task k.
-pub fn known_sound(c: Task, k: u32) -> Checked
+// What a check of sound memory gives for task k, where c is record k mod 8: that record, or an idle one where there is no task k. (known_memory has the same
+// for memory that may be spoilt; here it is known, and a schedule stands on no caller's flag.)
+pub fn known_sound(c: Task, k: u32) -> Option<Task>
     ensures { (y : Machine) → length y.state.task ≡ 8 → c ≡ task_of y (k % 8) → result ≡ told true (task_of y k) }
 {
-    if 8 <= k {
-        let none = state::idle();
-        return Checked {
-            sound: true,
-            task: none,
-        };
-    }
-    Checked {
-        sound: true,
-        task: c,
-    }
+    let task = if k < 8 { c } else { state::idle() };
+    Some(task)
 }
 
 // Runs one event, given by its words, with what a check of memory gives; gives what it changes of the state.
+#[tactic(auto, unfolding(spec::specs::Schedule::event, schedule_events::specs::Events::event_asked))]
 fn run_event(
     s: State,
-    d: Checked,
+    d: Option<Task>,
     kind: u32,
     task: u32,
     tag: u32,
@@ -72,8 +62,8 @@ fn run_event(
         (event_of kind task tag) }
 {
     match schedule_events::asked_by(kind) {
-        Asked::Start(call) => checked_start::start(s, d, task, call, tag),
-        Asked::Step => checked_step::step(s, d, task, ns, bs),
+        Some(call) => checked_start::start(s, d, task, call, tag),
+        None => checked_step::step(s, d, task, ns, bs),
     }
 }
 
@@ -95,25 +85,20 @@ pub fn run_events(
         (run (machine_of s ns.old bs.old) (events_of n events.now)).outs)) }
 {
     let mut t = s;
-    let mut i = 0;
-    while i < n {
-        let next = i + 1;
+    for i in 0..n {
         let at = 4 * i;
         let k = events[at + 1];
         let c = t.task[(k % 8) as usize];
         let d = known_sound(c, k);
         let m = run_event(t, d, events[at], k, events[at + 2], ns, bs);
-        let out = m.out;
-        schedule_words::write_output(outs, i, out);
-        if lines::changes(out, k) {
+        schedule_words::write_output(outs, i, m.out);
+        if lines::changes(m.out, k) {
             t.head = m.head;
             t.last_node = m.last_node;
             t.last_bucket = m.last_bucket;
             let x = m.task;
-            let j = k as usize;
-            t.task[j] = x;
+            t.task[k as usize] = x;
         }
-        i = next;
     }
     t
 }
@@ -138,23 +123,21 @@ pub fn run(
         → NoEight (schedule g ns.old bs.old (decoded events.now outs.old)).outs }
 {
     let o = opening::open(g, ns, bs);
-    let refusal = o.refusal;
     let s = o.state;
-    if refusal != 0 {
+    if let Some(why) = o.refusal {
         return Outcome {
-            refusal,
+            refusal: why.number(),
             ran: 0,
             state: s,
-            listing: Listing::Refused(refusal),
+            listing: Err(why),
         };
     }
-    let n = schedule_events::number_of_events(events.len(), outs.len());
-    let t = run_events(s, n, events, ns, bs, outs);
-    let l = queries::list(t, ns, bs, tags);
+    let ran = schedule_events::number_of_events(events.len(), outs.len());
+    let state = run_events(s, ran, events, ns, bs, outs);
     Outcome {
         refusal: 0,
-        ran: n,
-        state: t,
-        listing: l,
+        ran,
+        state,
+        listing: queries::list(state, ns, bs, tags),
     }
 }

@@ -5,8 +5,9 @@ ghost use Rattle.std.specs.Prelude.{◌≡◌, ◌*◌, ◌+◌, ◌≤◌, leng
 ghost use Rattle.spec.specs.Numbers.{answer_number, occupancy_number, output_words};
 ghost use Rattle.spec.specs.Words.{overwrite};
 
-use spec::{Answer, Occupancy, Output};
+use spec::{Answer, Output, Progress};
 
+// (A table here and no method of Answer: the numbers are those of these words, which no crate below writes.)
 pub fn answer_number(a: Answer) -> u32
     ensures { result ≡ answer_number a }
 {
@@ -20,38 +21,40 @@ pub fn answer_number(a: Answer) -> u32
     }
 }
 
-fn occupancy_number(o: Occupancy) -> u32
+fn occupancy_number(o: Option<u32>) -> u32
     ensures { result ≡ occupancy_number o }
 {
-    match o {
-        Occupancy::NotGiven => 0,
-        Occupancy::Tags(n) => n,
-    }
+    o.unwrap_or(0)
 }
 
 fn output_words(out: Output) -> [u32; 4]
     ensures { result ≡ output_words out }
 {
     match out {
-        Output::At(line) => [0, line, 0, 0],
-        Output::End(a, own, full) => [1, answer_number(a), own as u32, occupancy_number(full)],
-        Output::Refuse(why) => [2, why, 0, 0],
+        Ok(Progress::At(line)) => [0, line, 0, 0],
+        Ok(Progress::End(a, own, full)) => [
+            1,
+            answer_number(a),
+            u32::from(own),
+            occupancy_number(full),
+        ],
+        Err(why) => [2, why.number(), 0, 0],
     }
 }
 
 // Writes the four words of any output, the output number i.
+#[tactic(auto, using(crate::proofs::Laws::over_part))]
 pub fn write_words(outs: &mut [u32], i: usize, w: [u32; 4])
     requires { 4 * i + 4 ≤ length outs.old }
     ensures { outs.new ≡ overwrite outs.old (4 * i) w }
 {
     let at = 4 * i;
-    pool::write_over(&mut outs[at..], &w)
+    outs[at..at + 4].copy_from_slice(&w)
 }
 
 pub fn write_output(outs: &mut [u32], i: usize, out: Output)
     requires { 4 * i + 4 ≤ length outs.old }
     ensures { outs.new ≡ overwrite outs.old (4 * i) (output_words out) }
 {
-    let w = output_words(out);
-    write_words(outs, i, w)
+    write_words(outs, i, output_words(out))
 }

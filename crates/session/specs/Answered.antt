@@ -1,8 +1,8 @@
 -- Any bytes at all are answered: what a session prints is never empty, `answered`. Assumes nothing.
-use Rattle.std.specs.Prelude.{List, Bool, true, false, ℕ, ◌≤◌, eqb, length, replicate, if◌then◌else◌}
+use Rattle.std.specs.Prelude.{List, Bool, true, false, ℕ, ◌≤◌, eqb, length, replicate, if◌then◌else◌, Ok, Err}
 use Rattle.std.proofs.Common.{arith, length-append}
-use Rattle.spec.specs.declared.Listing.{Listing}
-use Rattle.spec.specs.declared.Listing.TheVariants.{Count, Refused}
+use Rattle.spec.specs.Numbers.{refusal_number}
+use Rattle.spec.specs.Outputs.{Listing}
 use Rattle.spec.specs.Machine.{Machine}
 use Rattle.spec.specs.Listed.{head_of, size_of}
 use Rattle.spec.specs.Entries.{Opened, list}
@@ -24,8 +24,8 @@ refusal_some r = key_some _ r
 
 listing_some : (y : Machine) (l : Listing) → 1 ≤ length (final_listing y l)
 unfolding final_listing listing_lines
-listing_some y (Count n) = simp length-append (omega (arith, key_some size_key (size_of y (head_of y))))
-listing_some y (Refused r) = refusal_some r
+listing_some y (Ok n) = simp length-append (omega (arith, key_some size_key (size_of y (head_of y))))
+listing_some y (Err r) = refusal_some (refusal_number r)
 
 end_some : (b : Bool) (y : Machine) → 1 ≤ length (end_lines b y)
 unfolding end_lines

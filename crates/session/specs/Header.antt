@@ -1,11 +1,9 @@
 -- The header of a session, a line at a time: "First `tasks=`, `nodes=`, `buckets=`, in that order". Paper 02, U3: "`version=` becomes
 -- the fourth header line; a session without it is version 1"; U9: "the header line `blank=no` after the version, or after the buckets where
 -- no version stands; those without it run under the old rule". Assumes nothing.
-use Rattle.std.specs.Prelude.{ℕ, List, [], ◌∷◌, Bool, true, false, if◌then◌else◌}
+use Rattle.std.specs.Prelude.{ℕ, List, [], ◌∷◌, Bool, true, false, if◌then◌else◌, Option, Some, None}
 use Rattle.spec.specs.declared.Config.{Config}
 use Rattle.spec.specs.Machine.{config_of, with_version, with_zero_withdrawn, zero_config}
-use Rattle.session.specs.declared.Decimal.{Decimal}
-use Rattle.session.specs.declared.Decimal.TheVariants.{Value, NotDecimal}
 use Rattle.session.specs.declared.Header.{Header}
 use Rattle.session.specs.declared.HeaderLine.{HeaderLine}
 use Rattle.session.specs.declared.HeaderLine.TheVariants.{Tasks, Nodes, Buckets, Version, Blank}
@@ -24,7 +22,7 @@ empty_header = header zero_config 0 0
 -- ---- a line, where a header line is due
 
 -- the number of a line that is of the form of this header line; `blank=no` has none, and counts as 0
-unfoldable pub line_number : HeaderLine → InputLine → Decimal
+unfoldable pub line_number : HeaderLine → InputLine → Option ℕ
 line_number Tasks l = parse_header_line tasks_key l
 line_number Nodes l = parse_header_line nodes_key l
 line_number Buckets l = parse_header_line buckets_key l
@@ -48,9 +46,9 @@ optional Version = true
 optional Blank = true
 
 -- what a line says if it is of the form of this header line, and if it is not
-unfoldable pub number_step : HeaderLine → Header → Decimal → HeaderStep → HeaderStep
-number_step due h (Value n) otherwise = with_number due h n
-number_step due h NotDecimal otherwise = otherwise
+unfoldable pub number_step : HeaderLine → Header → Option ℕ → HeaderStep → HeaderStep
+number_step due h (Some n) otherwise = with_number due h n
+number_step due h None otherwise = otherwise
 
 -- what a line says that is not of the form of the line due: where that may be left out it is the next one, "after the version, or after the
 -- buckets where no version stands", and after the last it is no header line

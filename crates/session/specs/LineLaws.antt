@@ -1,8 +1,6 @@
 -- What a line says that is of no header line's form: `no_header_line`; and one that is too long or not closed: `outside_step`, and
 -- `outside_event` where it is an event's turn. Assumes nothing.
-use Rattle.std.specs.Prelude.{◌≡◌, false, if◌then◌else◌}
-use Rattle.session.specs.declared.Decimal.TheVariants.{NotDecimal}
-use Rattle.session.specs.declared.EventLine.TheVariants.{Outside}
+use Rattle.std.specs.Prelude.{◌≡◌, false, if◌then◌else◌, None}
 use Rattle.session.specs.declared.Header.{Header}
 use Rattle.session.specs.declared.HeaderLine.{HeaderLine}
 use Rattle.session.specs.declared.HeaderLine.TheVariants.{Tasks, Nodes, Buckets, Version, Blank}
@@ -12,7 +10,7 @@ use Rattle.session.specs.Header.{line_number, optional, number_step, other_step,
 
 -- ---- a line that is of no header line's form, whichever is due
 
-pub no_header_line : (due : HeaderLine) (h : Header) (l : InputLine) → ((d : HeaderLine) → line_number d l ≡ NotDecimal)
+pub no_header_line : (due : HeaderLine) (h : Header) (l : InputLine) → ((d : HeaderLine) → line_number d l ≡ None)
     → header_step due h l ≡ (if optional due then Absent h else Missing)
 unfolding header_step number_step other_step optional
 no_header_line Tasks h l none_of = rw (none_of Tasks)
@@ -23,7 +21,7 @@ no_header_line Blank h l none_of = rw (none_of Blank)
 
 -- ---- a line that is too long or not closed, whatever its bytes are
 
-pub outside_number : (d : HeaderLine) (l : InputLine) → admissible l ≡ false → line_number d l ≡ NotDecimal
+pub outside_number : (d : HeaderLine) (l : InputLine) → admissible l ≡ false → line_number d l ≡ None
 unfolding line_number parse_header_line parse_fixed_line
 outside_number Tasks l e = rw e
 outside_number Nodes l e = rw e
@@ -31,6 +29,6 @@ outside_number Buckets l e = rw e
 outside_number Version l e = rw e
 outside_number Blank l e = rw e
 
-pub outside_event : (l : InputLine) → admissible l ≡ false → parse_event_line l ≡ Outside
+pub outside_event : (l : InputLine) → admissible l ≡ false → parse_event_line l ≡ None
 unfolding parse_event_line
 outside_event l e = rw e

@@ -1,13 +1,12 @@
 -- The greatest lengths of the lines that a session prints, for an event and for the final listing of at most 64 tags. They tell a
 -- caller how much room to lend. Assumes nothing.
-use Rattle.std.specs.Prelude.{List, [], ◌∷◌, ◌++◌, Bool, true, false, ℕ, zero, suc, ◌+◌, ◌*◌, ◌/◌, ◌%◌, ◌≤◌, ltb, length, if◌then◌else◌}
+use Rattle.std.specs.Prelude.{List, [], ◌∷◌, ◌++◌, Bool, true, false, ℕ, zero, suc, ◌+◌, ◌*◌, ◌/◌, ◌%◌, ◌≤◌, ltb, length, if◌then◌else◌, Option, Some, None, Ok, Err}
 use Rattle.std.proofs.Common.{arith, length-append}
 use Rattle.spec.specs.declared.Answer.{Answer}
 use Rattle.spec.specs.declared.Answer.TheVariants.{Yes, No, Full, Done, Lost, Limit}
-use Rattle.spec.specs.declared.Occupancy.{Occupancy}
-use Rattle.spec.specs.declared.Occupancy.TheVariants.{NotGiven, Tags}
-use Rattle.spec.specs.declared.Output.{Output}
-use Rattle.spec.specs.declared.Output.TheVariants.{At, End, Refuse}
+use Rattle.spec.specs.Outputs.{Output}
+use Rattle.spec.specs.declared.Progress.TheVariants.{At, End}
+use Rattle.spec.specs.Numbers.{refusal_number}
 use Rattle.session.specs.Keys.{tag_key, size_key, tags_key}
 use Rattle.session.specs.Print.{decimal_digits, decimal, key_line, answer_word, occupancy_field, refusal_line, output_line, tag_lines, listing_lines}
 
@@ -52,17 +51,17 @@ word_length Done = omega arith
 word_length Lost = omega arith
 word_length Limit = omega arith
 
-field_length : (full : Occupancy) → length (occupancy_field full) ≤ 21
+field_length : (full : Option ℕ) → length (occupancy_field full) ≤ 21
 unfolding occupancy_field
-field_length NotGiven = omega arith
-field_length (Tags n) = simp length-append (omega (arith, decimal_length n))
+field_length None = omega arith
+field_length (Some n) = simp length-append (omega (arith, decimal_length n))
 
 pub output_length : (k : ℕ) (o : Output) → length (output_line k o) ≤ longest_line
 unfolding output_line
-output_length k (At l) = simp length-append (omega (arith, decimal_length k, decimal_length l))
-output_length k (End a own full) =
+output_length k (Ok (At l)) = simp length-append (omega (arith, decimal_length k, decimal_length l))
+output_length k (Ok (End a own full)) =
     simp length-append (omega (arith, decimal_length k, word_length a, decimal_length own, field_length full))
-output_length k (Refuse r) = omega (arith, refusal_length r)
+output_length k (Err r) = omega (arith, refusal_length (refusal_number r))
 
 tags_length : (ts : List ℕ) → length (tag_lines ts) ≤ 25 * length ts
 unfolding tag_lines

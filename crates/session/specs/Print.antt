@@ -1,13 +1,12 @@
 -- The lines that a session prints, as bytes: "`at=task,next line`, or `end=task,answer,own steps`, or `refuse=number`; at the end
 -- of input `size=` the head's size, `tags=` their count, and a `tag=` each"; how full an ended insert's or remove's bucket is, "as a
 -- fourth field on those end lines only". Assumes nothing.
-use Rattle.std.specs.Prelude.{ℕ, zero, suc, ◌+◌, ◌/◌, ◌%◌, List, [], ◌∷◌, ◌++◌, ltb, length, if◌then◌else◌}
+use Rattle.std.specs.Prelude.{ℕ, zero, suc, ◌+◌, ◌/◌, ◌%◌, List, [], ◌∷◌, ◌++◌, ltb, length, if◌then◌else◌, Option, Some, None, Ok, Err}
 use Rattle.spec.specs.declared.Answer.{Answer}
 use Rattle.spec.specs.declared.Answer.TheVariants.{Yes, No, Full, Done, Lost, Limit}
-use Rattle.spec.specs.declared.Occupancy.{Occupancy}
-use Rattle.spec.specs.declared.Occupancy.TheVariants.{NotGiven, Tags}
-use Rattle.spec.specs.declared.Output.{Output}
-use Rattle.spec.specs.declared.Output.TheVariants.{At, End, Refuse}
+use Rattle.spec.specs.Outputs.{Output}
+use Rattle.spec.specs.declared.Progress.TheVariants.{At, End}
+use Rattle.spec.specs.Numbers.{refusal_number}
 use Rattle.session.specs.Keys.{newline, comma, at_key, end_key, refuse_key, size_key, tags_key, tag_key, yes_word, no_word, full_word, done_word}
 use Rattle.session.specs.Keys.{lost_word, limit_word}
 
@@ -36,19 +35,19 @@ answer_word Lost = lost_word
 answer_word Limit = limit_word
 
 -- the fourth field of an end line, where the number of tags is given
-unfoldable pub occupancy_field : Occupancy → List ℕ
-occupancy_field NotGiven = []
-occupancy_field (Tags n) = (comma ∷ []) ++ decimal n
+unfoldable pub occupancy_field : Option ℕ → List ℕ
+occupancy_field None = []
+occupancy_field (Some n) = (comma ∷ []) ++ decimal n
 
 unfoldable pub refusal_line : ℕ → List ℕ
 refusal_line r = key_line refuse_key r
 
 -- the line for what task k's start or step answers
 unfoldable pub output_line : ℕ → Output → List ℕ
-output_line k (At l) = at_key ++ decimal k ++ (comma ∷ []) ++ decimal l ++ (newline ∷ [])
-output_line k (End a own full) =
+output_line k (Ok (At l)) = at_key ++ decimal k ++ (comma ∷ []) ++ decimal l ++ (newline ∷ [])
+output_line k (Ok (End a own full)) =
     end_key ++ decimal k ++ (comma ∷ []) ++ answer_word a ++ (comma ∷ []) ++ decimal own ++ occupancy_field full ++ (newline ∷ [])
-output_line k (Refuse r) = refusal_line r
+output_line k (Err r) = refusal_line (refusal_number r)
 
 unfoldable pub tag_lines : List ℕ → List ℕ
 tag_lines [] = []

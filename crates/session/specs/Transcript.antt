@@ -1,16 +1,15 @@
 -- What a session prints for an input, whole: `transcript`. The header is read, its numbers open the machine, the lines after it
 -- are a schedule, and the outputs of its run are printed, then the final listing. Assumes nothing.
-use Rattle.std.specs.Prelude.{ℕ, ◌*◌, List, [], ◌∷◌, ◌++◌, Bool, true, false, ◌&&◌, eqb, replicate, if◌then◌else◌}
-use Rattle.spec.specs.declared.Listing.{Listing}
-use Rattle.spec.specs.declared.Listing.TheVariants.{Count, Refused}
-use Rattle.spec.specs.declared.Output.{Output}
+use Rattle.std.specs.Prelude.{ℕ, ◌*◌, List, [], ◌∷◌, ◌++◌, Bool, true, false, ◌&&◌, eqb, replicate, if◌then◌else◌, Option, Some, None, Ok, Err}
+use Rattle.spec.specs.Numbers.{refusal_number}
+use Rattle.spec.specs.Outputs.{Output, Listing}
 use Rattle.spec.specs.Machine.{Machine}
 use Rattle.spec.specs.Sound.{within}
 use Rattle.spec.specs.Listed.{listed, head_of, size_of}
 use Rattle.spec.specs.Entries.{Opened, opening, list}
 use Rattle.spec.specs.Schedule.{Event, starts, steps, Ran, run}
 use Rattle.session.specs.declared.EventLine.{EventLine}
-use Rattle.session.specs.declared.EventLine.TheVariants.{Start, Step, Outside}
+use Rattle.session.specs.declared.EventLine.TheVariants.{Start, Step}
 use Rattle.session.specs.declared.Header.{Header}
 use Rattle.session.specs.Grammar.{InputLine, input_lines, parse_event_line}
 use Rattle.session.specs.Header.{HeaderRead, complete, incomplete, read_header}
@@ -19,20 +18,20 @@ use Rattle.session.specs.Print.{refusal_line, output_line, listing_lines}
 -- ---- the events
 
 -- the events that lines ask for, up to a line outside the grammar
-unfoldable pub add_event : EventLine → List Event → List Event
-add_event (Start k call tag) es = starts k call tag ∷ es
-add_event (Step k) es = steps k ∷ es
-add_event Outside es = []
+unfoldable pub add_event : Option EventLine → List Event → List Event
+add_event (Some (Start k call tag)) es = starts k call tag ∷ es
+add_event (Some (Step k)) es = steps k ∷ es
+add_event None es = []
 
 unfoldable pub events : List InputLine → List Event
 events [] = []
 events (l ∷ ls) = add_event (parse_event_line l) (events ls)
 
 -- no line is outside the grammar
-unfoldable pub is_event : EventLine → Bool
-is_event (Start k call tag) = true
-is_event (Step k) = true
-is_event Outside = false
+unfoldable pub is_event : Option EventLine → Bool
+is_event (Some (Start k call tag)) = true
+is_event (Some (Step k)) = true
+is_event None = false
 
 unfoldable pub all_events : List InputLine → Bool
 all_events [] = true
@@ -53,8 +52,8 @@ output_lines (e ∷ es) (o ∷ os) = output_line (task_in e) o ++ output_lines e
 -- "at the end of input `size=` the head's size, `tags=` their count, and a `tag=` each": of the tags that a list call gives. From
 -- an opening onward it is never refused
 unfoldable pub final_listing : Machine → Listing → List ℕ
-final_listing y (Count n) = listing_lines (size_of y (head_of y)) (listed y)
-final_listing y (Refused r) = refusal_line r
+final_listing y (Ok n) = listing_lines (size_of y (head_of y)) (listed y)
+final_listing y (Err r) = refusal_line (refusal_number r)
 
 -- "After 10 .. it prints nothing more": the listing only where no line was outside the grammar
 unfoldable pub end_lines : Bool → Machine → List ℕ

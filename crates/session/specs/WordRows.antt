@@ -1,13 +1,13 @@
 -- Rows of a session's words, read and printed: each answer's, each call's with one letter more, digits and their neighbours, and the largest
 -- pools. Assumes nothing.
-use Rattle.std.specs.Prelude.{◌≡◌, refl, [], ◌∷◌, map}
+use Rattle.std.specs.Prelude.{◌≡◌, refl, [], ◌∷◌, map, Some, None, Ok, Err}
+use Rattle.spec.specs.declared.Refusal.TheVariants.{Withdrawn}
 use Rattle.spec.specs.declared.Answer.TheVariants.{Yes, No, Full, Done, Lost, Limit}
 use Rattle.spec.specs.declared.Call.TheVariants.{Insert, Remove, Contains, Grow, Shrink}
-use Rattle.spec.specs.declared.Output.TheVariants.{At, Refuse}
+use Rattle.spec.specs.declared.Progress.TheVariants.{At}
 use Rattle.spec.specs.Rows.{ended, counted}
 use Rattle.spec.specs.Everything.{everything}
-use Rattle.session.specs.declared.Decimal.TheVariants.{Value, NotDecimal}
-use Rattle.session.specs.declared.EventLine.TheVariants.{Start, Step, Outside}
+use Rattle.session.specs.declared.EventLine.TheVariants.{Start, Step}
 use Rattle.session.specs.Ascii.{codes, ascii}
 use Rattle.session.specs.Grammar.{parse_number, parse_event}
 use Rattle.session.specs.Print.{output_line}
@@ -20,7 +20,7 @@ use Rattle.session.specs.Everything.{session_definitions}
 pub lines_printed :
     map (output_line 7)
     (counted Yes 3 1 ∷ counted No 12 64 ∷ counted Full 24 64 ∷ counted Yes 3 0 ∷ ended Done 292 ∷ ended Lost 7 ∷ ended Limit 1 ∷ ended No 65535
-    ∷ At 50 ∷ Refuse 14 ∷ [])
+    ∷ Ok (At 50) ∷ Err Withdrawn ∷ [])
     ≡ map ascii
     ("end=7,yes,3,1\n" ∷ "end=7,no,12,64\n" ∷ "end=7,full,24,64\n" ∷ "end=7,yes,3,0\n" ∷ "end=7,done,292\n" ∷ "end=7,lost,7\n" ∷ "end=7,limit,1\n"
     ∷ "end=7,no,65535\n" ∷ "at=7,50\n" ∷ "refuse=14\n" ∷ [])
@@ -33,8 +33,8 @@ lines_printed = refl
 pub numbers_read :
     map (λ s. parse_number (ascii s))
     ("0" ∷ "9" ∷ "4294967295" ∷ "4294967296" ∷ "/" ∷ ":" ∷ "1/" ∷ "1:" ∷ "/1" ∷ ":1" ∷ "00" ∷ "01" ∷ "-1" ∷ " 1" ∷ "1 " ∷ "" ∷ [])
-    ≡ Value 0 ∷ Value 9 ∷ Value 4294967295 ∷ NotDecimal ∷ NotDecimal ∷ NotDecimal ∷ NotDecimal ∷ NotDecimal ∷ NotDecimal ∷ NotDecimal
-    ∷ NotDecimal ∷ NotDecimal ∷ NotDecimal ∷ NotDecimal ∷ NotDecimal ∷ NotDecimal ∷ []
+    ≡ Some 0 ∷ Some 9 ∷ Some 4294967295 ∷ None ∷ None ∷ None ∷ None ∷ None ∷ None ∷ None
+    ∷ None ∷ None ∷ None ∷ None ∷ None ∷ None ∷ []
 unfolding everything session_definitions codes ascii
 numbers_read = refl
 
@@ -42,7 +42,7 @@ numbers_read = refl
 pub events_read :
     map (λ s. parse_event (ascii s))
     ("start=0,insert,5" ∷ "start=1,remove,6" ∷ "start=2,contains,7" ∷ "start=3,grow" ∷ "start=4,shrink" ∷ "step=5" ∷ [])
-    ≡ Start 0 Insert 5 ∷ Start 1 Remove 6 ∷ Start 2 Contains 7 ∷ Start 3 Grow 0 ∷ Start 4 Shrink 0 ∷ Step 5 ∷ []
+    ≡ Some (Start 0 Insert 5) ∷ Some (Start 1 Remove 6) ∷ Some (Start 2 Contains 7) ∷ Some (Start 3 Grow 0) ∷ Some (Start 4 Shrink 0) ∷ Some (Step 5) ∷ []
 unfolding everything session_definitions codes ascii
 events_read = refl
 
@@ -52,8 +52,8 @@ pub not_events :
     ("start=0,inserts,5" ∷ "start=0,inser,5" ∷ "start=0,insertX5" ∷ "start=0,removes,5" ∷ "start=0,removeX5" ∷ "start=0,containss,5"
     ∷ "start=0,containsX5" ∷ "start=0,grows" ∷ "start=0,gro" ∷ "start=0,grow,5" ∷ "start=0,shrinks" ∷ "start=0,shrink,5" ∷ "start=0,insert,"
     ∷ "start=0,insert" ∷ "start=0" ∷ "start=0,step" ∷ "steps=0" ∷ "step=0," ∷ "step=" ∷ "Step=0" ∷ "start =0,grow" ∷ "" ∷ [])
-    ≡ Outside ∷ Outside ∷ Outside ∷ Outside ∷ Outside ∷ Outside ∷ Outside ∷ Outside ∷ Outside ∷ Outside ∷ Outside ∷ Outside ∷ Outside
-    ∷ Outside ∷ Outside ∷ Outside ∷ Outside ∷ Outside ∷ Outside ∷ Outside ∷ Outside ∷ Outside ∷ []
+    ≡ None ∷ None ∷ None ∷ None ∷ None ∷ None ∷ None ∷ None ∷ None ∷ None ∷ None ∷ None ∷ None
+    ∷ None ∷ None ∷ None ∷ None ∷ None ∷ None ∷ None ∷ None ∷ None ∷ []
 unfolding everything session_definitions codes ascii
 not_events = refl
 

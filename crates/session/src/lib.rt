@@ -4,20 +4,11 @@
 
 use spec::{Call, Config};
 
-// What bytes that should be a decimal number are.
-#[derive(Clone, Copy)]
-pub enum Decimal {
-    Value(u32),
-    NotDecimal,
-}
-
-// What an event's line asks for: a start, with task, call and tag (0 for a resize), a step, with its task, or nothing, since
-// it is outside the grammar.
+// What an event's line asks for: a start, with task, call and tag (0 for a resize), or a step, with its task.
 #[derive(Clone, Copy)]
 pub enum EventLine {
     Start(u32, Call, u32),
     Step(u32),
-    Outside,
 }
 
 // The header's numbers, as far as they are read: what the opening is given besides the two slices, and how many records each slice

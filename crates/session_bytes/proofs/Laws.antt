@@ -1,14 +1,16 @@
 -- Laws of printing that the proofs of the functions cite, in the form in which loops and branches use them.
 -- Assumes nothing.
-use mathlib.Core.Path.{◌≡◌, sym, ap, ◌∙◌}
+use mathlib.Core.Path.{◌≡◌, refl, sym, ap, ◌∙◌}
 use mathlib.Core.List.{List, [], ◌∷◌, ◌++◌}
-use Prim.Native.Nat.{ℕ, suc, ◌+◌, ◌/◌, ◌%◌, ◌<◌, ◌≤◌}
+use Prim.Native.Nat.{ℕ, zero, suc, ◌+◌, ◌-◌, ◌/◌, ◌%◌, ◌<◌, ◌≤◌}
 use native.Mathlib.Numerals.{add-one}
+use native.Mathlib.Omega.{arith}
 use borrow.Author.Tests.{lt-ltb, le-ltb}
-use lib.ListN.{length, get_or, drop, set, drop_of_length-le}
+use lib.ListN.{length, get_or, take, drop, set, drop_of_length-le}
 use lib.Seq.{drop-cons}
+use Rattle.std.proofs.Common.{length-append, length-drop, length-take-le}
 use Rattle.session.specs.Print.{decimal_digits}
-use Rattle.session.specs.BufferLaws.{append_both}
+use Rattle.session.specs.BufferLaws.{append_both, append_written, append_within}
 use Rattle.session.specs.Buffer.{Buffer, buffer, append_byte, append}
 
 -- ---- bytes
@@ -29,14 +31,27 @@ pub append_end : (s : List ℕ) (i : ℕ) (t : Buffer) → length s ≤ i → ap
 unfolding append
 append_end s i t h = rw (drop_of_length-le s h)
 
--- a number below ten, and one from ten on
-pub decimal_one : (p n : ℕ) → n < 10 → decimal_digits (suc p) n ≡ (48 + n) ∷ []
-unfolding decimal_digits
-decimal_one p n h = rw (lt-ltb _ _ h)
+pub append_one : (b : ℕ) (t : Buffer) → append (b ∷ []) t ≡ append_byte b t
+unfolding append
+append_one b t = refl
 
-pub decimal_more : (p n : ℕ) → 10 ≤ n → decimal_digits (suc p) n ≡ decimal_digits p (n / 10) ++ ((48 + n % 10) ∷ [])
+-- no digit allowed; a number below ten, and one from ten on
+pub digits_none : (p n : ℕ) (t : Buffer) → p ≡ 0 → append (decimal_digits p n) t ≡ t
+unfolding decimal_digits append
+digits_none p n t h = rw h
+
+pub digits_one : (p n : ℕ) (t : Buffer) → (p ≡ 0 → ⊥) → n < 10 → append (decimal_digits p n) t ≡ append_byte (48 + n) t
+unfolding decimal_digits append
+digits_one zero n t z h = absurd (z refl)
+digits_one (suc p) n t z h = rw (lt-ltb _ _ h)
+
+pub digits_more : (p n : ℕ) (t : Buffer) → (p ≡ 0 → ⊥) → 10 ≤ n
+    → append (decimal_digits p n) t ≡ append_byte (48 + n % 10) (append (decimal_digits (p - 1) (n / 10)) t)
 unfolding decimal_digits
-decimal_more p n h = rw (le-ltb _ _ h)
+digits_more zero n t z h = absurd (z refl)
+digits_more (suc p) n t z h =
+    let e : suc p - 1 ≡ p = omega arith in
+    rw (le-ltb _ _ h, e) (append_both (decimal_digits p (n / 10)) ((48 + n % 10) ∷ []) t ∙ append_one _ _)
 
 -- several printed one after the other
 pub append_2 : (x y : List ℕ) (t u v : Buffer) → u ≡ append x t → v ≡ append y u → v ≡ append (x ++ y) t
@@ -44,3 +59,20 @@ append_2 x y t u v p q = q ∙ ap (append y) p ∙ sym (append_both x y t)
 
 pub append_3 : (x y z : List ℕ) (t u v w : Buffer) → u ≡ append x t → v ≡ append y u → w ≡ append z v → w ≡ append (x ++ y ++ z) t
 append_3 x y z t u v w p q r = append_2 (x ++ y) z t v w (append_2 x y t u v p q) r
+
+-- what is printed from a buffer's first byte on keeps its length, and ends within it
+pub length_kept : (bs before after : List ℕ) (count : ℕ) → buffer after count ≡ append bs (buffer before 0) → length after ≡ length before
+length_kept bs before after count e =
+    let w = append_written bs before after count e in
+    let c = w.counted in
+    let l : length (take count bs) ≡ count = length-take-le count bs (omega arith) in
+    let h : length after ≡ length (take count bs) + length (drop count before) = ap length w.holds ∙ length-append (take count bs) (drop count before) in
+    omega (arith, h, l, length-drop count before)
+
+pub ends_within : (bs before after : List ℕ) (count : ℕ) → buffer after count ≡ append bs (buffer before 0) → count ≤ length after
+ends_within bs before after count e = omega (arith, append_within bs before after count e, length_kept bs before after count e)
+
+-- what the functions that print several parts use
+pub ruleset parts = (append_both, append_one)
+
+pub ruleset digit_cases = (digits_none, digits_one, digits_more)

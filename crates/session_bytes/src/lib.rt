@@ -1,73 +1,114 @@
-// Bytes, numbers and lines of a key and a number printed into a lent buffer: each function appends what its definition gives (Print
-// of session) from a place of the buffer on and gives the next place; bytes that find no room are left out (Buffer of session).
+// A page: a lent buffer and how many of its bytes are printed. Bytes, numbers and lines of a key and a number are printed on it: each method appends what its
+// definition gives (Print of session); bytes that find no room are left out (Buffer of session).
 #![tactic(auto)]
 
-ghost use Rattle.std.specs.Prelude.{◌≡◌, [], ◌∷◌, ◌++◌};
+ghost use Rattle.std.specs.Prelude.{◌≡◌, [], ◌∷◌, ◌++◌, take};
 ghost use Rattle.session.specs.Print.{decimal_digits, decimal, key_line, refusal_line};
-ghost use Rattle.session.specs.Buffer.{buffer, append_byte, append};
+ghost use Rattle.session.specs.Buffer.{buffer};
+ghost use Rattle.session_bytes.specs.Pages.{shown, Appends};
 
-pub fn one_byte(buf: &mut [u8], at: usize, b: u8) -> usize
-    ensures { buffer buf.new result ≡ append_byte b (buffer buf.old at) }
-{
-    if at < buf.len() {
-        buf[at] = b;
-        return at + 1;
+#[derive(Drop)]
+pub struct Page<'a> {
+    out: &'a mut [u8],
+    printed: usize,
+}
+
+impl<'a> Page<'a> {
+    // A page on a lent buffer, with nothing printed.
+    pub fn new(out: &'a mut [u8]) -> Page<'a>
+        ensures same_reference { result.out.ghost_name ≡ out.entry.ghost_name }
+        ensures empty { shown result ≡ buffer out.old 0 }
+    {
+        Page { out, printed: 0 }
     }
-    at
-}
 
-pub fn all_bytes(buf: &mut [u8], at: usize, s: &[u8]) -> usize
-    ensures { buffer buf.new result ≡ append s.now (buffer buf.old at) }
-{
-    let mut to = at;
-    let mut i = 0;
-    while i < s.len() {
-        to = one_byte(buf, to, s[i]);
-        i += 1;
+    // A page on a lent buffer, of which the bytes before a place are printed.
+    pub fn from_place(out: &'a mut [u8], at: usize) -> Page<'a>
+        ensures same_reference { result.out.ghost_name ≡ out.entry.ghost_name }
+        ensures place { shown result ≡ buffer out.old at }
+    {
+        Page { out, printed: at }
     }
-    to
-}
 
-// A number's decimal digits, at most so many of them.
-fn digits(buf: &mut [u8], at: usize, n: u64, most: usize) -> usize
-    ensures { buffer buf.new result ≡ append (decimal_digits most n) (buffer buf.old at) }
-{
-    if most == 0 {
-        return at;
+    // How many bytes are printed.
+    pub fn printed(&self) -> usize
+        ensures { result ≡ (shown self.now).at }
+    {
+        self.printed
     }
-    if n < 10 {
-        return one_byte(buf, at, 48 + n as u8);
+
+    // The printed bytes.
+    pub fn text(&self) -> &[u8]
+        ensures { result.now ≡ take self.now.printed self.now.out.now }
+    {
+        &self.out[..self.printed.min(self.out.len())]
     }
-    let to = digits(buf, at, n / 10, most - 1);
-    one_byte(buf, to, 48 + (n % 10) as u8)
-}
 
-// A number in decimal.
-pub fn number(buf: &mut [u8], at: usize, n: u64) -> usize
-    ensures { buffer buf.new result ≡ append (decimal n) (buffer buf.old at) }
-{
-    digits(buf, at, n, 20)
-}
+    #[tactic(auto, using(crate::proofs::Laws::append_in, crate::proofs::Laws::append_out, crate::proofs::Laws::append_one))]
+    pub fn byte(&mut self, b: u8)
+        ensures { Appends (b ∷ []) self.old self.new }
+    {
+        if self.printed < self.out.len() {
+            self.out[self.printed] = b;
+            self.printed += 1;
+        }
+    }
 
-// A key, a number and one byte.
-pub fn keyed(buf: &mut [u8], at: usize, key: &[u8], n: u64, last: u8) -> usize
-    ensures { buffer buf.new result ≡ append (key.now ++ decimal n ++ (last ∷ [])) (buffer buf.old at) }
-{
-    let a = all_bytes(buf, at, key);
-    let e = number(buf, a, n);
-    one_byte(buf, e, last)
-}
+    #[tactic(auto, using(crate::proofs::Laws::append_on, crate::proofs::Laws::append_end, crate::proofs::Laws::append_one))]
+    pub fn bytes(&mut self, s: &[u8])
+        ensures { Appends s.now self.old self.new }
+    {
+        for b in s {
+            self.byte(*b);
+        }
+    }
 
-// A key and a number, closed by byte 10.
-pub fn key_line(buf: &mut [u8], at: usize, key: &[u8], n: u64) -> usize
-    ensures { buffer buf.new result ≡ append (key_line key.now n) (buffer buf.old at) }
-{
-    keyed(buf, at, key, n, 10)
-}
+    // A number's decimal digits, at most so many of them.
+    #[tactic(auto, using(crate::proofs::Laws::digit_cases, crate::proofs::Laws::append_one))]
+    fn digits(&mut self, n: u64, most: usize)
+        ensures { Appends (decimal_digits most n) self.old self.new }
+    {
+        if most == 0 {
+            return;
+        }
+        if n < 10 {
+            return self.byte(b'0' + n as u8);
+        }
+        self.digits(n / 10, most - 1);
+        self.byte(b'0' + (n % 10) as u8);
+    }
 
-// `refuse=` and a refusal's number.
-pub fn refusal(buf: &mut [u8], at: usize, n: u32) -> usize
-    ensures { buffer buf.new result ≡ append (refusal_line n) (buffer buf.old at) }
-{
-    key_line(buf, at, b"refuse=", n as u64)
+    // A number in decimal.
+    #[tactic(auto, unfolding(session::specs::Print::decimal))]
+    pub fn number(&mut self, n: u64)
+        ensures { Appends (decimal n) self.old self.new }
+    {
+        self.digits(n, 20);
+    }
+
+    // A key, a number and one byte.
+    #[tactic(auto, using(crate::proofs::Laws::parts))]
+    pub fn keyed(&mut self, key: &[u8], n: u64, last: u8)
+        ensures { Appends (key.now ++ decimal n ++ (last ∷ [])) self.old self.new }
+    {
+        self.bytes(key);
+        self.number(n);
+        self.byte(last);
+    }
+
+    // A key and a number, closed by byte 10.
+    #[tactic(auto, unfolding(session::specs::Print::key_line))]
+    pub fn key_line(&mut self, key: &[u8], n: u64)
+        ensures { Appends (key_line key.now n) self.old self.new }
+    {
+        self.keyed(key, n, b'\n');
+    }
+
+    // `refuse=` and a refusal's number.
+    #[tactic(auto, unfolding(session::specs::Print::refusal_line))]
+    pub fn refusal(&mut self, n: u32)
+        ensures { Appends (refusal_line n) self.old self.new }
+    {
+        self.key_line(b"refuse=", u64::from(n));
+    }
 }

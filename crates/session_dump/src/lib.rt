@@ -12,7 +12,8 @@ use stdio::input::Input;
 use stdio::output::Outcome;
 use stdio::source::Source;
 
-// What is printed between two reads, and then the dump. The `ensures` gives the length, which lending the array needs.
+// What is printed between two reads, and then the dump. The `ensures` gives the length, which lending the array needs: an array as long as this is not
+// unfolded where it is lent.
 fn dump_room() -> [u8; 524288]
     ensures { 524288 ≡ length result }
 {
@@ -32,22 +33,16 @@ fn ended(
     requires { due ≤ length out.old }
     ensures { result.printed ≤ length out.old }
 {
-    if stdio::input::cut_off(p) {
-        let long = partial_line::too_long();
-        let t = session_lines::handle_line(s, ns, bs, &long, &mut out[due..]);
-        let session = t.session;
-        let more = t.printed;
-        return Handled {
-            session,
-            printed: due + more,
-        };
-    }
-    let e = session_lines::handle_line(s, ns, bs, b"step=8", &mut out[due..]);
-    let session = e.session;
-    let more = e.printed;
+    let long = partial_line::too_long();
+    let line: &[u8] = if stdio::input::cut_off(p) {
+        &long
+    } else {
+        b"step=8"
+    };
+    let t = session_lines::handle_line(s, ns, bs, line, &mut out[due..]);
     Handled {
-        session,
-        printed: due + more,
+        printed: due + t.printed,
+        ..t
     }
 }
 
@@ -55,12 +50,9 @@ fn ended(
 fn dump(s: Session, ns: &[u32], bs: &[u32], out: &mut [u8]) -> usize
     ensures { result ≤ length out.old }
 {
-    let header = s.header;
-    let m = s.state;
-    let a = session_pools::node_extent(header.nodes, ns.len());
-    let b = session_pools::bucket_extent(header.buckets, bs.len());
-    let d = dump_text::dump(m, &ns[..a], &bs[..b], out);
-    d.printed
+    let a = session_pools::node_extent(s.header.nodes, ns.len());
+    let b = session_pools::bucket_extent(s.header.buckets, bs.len());
+    dump_text::dump(s.state, &ns[..a], &bs[..b], out).printed
 }
 
 // The last line of what was printed.
@@ -74,16 +66,12 @@ fn refused(p: Input, out: &[u8], n: usize) -> Outcome
 fn finish(k: Progress, ns: &mut [u32], bs: &mut [u32], out: &mut [u8]) -> Outcome
     requires { k.due ≤ length out.old }
 {
-    let s = k.session;
-    let p = k.input;
-    let t = ended(s, p, k.due, ns, bs, out);
-    let last = t.session;
-    let phase = last.phase;
-    if session_state::has_stopped(phase) {
-        return refused(p, out, t.printed);
+    let t = ended(k.session, k.input, k.due, ns, bs, out);
+    if session_state::has_stopped(t.session.phase) {
+        return refused(k.input, out, t.printed);
     }
-    let n = dump(last, ns, bs, out);
-    stdio::output::answer(b"dump", p, &out[..n])
+    let n = dump(t.session, ns, bs, out);
+    stdio::output::answer(b"dump", k.input, &out[..n])
 }
 
 fn run<S: Source>(
@@ -97,8 +85,7 @@ fn run<S: Source>(
     ensures { IsStatus result }
 {
     let k = session_run::read(from, true, false, room, ns, bs, out);
-    let o = finish(k, ns, bs, out);
-    stdio::output::status(o)
+    stdio::output::status(finish(k, ns, bs, out))
 }
 
 // The dump program.

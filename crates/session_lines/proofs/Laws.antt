@@ -1,8 +1,8 @@
 -- Laws that the proofs of the functions cite, over plain lists and numbers: a start or a step over the session's part of the pools,
 -- the final listing over it, and what is done after an opening. Assumes nothing.
-use Rattle.std.specs.Prelude.{if◌then◌else◌}
+use Rattle.std.specs.Prelude.{if◌then◌else◌, Option, Some, None, Ok, Err}
 use mathlib.Core.Path.{◌≡◌, refl, sym, ap, subst, ◌∙◌}
-use mathlib.Core.List.{List, [], ◌++◌}
+use mathlib.Core.List.{List, ◌++◌}
 use mathlib.Core.Bool.{Bool, true, false, not, ◌||◌}
 use lib.Dec.{ltb, leb, eqb}
 use Prim.Native.Nat.{ℕ, ◌+◌, ◌-◌, ◌≤◌}
@@ -10,9 +10,11 @@ use native.Mathlib.Omega.{arith}
 use borrow.Author.Tests.{eq-eqb, ne_eqb, ltb-false}
 use lib.ListN.{length, take, drop}
 use lib.Seq.{take_at}
-use Rattle.spec.specs.declared.Output.{Output}
-use Rattle.spec.specs.declared.Listing.{Listing}
-use Rattle.spec.specs.declared.Listing.TheVariants.{Count, Refused}
+use Rattle.spec.specs.declared.Refusal.TheVariants.{Spoilt, ShortList}
+use Rattle.spec.specs.declared.Refusal.{Refusal}
+use Rattle.spec.specs.Numbers.{refusal_number}
+use Rattle.laws.specs.RefusalNumbers.{never_0}
+use Rattle.spec.specs.Outputs.{Output, Listing}
 use Rattle.spec.specs.Machine.{Machine, machine_of}
 use Rattle.spec.specs.Words.{size}
 use Rattle.spec.specs.Listed.{listed, head_of, size_of}
@@ -59,7 +61,7 @@ replies s ns bs k y r n' b' count before after p t =
 
 -- ---- the final listing
 
-count_of : (a n : ℕ) → Count a ≡ Count n → a ≡ n
+count_of : (a n : ℕ) → ◌≡◌ {A = Listing} (Ok a) (Ok n) → a ≡ n
 count_of a n e = cc
 
 -- where a list gives a count, it is at most 64, and that many of the words are the tags
@@ -67,18 +69,18 @@ pub record Lists (y : Machine) (w : List ℕ) (n : ℕ) : Type 0 where
   pub few : n ≤ 64
   pub tags : take n (list y w).words ≡ listed y
 
-pub lists : (y : Machine) (w : List ℕ) (n : ℕ) → (list y w).says ≡ Count n → Lists y w n
+pub lists : (y : Machine) (w : List ℕ) (n : ℕ) → (list y w).says ≡ Ok n → Lists y w n
 unfolding list
 lists y w n h = let r = go (not (sound y)) (ltb 64 (length (listed y))) (not (leb 64 (length w))) refl h in record { few = r.0; tags = r.1 }
   where
-    refused : ℕ → entries.Written
-    refused r = record { says = Refused r; words = w }
+    refused : Refusal → entries.Written
+    refused r = record { says = Err r; words = w }
 
     given : entries.Written
-    given = record { says = Count (length (listed y)); words = listed y ++ drop (length (listed y)) w }
+    given = record { says = Ok (length (listed y)); words = listed y ++ drop (length (listed y)) w }
 
-    go : (a b c : Bool) → ltb 64 (length (listed y)) ≡ b → (if a || b then refused 8 else if c then refused 9 else given).says ≡ Count n
-        → (n ≤ 64) × (take n (if a || b then refused 8 else if c then refused 9 else given).words ≡ listed y)
+    go : (a b c : Bool) → ltb 64 (length (listed y)) ≡ b → (if a || b then refused Spoilt else if c then refused ShortList else given).says ≡ Ok n
+        → (n ≤ 64) × (take n (if a || b then refused Spoilt else if c then refused ShortList else given).words ≡ listed y)
     go true b c p e = let z : ◌≡◌ {A = ℕ} 0 1 = cc in absurd (omega arith)
     go false true c p e = let z : ◌≡◌ {A = ℕ} 0 1 = cc in absurd (omega arith)
     go false false true p e = let z : ◌≡◌ {A = ℕ} 0 1 = cc in absurd (omega arith)
@@ -87,7 +89,7 @@ lists y w n h = let r = go (not (sound y)) (ltb 64 (length (listed y))) (not (le
         let l : length (listed y) ≤ 64 = ltb-false _ _ p in
         (omega arith, take_at (listed y) _ n k)
 
-pub few_listed : (y : Machine) (w : List ℕ) (n : ℕ) (r : Listing) → r ≡ (list y w).says → r ≡ Count n → n ≤ 64
+pub few_listed : (y : Machine) (w : List ℕ) (n : ℕ) (r : Listing) → r ≡ (list y w).says → r ≡ Ok n → n ≤ 64
 few_listed y w n r h e = (lists y w n (sym h ∙ e)).few
 
 module _ (s : Session) (ns bs : List ℕ) (a b : ℕ) (ea : a ≡ node_extent s.header ns) (eb : b ≡ bucket_extent s.header bs)
@@ -100,12 +102,12 @@ module _ (s : Session) (ns bs : List ℕ) (a b : ℕ) (ea : a ≡ node_extent s.
   words_is : w' ≡ (list (session_machine s ns bs) w).words
   words_is = hw ∙ ap (λ (y : Machine). (list y w).words) (same_machine s.header ns bs a b ea eb s.state)
 
-  pub lists_count : (n z : ℕ) (t u : Buffer) → r ≡ Count n → z ≡ size (take a ns) s.state.head
+  pub lists_count : (n z : ℕ) (t u : Buffer) → r ≡ Ok n → z ≡ size (take a ns) s.state.head
       → u ≡ append (listing_lines z (take n w')) t → u ≡ append (final_listing (session_machine s ns bs) (list (session_machine s ns bs) w).says) t
   unfolding final_listing size_of head_of
   lists_count n z t u e f p =
       let y = session_machine s ns bs in
-      let q : (list y w).says ≡ Count n = sym says_is ∙ e in
+      let q : (list y w).says ≡ Ok n = sym says_is ∙ e in
       let v : take n w' ≡ listed y = ap (take n) words_is ∙ (lists y w n q).tags in
       let k : s.state.head ≡ s.state.head + 1 - 1 = omega arith in
       let part = node_part s.header ns in
@@ -113,11 +115,11 @@ module _ (s : Session) (ns bs : List ℕ) (a b : ℕ) (ea : a ≡ node_extent s.
       let g : z ≡ at_head = f ∙ ap (λ (x : ℕ). size (take x ns) s.state.head) ea ∙ ap (size part) k in
       rw q (p ∙ ap (λ (x : ℕ). append (listing_lines x (take n w')) t) g ∙ ap (λ (l : List ℕ). append (listing_lines at_head l) t) v)
 
-  pub lists_refused : (n : ℕ) (t u : Buffer) → r ≡ Refused n → u ≡ append (refusal_line n) t
+  pub lists_refused : (why : Refusal) (t u : Buffer) → r ≡ Err why → u ≡ append (refusal_line (refusal_number why)) t
       → u ≡ append (final_listing (session_machine s ns bs) (list (session_machine s ns bs) w).says) t
   unfolding final_listing
-  lists_refused n t u e p =
-      let q : (list (session_machine s ns bs) w).says ≡ Refused n = sym says_is ∙ e in
+  lists_refused why t u e p =
+      let q : (list (session_machine s ns bs) w).says ≡ Err why = sym says_is ∙ e in
       rw q p
 
 -- ---- a line, and the end of the input, by where the session stands
@@ -153,13 +155,13 @@ module _ (h : Header) (ns bs : List ℕ) (o : OpenedState) (n' b' : List ℕ) (e
   unfolding open_then opened_then with_machine pools_kept stopped part_opening
   opened_so l = subst (λ (p : entries.Opened). LineHandled (from p) r n'' b'' before after) e l
 
-  pub opens_then : o.refusal ≡ 0 → LineHandled (next (session Events h o.state) n' b') r n'' b'' before after
+  pub opens_then : o.refusal ≡ None → LineHandled (next (session Events h o.state) n' b') r n'' b'' before after
       → LineHandled (open_then h ns bs next) r n'' b'' before after
-  opens_then z l = opened_so (rw (eq-eqb o.refusal 0 z) l)
+  opens_then z l = opened_so (rw z l)
 
-  pub refuses_then : (o.refusal ≡ 0 → ⊥) → LineHandled (pools_kept (stopped (session Events h o.state) o.refusal) n' b') r n'' b'' before after
+  pub refuses_then : (why : Refusal) → o.refusal ≡ Some why → LineHandled (pools_kept (stopped (session Events h o.state) (refusal_number why)) n' b') r n'' b'' before after
       → LineHandled (open_then h ns bs next) r n'' b'' before after
-  refuses_then z l = opened_so (rw (ne_eqb o.refusal 0 z) l)
+  refuses_then why z l = opened_so (rw (z, ne_eqb (refusal_number why) 0 (never_0 why)) l)
 
 -- ---- a line where a header line is due, by the stage that it reaches: `own` is done after the header's last line, `other` after an opening without the line
 
@@ -195,6 +197,6 @@ module _ (own other : Session → List ℕ → List ℕ → LineEffect) where
         subst (λ (d : LineEffect). LineHandled d r n' b' before after) (sym (by_stage f a))
         (at_stage (λ d. LineHandled d r n' b' before after) staged e q l)
 
-pub header_said : (x : EventLine) (s : Session) (ns bs : List ℕ) → BySaid silent (event_effect x) s ns bs (λ a. header_effect a x s ns bs)
+pub header_said : (x : Option EventLine) (s : Session) (ns bs : List ℕ) → BySaid silent (event_effect x) s ns bs (λ a. header_effect a x s ns bs)
 unfolding header_effect silent
 header_said x s ns bs = record { next = λ due h. refl; complete = λ h. refl; absent = λ h. refl; missing = refl }

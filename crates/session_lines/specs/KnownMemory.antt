@@ -1,6 +1,6 @@
 -- What is known of memory between two lines, so that no event scans it: where events are read `ok` says whether it is sound, and before the opening
 -- it is true, since an accepted opening leaves sound memory. No line changes it: `line_known`. Assumes nothing.
-use Rattle.std.specs.Prelude.{ℕ, ◌≡◌, Bool, false, eqb, if◌then◌else◌}
+use Rattle.std.specs.Prelude.{ℕ, ◌≡◌, Bool, false, eqb, if◌then◌else◌, Option, Some, None}
 use Rattle.std.proofs.Math.Path.{refl, sym, ap, subst}
 use Rattle.std.proofs.Common.{◌∙◌, eqb-true}
 use mathlib.Core.List.{List, []}
@@ -14,7 +14,7 @@ use Rattle.laws.specs.Tests.{tf}
 use Rattle.laws.specs.OpeningSound.{opening_sound}
 use Rattle.known_memory.specs.EventSound.{event_sound}
 use Rattle.session.specs.declared.EventLine.{EventLine}
-use Rattle.session.specs.declared.EventLine.TheVariants.{Start, Step, Outside}
+use Rattle.session.specs.declared.EventLine.TheVariants.{Start, Step}
 use Rattle.session.specs.declared.Header.{Header}
 use Rattle.session.specs.declared.HeaderStep.{HeaderStep}
 use Rattle.session.specs.declared.HeaderStep.TheVariants.{Next, Complete, Absent, Missing}
@@ -133,11 +133,11 @@ module _ (ok : Bool) where
       ((event_lengths y e).nodes ∙ part_length 34 64 h.nodes ns) ((event_lengths y e).buckets ∙ part_length 66 200 h.buckets bs) in
       f ∙ sym (event_sound y e) ∙ ap sound (sym back)
 
-  event_known : (x : EventLine) (s : Session) (ns bs : List ℕ) → ok ≡ sound (session_machine s ns bs) → KnownAfter ok (event_effect x s ns bs)
+  event_known : (x : Option EventLine) (s : Session) (ns bs : List ℕ) → ok ≡ sound (session_machine s ns bs) → KnownAfter ok (event_effect x s ns bs)
   unfolding event_effect event pools_kept stopped Known
-  event_known (Start k call tag) s ns bs f = reply_known s ns bs (starts k call tag) k f
-  event_known (Step k) s ns bs f = reply_known s ns bs (steps k) k f
-  event_known Outside s ns bs f = refl
+  event_known (Some (Start k call tag)) s ns bs f = reply_known s ns bs (starts k call tag) k f
+  event_known (Some (Step k)) s ns bs f = reply_known s ns bs (steps k) k f
+  event_known None s ns bs f = refl
 
   module _ (h : Header) (ns bs : List ℕ) (next : Session → List ℕ → List ℕ → LineEffect)
       (goes_on : (m : State) (w v : List ℕ) → ok ≡ sound (session_machine (session Events h m) w v) → KnownAfter ok (next (session Events h m) w v)) where
@@ -156,7 +156,7 @@ module _ (ok : Bool) where
         go true q = goes_on o.machine.state d.nodes d.buckets (e ∙ opened_sound h ns bs (eqb-true o.refusal 0 q))
         go false q = refl
 
-  header_known : (a : HeaderStep) (x : EventLine) (s : Session) (ns bs : List ℕ) → ok ≡ true → KnownAfter ok (header_effect a x s ns bs)
+  header_known : (a : HeaderStep) (x : Option EventLine) (s : Session) (ns bs : List ℕ) → ok ≡ true → KnownAfter ok (header_effect a x s ns bs)
   unfolding header_effect silent pools_kept stopped Known
   header_known (Next due h) x s ns bs e = e
   header_known (Complete h) x s ns bs e = open_known h ns bs silent (λ m w v f. f) e

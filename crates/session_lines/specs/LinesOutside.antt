@@ -1,9 +1,8 @@
 -- A line that is too long or not closed is outside the grammar, whatever its bytes are (`outside_same`): the session stops (`outside_stops`). A session
 -- that has stopped prints nothing more, whatever follows (`stopped_prints_nothing`). Assumes nothing.
-use Rattle.std.specs.Prelude.{◌≡◌, refl, List, [], ◌∷◌, ◌++◌, Bool, true, false, ℕ, eqb, if◌then◌else◌}
+use Rattle.std.specs.Prelude.{◌≡◌, refl, List, [], ◌∷◌, ◌++◌, Bool, true, false, ℕ, eqb, if◌then◌else◌, None}
 use Rattle.std.proofs.Common.{sym, ap, ◌∙◌, append-nil}
 use Rattle.spec.specs.Entries.{Opened}
-use Rattle.session.specs.declared.EventLine.TheVariants.{Outside}
 use Rattle.session.specs.declared.Header.{Header}
 use Rattle.session.specs.declared.HeaderStep.TheVariants.{Absent, Missing}
 use Rattle.session.specs.Grammar.{InputLine, admissible}
@@ -21,8 +20,8 @@ use Rattle.session_state.specs.Handling.{event_effect, header_effect, phase_effe
 
 -- what such a line does
 unfoldable outside : Phase → Session → List ℕ → List ℕ → LineEffect
-outside (Due due) s ns bs = header_effect (if optional due then Absent s.header else Missing) Outside s ns bs
-outside Events s ns bs = event_effect Outside s ns bs
+outside (Due due) s ns bs = header_effect (if optional due then Absent s.header else Missing) None s ns bs
+outside Events s ns bs = event_effect None s ns bs
 outside Stopped s ns bs = silent s ns bs
 
 outside_effect : (l : InputLine) → admissible l ≡ false → (s : Session) (ns bs : List ℕ) → line_effect s ns bs l ≡ outside s.phase s ns bs
@@ -60,8 +59,8 @@ pub outside_stops : (l : InputLine) → admissible l ≡ false → (s : Session)
 unfolding outside header_effect open_then event_effect pools_kept stopped silent with_machine
 outside_stops l out s ns bs = ap (λ (d : LineEffect). d.session.phase) (outside_effect l out s ns bs) ∙ go s.phase refl
   where
-    header : (a : Bool) → (header_effect (if a then Absent s.header else Missing) Outside s ns bs).session.phase ≡ Stopped
-    header true = opened_either (λ d. d.session.phase ≡ Stopped) _ s.header ns bs (event_effect Outside) (λ s' ns' bs'. refl) refl
+    header : (a : Bool) → (header_effect (if a then Absent s.header else Missing) None s ns bs).session.phase ≡ Stopped
+    header true = opened_either (λ d. d.session.phase ≡ Stopped) _ s.header ns bs (event_effect None) (λ s' ns' bs'. refl) refl
     header false = refl
 
     go : (p : Phase) → s.phase ≡ p → (outside p s ns bs).session.phase ≡ Stopped

@@ -1,14 +1,15 @@
 -- How many bytes a session can print: at most `longest_line` for each line of its input (`line_bound`) and `longest_end` at its end (`end_bound`), so a
 -- caller can lend room for all of it. Assumes nothing.
-use Rattle.std.specs.Prelude.{◌≡◌, refl, List, [], ◌++◌, Bool, true, false, not, ◌||◌, ℕ, ◌≤◌, ltb, leb, length, drop, replicate, if◌then◌else◌}
+use Rattle.std.specs.Prelude.{◌≡◌, refl, List, ◌++◌, Bool, true, false, not, ◌||◌, ℕ, ◌≤◌, ltb, leb, length, drop, replicate, if◌then◌else◌, Option, Some, None}
 use Rattle.std.proofs.Common.{arith, ltb-false}
-use Rattle.spec.specs.declared.Listing.TheVariants.{Count, Refused}
+use Rattle.std.specs.Prelude.{Ok, Err}
+use Rattle.spec.specs.declared.Refusal.TheVariants.{Spoilt, ShortList}
 use Rattle.spec.specs.Machine.{Machine}
 use Rattle.spec.specs.Sound.{sound}
 use Rattle.spec.specs.Listed.{listed, size_of, head_of}
 use Rattle.spec.specs.Entries.{Written, opening, list}
 use Rattle.session.specs.declared.EventLine.{EventLine}
-use Rattle.session.specs.declared.EventLine.TheVariants.{Start, Step, Outside}
+use Rattle.session.specs.declared.EventLine.TheVariants.{Start, Step}
 use Rattle.session.specs.declared.Header.{Header}
 use Rattle.session.specs.declared.HeaderStep.{HeaderStep}
 use Rattle.session.specs.declared.HeaderStep.TheVariants.{Next, Complete, Absent, Missing}
@@ -39,13 +40,13 @@ silent_bound : (s : Session) (ns bs : List ℕ) → length (silent s ns bs).prin
 unfolding silent pools_kept
 silent_bound s ns bs = omega arith
 
-event_bound : (x : EventLine) (s : Session) (ns bs : List ℕ) → length (event_effect x s ns bs).prints ≤ longest_line
+event_bound : (x : Option EventLine) (s : Session) (ns bs : List ℕ) → length (event_effect x s ns bs).prints ≤ longest_line
 unfolding event_effect reply_effect with_machine pools_kept stopped
-event_bound (Start k call tag) s ns bs = output_length k _
-event_bound (Step k) s ns bs = output_length k _
-event_bound Outside s ns bs = omega (arith, refusal_length 10)
+event_bound (Some (Start k call tag)) s ns bs = output_length k _
+event_bound (Some (Step k)) s ns bs = output_length k _
+event_bound None s ns bs = omega (arith, refusal_length 10)
 
-header_bound : (a : HeaderStep) (x : EventLine) (s : Session) (ns bs : List ℕ) → length (header_effect a x s ns bs).prints ≤ longest_line
+header_bound : (a : HeaderStep) (x : Option EventLine) (s : Session) (ns bs : List ℕ) → length (header_effect a x s ns bs).prints ≤ longest_line
 unfolding header_effect pools_kept stopped
 header_bound (Next due h) x s ns bs = omega arith
 header_bound (Complete h) x s ns bs = open_bound longest_line (omega arith) silent silent_bound h ns bs
@@ -70,9 +71,9 @@ listing_bound y w = go (not (sound y)) (ltb 64 (length (listed y))) (not (leb 64
   where
     pick : Bool → Bool → Bool → Written
     pick a b c =
-        if a || b then record { says = Refused 8; words = w }
-        else if c then record { says = Refused 9; words = w }
-        else record { says = Count (length (listed y)); words = listed y ++ drop (length (listed y)) w }
+        if a || b then record { says = Err Spoilt; words = w }
+        else if c then record { says = Err ShortList; words = w }
+        else record { says = Ok (length (listed y)); words = listed y ++ drop (length (listed y)) w }
 
     go : (a b c : Bool) → ltb 64 (length (listed y)) ≡ b → length (final_listing y (pick a b c).says) ≤ longest_end
     go true b c e = omega (arith, refusal_length 8)

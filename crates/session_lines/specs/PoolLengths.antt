@@ -2,6 +2,8 @@
 -- pool stays the part that it was opened with. Assumes nothing.
 use Rattle.std.specs.Prelude.{◌≡◌, refl, true, ℕ, length}
 use Rattle.std.proofs.Common.{ap, ◌∙◌, ⊎_elim}
+use Rattle.spec.specs.declared.Refusal.{Refusal}
+use Rattle.spec.specs.declared.Refusal.TheVariants.{NoTask, Running, Idle, NoRecord, Spoilt, Withdrawn}
 use Rattle.spec.specs.declared.Call.{Call}
 use Rattle.spec.specs.declared.Task.{Task}
 use Rattle.spec.specs.Machine.{Machine, set_task, idle, with_own, task_of}
@@ -24,7 +26,7 @@ pub record SameLengths (y : Machine) (r : Reply) : Type 0 where
   pub nodes : length r.machine.nodes ≡ length y.nodes
   pub buckets : length r.machine.buckets ≡ length y.buckets
 
-refused_lengths : (n : ℕ) (y : Machine) → SameLengths y (refuse n y)
+refused_lengths : (n : Refusal) (y : Machine) → SameLengths y (refuse n y)
 unfolding refuse
 refused_lengths n y = record { nodes = refl; buckets = refl }
 
@@ -47,10 +49,10 @@ finish_lengths y z k own (ends a l) p q =
 
 stepped_lengths : (y : Machine) (k : ℕ) → sound y ≡ true → {r : Reply} → StepOutcome y k r → SameLengths y r
 unfolding accept
-stepped_lengths y k s (step_no_task a) = refused_lengths 4 y
-stepped_lengths y k s (step_idle a b) = refused_lengths 6 y
-stepped_lengths y k s (step_unsound a b c) = refused_lengths 8 y
-stepped_lengths y k s (step_all_held a b c d) = refused_lengths 7 y
+stepped_lengths y k s (step_no_task a) = refused_lengths NoTask y
+stepped_lengths y k s (step_idle a b) = refused_lengths Idle y
+stepped_lengths y k s (step_unsound a b c) = refused_lengths Spoilt y
+stepped_lengths y k s (step_all_held a b c d) = refused_lengths NoRecord y
 stepped_lengths y k s (step_accepted a b c d) =
     let f = sound_facts y s in
     let t = task_of y k in
@@ -60,12 +62,12 @@ stepped_lengths y k s (step_accepted a b c d) =
 
 step_lengths : (y : Machine) (k : ℕ) → SameLengths y (step y k)
 unfolding step
-step_lengths y k = ⊎_elim (λ s. stepped_lengths y k s (step_outcome y k s)) (λ s. rw s (refused_lengths 8 y)) (bool? (sound y))
+step_lengths y k = ⊎_elim (λ s. stepped_lengths y k s (step_outcome y k s)) (λ s. rw s (refused_lengths Spoilt y)) (bool? (sound y))
 
 started_lengths : (y : Machine) (k : ℕ) (call : Call) (tag : ℕ) {r : Reply} → StartOutcome y k call tag r → SameLengths y r
-started_lengths y k call tag (start_no_task a) = refused_lengths 4 y
-started_lengths y k call tag (start_running a b) = refused_lengths 5 y
-started_lengths y k call tag (start_withdrawn a b c) = refused_lengths 14 y
+started_lengths y k call tag (start_no_task a) = refused_lengths NoTask y
+started_lengths y k call tag (start_running a b) = refused_lengths Running y
+started_lengths y k call tag (start_withdrawn a b c) = refused_lengths Withdrawn y
 started_lengths y k call tag (start_accepted a b c) =
     let h = task_lengths y y k (started call tag) refl refl in
     record { nodes = h.0; buckets = h.1 }
@@ -73,7 +75,7 @@ started_lengths y k call tag (start_accepted a b c) =
 start_lengths : (y : Machine) (k : ℕ) (call : Call) (tag : ℕ) → SameLengths y (start y k call tag)
 unfolding start
 start_lengths y k call tag =
-    ⊎_elim (λ s. started_lengths y k call tag (start_outcome y k call tag s)) (λ s. rw s (refused_lengths 8 y)) (bool? (sound y))
+    ⊎_elim (λ s. started_lengths y k call tag (start_outcome y k call tag s)) (λ s. rw s (refused_lengths Spoilt y)) (bool? (sound y))
 
 pub event_lengths : (y : Machine) (e : Event) → SameLengths y (event y e)
 unfolding event

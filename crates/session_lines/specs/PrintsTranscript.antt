@@ -1,6 +1,6 @@
 -- Handled one after the other over lent pools of at least 64 nodes and 200 buckets, whatever they hold, an input's lines print
 -- its transcript: `lines_print_transcript`. Assumes nothing.
-use Rattle.std.specs.Prelude.{◌≡◌, ℕ, ◌≤◌, length, if◌then◌else◌}
+use Rattle.std.specs.Prelude.{◌≡◌, ℕ, ◌≤◌, length, if◌then◌else◌, Option, Some, None}
 use Rattle.std.proofs.Math.Path.{refl, ap}
 use Rattle.std.proofs.Common.{sym, ◌∙◌, arith}
 use mathlib.Core.List.{List, [], ◌∷◌, ◌++◌, append_assoc, append-nil}
@@ -12,7 +12,7 @@ use Rattle.spec.specs.Machine.{Machine, zero_config, state_of}
 use Rattle.spec.specs.Entries.{Opened, opening}
 use Rattle.spec.specs.Schedule.{Event, starts, steps, event, run}
 use Rattle.session.specs.declared.EventLine.{EventLine}
-use Rattle.session.specs.declared.EventLine.TheVariants.{Start, Step, Outside}
+use Rattle.session.specs.declared.EventLine.TheVariants.{Start, Step}
 use Rattle.session.specs.declared.Header.{Header}
 use Rattle.session.specs.declared.HeaderLine.{HeaderLine}
 use Rattle.session.specs.declared.HeaderLine.TheVariants.{Tasks}
@@ -51,7 +51,7 @@ module _ (h : Header) (m : State) (ns bs : List ℕ) where
 
 -- the definition, one event at a time
 module _ (y : Machine) (l : InputLine) (ls : List InputLine) where
-  first_event : (e : Event) (x : EventLine) → parse_event_line l ≡ x → add_event x (events ls) ≡ e ∷ events ls → is_event x ≡ true
+  first_event : (e : Event) (x : Option EventLine) → parse_event_line l ≡ x → add_event x (events ls) ≡ e ∷ events ls → is_event x ≡ true
       → event_lines y (l ∷ ls) ≡ output_line (task_in e) (event y e).out ++ event_lines (event y e).machine ls
   unfolding event_lines ran_lines events all_events run output_lines
   first_event e x p q r =
@@ -60,7 +60,7 @@ module _ (y : Machine) (l : InputLine) (ls : List InputLine) where
       rw (p, q, r)
       (append_assoc (output_line (task_in e) (event y e).out) (output_lines (events ls) after.outs) (end_lines (all_events ls) after.machine))
 
-  outside : parse_event_line l ≡ Outside → event_lines y (l ∷ ls) ≡ refusal_line 10
+  outside : parse_event_line l ≡ None → event_lines y (l ∷ ls) ≡ refusal_line 10
   unfolding event_lines ran_lines events all_events add_event is_event run output_lines end_lines
   outside p = rw p
 
@@ -92,15 +92,15 @@ module _ (h : Header) where
       y : Machine
       y = session_machine (session Events h m) ns bs
 
-      after : EventLine → List ℕ
+      after : Option EventLine → List ℕ
       after x = with_rest (event_effect x (session Events h m) ns bs) ls
 
-      go : EventsPrint ls h → (x : EventLine) → parse_event_line l ≡ x
+      go : EventsPrint ls h → (x : Option EventLine) → parse_event_line l ≡ x
           → lines_output (session Events h m) ns bs (l ∷ ls) ≡ event_lines (session_machine (session Events h m) ns bs) (l ∷ ls)
-      go ih (Start k call tag) q =
-          ap after q ∙ event_goes m ns bs (starts k call tag) k ls ih ∙ sym (first_event y l ls (starts k call tag) (Start k call tag) q refl refl)
-      go ih (Step k) q = ap after q ∙ event_goes m ns bs (steps k) k ls ih ∙ sym (first_event y l ls (steps k) (Step k) q refl refl)
-      go ih Outside q = ap after q ∙ refusal_last h m ns bs 10 ls ∙ sym (outside y l ls q)
+      go ih (Some (Start k call tag)) q =
+          ap after q ∙ event_goes m ns bs (starts k call tag) k ls ih ∙ sym (first_event y l ls (starts k call tag) (Some (Start k call tag)) q refl refl)
+      go ih (Some (Step k)) q = ap after q ∙ event_goes m ns bs (steps k) k ls ih ∙ sym (first_event y l ls (steps k) (Some (Step k)) q refl refl)
+      go ih None q = ap after q ∙ refusal_last h m ns bs 10 ls ∙ sym (outside y l ls q)
 
 -- ---- the opening, and the events after it
 
@@ -174,7 +174,7 @@ module _ (ns bs : List ℕ) (nodes_fit : 2176 ≤ length ns) (buckets_fit : 1320
       go false = refl
   header_prints (l ∷ ls) due h m = go (λ due' h' m'. header_prints ls due' h' m') (header_step due h l)
     where
-      x : EventLine
+      x : Option EventLine
       x = parse_event_line l
 
       go : ((due' : HeaderLine) (h' : Header) (m' : State) → lines_output (session (Due due') h' m') ns bs ls ≡ header_lines (read_from ls due' h'))

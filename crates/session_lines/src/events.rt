@@ -2,26 +2,24 @@
 ghost use Rattle.std.specs.Prelude.{◌≡◌, List, ℕ};
 ghost use Rattle.spec.specs.Sound.{sound};
 ghost use Rattle.session.specs.Grammar.{closed_line, parse_event_line};
-ghost use Rattle.session.specs.Buffer.{buffer, append};
+ghost use Rattle.session_bytes.specs.Pages.{Appends};
 ghost use Rattle.spec.specs.Entries.{start as start_of, step as step_of};
 ghost use Rattle.session_state.specs.Handling.{prints_last, session_machine, reply_effect, event_effect, final_output, SessionHandled, LineHandled};
 
 use session::EventLine;
+use session_bytes::Page;
 use session_state::{Handled, Phase, Session};
-use spec::{Call, Listing};
+use spec::Call;
 
 // Starts a call for a task, and prints the answer.
 fn start_task(ok: bool, s: Session, k: u32, call: Call, tag: u32, out: &mut [u8]) -> Handled
     ensures { (ns bs : List ℕ) → ok ≡ sound (session_machine s ns bs)
         → LineHandled (reply_effect k (start_of (session_machine s ns bs) k call tag) s ns bs) result ns bs out.old out.new }
 {
-    let header = s.header;
-    let before = s.state;
-    let d = session_machine::start(ok, before, k, call, tag);
-    let answered = d.out;
-    let m = d.state;
-    let c = session_print::output(out, 0, k, answered);
-    session_state::after_line(Phase::Events, header, m, c)
+    let d = session_machine::start(ok, s.state, k, call, tag);
+    let mut page = Page::new(out);
+    session_print::output(&mut page, k, d.out);
+    session_state::after_line(Phase::Events, s.header, d.state, page.printed())
 }
 
 // Steps a task by one line of Figure 2, and prints the answer.
@@ -37,13 +35,10 @@ fn step_task(
     ensures { LineHandled (reply_effect k (step_of (session_machine s ns.old bs.old) k) s ns.old bs.old)
         result ns.new bs.new out.old out.new }
 {
-    let header = s.header;
-    let before = s.state;
-    let d = session_machine::step(ok, before, header, k, ns, bs);
-    let answered = d.out;
-    let m = d.state;
-    let c = session_print::output(out, 0, k, answered);
-    session_state::after_line(Phase::Events, header, m, c)
+    let d = session_machine::step(ok, s.state, s.header, k, ns, bs);
+    let mut page = Page::new(out);
+    session_print::output(&mut page, k, d.out);
+    session_state::after_line(Phase::Events, s.header, d.state, page.printed())
 }
 
 pub fn event_line(
@@ -59,30 +54,23 @@ pub fn event_line(
         ns.new bs.new out.old out.new }
 {
     match session_parse::event_line(line) {
-        EventLine::Start(k, call, tag) => start_task(ok, s, k, call, tag, out),
-        EventLine::Step(k) => step_task(ok, s, k, ns, bs, out),
-        EventLine::Outside => session_state::stop(s, 10, out),
+        Some(EventLine::Start(k, call, tag)) => start_task(ok, s, k, call, tag, out),
+        Some(EventLine::Step(k)) => step_task(ok, s, k, ns, bs, out),
+        None => session_state::stop(s, 10, out),
     }
 }
 
-// The final listing, and how many bytes it has.
-fn list_tags(s: Session, ns: &[u32], bs: &[u32], out: &mut [u8]) -> usize
-    ensures { buffer out.new result ≡ append (final_output s ns.now bs.now) (buffer out.old 0) }
+// Prints the final listing.
+fn list_tags(s: Session, ns: &[u32], bs: &[u32], page: &mut Page<'_>)
+    ensures { Appends (final_output s ns.now bs.now) page.old page.new }
 {
-    let header = s.header;
-    let a = session_pools::node_extent(header.nodes, ns.len());
-    let b = session_pools::bucket_extent(header.buckets, bs.len());
-    let m = s.state;
-    let head = m.head;
-    let size = session_pools::node_size(&ns[..a], head);
+    let a = session_pools::node_extent(s.header.nodes, ns.len());
+    let b = session_pools::bucket_extent(s.header.buckets, bs.len());
+    let size = session_pools::node_size(&ns[..a], s.state.head);
     let mut w = [0u32; 64];
-    let listed = queries::list(m, &ns[..a], &bs[..b], &mut w);
-    match listed {
-        Listing::Count(n) => {
-            let e = n as usize;
-            session_print::listing(out, 0, size, &w[..e])
-        }
-        Listing::Refused(r) => session_bytes::refusal(out, 0, r),
+    match queries::list(s.state, &ns[..a], &bs[..b], &mut w) {
+        Ok(n) => session_print::listing(page, size, &w[..n as usize]),
+        Err(why) => page.refusal(why.number()),
     }
 }
 
@@ -90,8 +78,13 @@ fn list_tags(s: Session, ns: &[u32], bs: &[u32], out: &mut [u8]) -> usize
 pub fn listing(s: Session, ns: &[u32], bs: &[u32], out: &mut [u8]) -> Handled
     ensures { SessionHandled (prints_last s (final_output s ns.now bs.now)) result out.old out.new }
 {
-    let c = list_tags(s, ns, bs, out);
-    let header = s.header;
-    let m = s.state;
-    session_state::after_line(Phase::Stopped, header, m, c)
+    let mut page = Page::new(out);
+    list_tags(s, ns, bs, &mut page);
+    Handled {
+        session: Session {
+            phase: Phase::Stopped,
+            ..s
+        },
+        printed: page.printed(),
+    }
 }

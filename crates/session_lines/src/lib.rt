@@ -26,19 +26,20 @@ fn header_line(
         (parse_event_line (closed_line line.now)) s ns.old bs.old) result ns.new bs.new out.old
         out.new }
 {
-    let header = s.header;
-    let before = s.state;
-    let t = session_machine::header_line(due, header, before, ns, bs, line);
-    let h = t.header;
-    let m = t.state;
+    let t = session_machine::header_line(due, s.header, s.state, ns, bs, line);
     let opened = Session {
         phase: Phase::Events,
-        header: h,
-        state: m,
+        header: t.header,
+        state: t.state,
     };
-    let stage = t.stage;
-    match stage {
-        Stage::NextDue(next) => session_state::after_line(Phase::Due(next), h, m, 0),
+    match t.stage {
+        Stage::NextDue(next) => Handled {
+            session: Session {
+                phase: Phase::Due(next),
+                ..opened
+            },
+            printed: 0,
+        },
         Stage::OpenedBy => Handled {
             session: opened,
             printed: 0,
@@ -53,13 +54,11 @@ fn header_line(
 pub fn sound_memory(s: Session, ns: &[u32], bs: &[u32]) -> bool
     ensures { KnownIn result s ns.now bs.now }
 {
-    let phase = s.phase;
-    if session_state::reads_events(phase) {
-        let m = s.state;
-        let header = s.header;
-        return session_machine::is_sound(m, header, ns, bs);
+    if session_state::reads_events(s.phase) {
+        session_machine::is_sound(s.state, s.header, ns, bs)
+    } else {
+        true
     }
-    true
 }
 
 // One closed line, without its closing byte 10. What it prints is written from the buffer's first byte on. `ok` is what `sound_memory` gives before
@@ -76,8 +75,7 @@ pub fn known_line(
     ensures { LineHandled (line_effect s ns.old bs.old (closed_line line.now)) result ns.new bs.new
         out.old out.new }
 {
-    let phase = s.phase;
-    match phase {
+    match s.phase {
         Phase::Due(due) => header_line(s, due, ns, bs, line, out),
         Phase::Events => events::event_line(ok, s, ns, bs, line, out),
         Phase::Stopped => Handled {
@@ -106,26 +104,20 @@ pub fn handle_line(
 pub fn end_input(s: Session, ns: &mut [u32], bs: &mut [u32], out: &mut [u8]) -> Handled
     ensures { LineHandled (end_effect s ns.old bs.old) result ns.new bs.new out.old out.new }
 {
-    let phase = s.phase;
-    match phase {
-        Phase::Due(due) => {
-            if session_parse::optional(due) {
-                let header = s.header;
-                let o = session_machine::open(header, ns, bs);
-                let m = o.state;
-                let opened = Session {
-                    phase: Phase::Events,
-                    header,
-                    state: m,
-                };
-                let refusal = o.refusal;
-                if refusal == 0 {
-                    return events::listing(opened, ns, bs, out);
-                }
-                return session_state::stop(opened, refusal, out);
+    match s.phase {
+        Phase::Due(due) if session_parse::optional(due) => {
+            let o = session_machine::open(s.header, ns, bs);
+            let opened = Session {
+                phase: Phase::Events,
+                header: s.header,
+                state: o.state,
+            };
+            match o.refusal {
+                None => events::listing(opened, ns, bs, out),
+                Some(why) => session_state::stop(opened, why.number(), out),
             }
-            session_state::stop(s, 10, out)
         }
+        Phase::Due(_) => session_state::stop(s, 10, out),
         Phase::Events => events::listing(s, ns, bs, out),
         Phase::Stopped => Handled {
             session: s,

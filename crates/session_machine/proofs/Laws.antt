@@ -1,13 +1,17 @@
 -- An opening, a start or a step over the part of the pools, put back into the whole of them. Assumes nothing.
+use Rattle.std.specs.Prelude.{Some, None}
 use Prim.Native.Nat.{ℕ, ◌≤◌}
 use mathlib.Core.Path.{◌≡◌, refl, sym, ap, subst, ◌∙◌}
 use mathlib.Core.List.{List, ◌++◌}
-use borrow.Author.Tests.{eq-eqb, ne_eqb}
+use borrow.Author.Tests.{ne_eqb}
 use lib.ListN.{length, take, drop, take-append-drop}
 use lib.Seq.{length-take-le}
+use Rattle.spec.specs.declared.Refusal.{Refusal}
 use Rattle.spec.specs.declared.State.{State}
+use Rattle.spec.specs.Numbers.{refusal_number, opening_number}
 use Rattle.spec.specs.Machine.{machine_of}
 use Rattle.spec.specs.Entries.{Opened, opening, Reply}
+use Rattle.laws.specs.RefusalNumbers.{never_0}
 use Rattle.opening.specs.declared.Opened.{Opened as OpenedState}
 use Rattle.opening.specs.Opening.{refusal_of, opening_refusal}
 use Rattle.lines.specs.declared.Stepped.{Stepped}
@@ -40,7 +44,7 @@ module _ (h : Header) (ns bs : List ℕ) where
         let z = o.machine in
         record { refusal = o.refusal; machine = machine_of z.state (z.nodes ++ drop x ns) (z.buckets ++ drop y bs) }
 
-    pub opens : (r : OpenedState) (n' b' : List ℕ) → r.refusal ≡ (opening h.config (take a ns) (take b bs)).refusal
+    pub opens : (r : OpenedState) (n' b' : List ℕ) → opening_number r.refusal ≡ (opening h.config (take a ns) (take b bs)).refusal
         → machine_of r.state n' b' ≡ (opening h.config (take a ns) (take b bs)).machine
         → opened_of r (n' ++ drop a ns) (b' ++ drop b bs) ≡ part_opening h ns bs
     unfolding part_opening whole
@@ -69,10 +73,10 @@ module _ (g : Stage) (h : Header) (r : OpenedState) (ns bs : List ℕ) (o : Open
   abbrev at : Stage → Reached
   at k = record { stage = k; header = h; state = r.state; nodes = ns; buckets = bs }
 
-  pub accepted : r.refusal ≡ 0 → at g ≡ opened_stage g h o
+  pub accepted : r.refusal ≡ None → at g ≡ opened_stage g h o
   unfolding opened_stage
-  accepted z = subst (λ (p : Opened). at g ≡ opened_stage g h p) e (rw (eq-eqb r.refusal 0 z) refl)
+  accepted z = subst (λ (p : Opened). at g ≡ opened_stage g h p) e (rw z refl)
 
-  pub refused : (r.refusal ≡ 0 → ⊥) → at (OpeningRefused r.refusal) ≡ opened_stage g h o
+  pub refused : (why : Refusal) → r.refusal ≡ Some why → at (OpeningRefused (refusal_number why)) ≡ opened_stage g h o
   unfolding opened_stage
-  refused n = subst (λ (p : Opened). at (OpeningRefused r.refusal) ≡ opened_stage g h p) e (rw (ne_eqb r.refusal 0 n) refl)
+  refused why z = subst (λ (p : Opened). at (OpeningRefused (refusal_number why)) ≡ opened_stage g h p) e (rw (z, ne_eqb (refusal_number why) 0 (never_0 why)) refl)

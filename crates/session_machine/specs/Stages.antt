@@ -4,6 +4,7 @@ use Rattle.std.specs.Prelude.{ℕ, ◌≡◌, refl, List, ◌++◌, Bool, true, 
 use Rattle.std.proofs.Common.{sym, subst}
 use Rattle.spec.specs.declared.State.{State}
 use Rattle.spec.specs.Machine.{machine_of}
+use Rattle.spec.specs.Numbers.{opening_number}
 use Rattle.spec.specs.Entries.{Opened, opening}
 use Rattle.opening.specs.declared.Opened.{Opened as OpenedState}
 use Rattle.session.specs.declared.Header.{Header}
@@ -25,7 +26,7 @@ part_opening h ns bs =
     }
 
 abbrev pub opened_of : OpenedState → List ℕ → List ℕ → Opened
-opened_of r ns bs = record { refusal = r.refusal; machine = machine_of r.state ns bs }
+opened_of r ns bs = record { refusal = opening_number r.refusal; machine = machine_of r.state ns bs }
 
 -- ---- where the session stands after a line
 

@@ -3,6 +3,7 @@
 #![tactic(auto)]
 
 ghost use Rattle.std.specs.Prelude.{◌≡◌, List, ℕ};
+ghost use Rattle.spec.specs.Numbers.{opening_number};
 ghost use Rattle.spec.specs.Sound.{sound};
 ghost use Rattle.spec.specs.Entries.{opening, start, step};
 ghost use Rattle.session.specs.declared.Header.{Header};
@@ -15,7 +16,7 @@ ghost use Rattle.session_machine.specs.Stages.{opened_of, part_opening, reached,
 use lines::Stepped;
 use opening::Opened;
 use session::{Header, HeaderLine, HeaderStep};
-use spec::{Call, State};
+use spec::{Call, Refusal, State};
 
 // Where a session stands after a line where a header line was due: another one is due; the line completed the header, and the machine is open; the
 // machine is open without the line, which stands in the place of a header line that may be left out and is to be read as an event's; the opening was
@@ -43,43 +44,42 @@ pub fn open(h: Header, ns: &mut [u32], bs: &mut [u32]) -> Opened
 {
     let a = session_pools::node_extent(h.nodes, ns.len());
     let b = session_pools::bucket_extent(h.buckets, bs.len());
-    let config = h.config;
-    opening::open(config, &mut ns[..a], &mut bs[..b])
+    opening::open(h.config, &mut ns[..a], &mut bs[..b])
 }
 
-// The opening is only judged: its refusal, or 0. Writes nothing.
-pub fn judge_opening(h: Header, ns: &[u32], bs: &[u32]) -> u32
-    ensures { result ≡ (opening h.config (node_part h ns.now) (bucket_part h bs.now)).refusal }
+// The opening is only judged: its refusal, if it is refused. Writes nothing.
+#[tactic(auto, using(crate::proofs::Laws::judged))]
+pub fn judge_opening(h: Header, ns: &[u32], bs: &[u32]) -> Option<Refusal>
+    ensures { opening_number result ≡ (opening h.config (node_part h ns.now) (bucket_part h bs.now)).refusal }
 {
     let a = session_pools::node_extent(h.nodes, ns.len());
     let b = session_pools::bucket_extent(h.buckets, bs.len());
-    let config = h.config;
-    opening::refusal(config, a, b)
+    opening::refusal(h.config, a, b)
 }
 
 // The machine is opened: this stage, or the opening's refusal.
-fn open_stage(stage: Stage, h: Header, ns: &mut [u32], bs: &mut [u32]) -> Staged
-    ensures { reached result ns.new bs.new ≡ opened_stage stage h (part_opening h ns.old bs.old) }
+fn open_stage(stage: Stage, header: Header, ns: &mut [u32], bs: &mut [u32]) -> Staged
+    ensures { reached result ns.new bs.new ≡ opened_stage stage header (part_opening header ns.old bs.old) }
 {
-    let o = open(h, ns, bs);
-    let refusal = o.refusal;
-    let m = o.state;
-    if refusal == 0 {
-        return Staged {
+    let o = open(header, ns, bs);
+    let state = o.state;
+    match o.refusal {
+        None => Staged {
             stage,
-            header: h,
-            state: m,
-        };
-    }
-    Staged {
-        stage: Stage::OpeningRefused(refusal),
-        header: h,
-        state: m,
+            header,
+            state,
+        },
+        Some(why) => Staged {
+            stage: Stage::OpeningRefused(why.number()),
+            header,
+            state,
+        },
     }
 }
 
 // A closed line where a header line is due. The line that completes the header brings the opening about, and so does one that stands in the place of
 // a header line that may be left out.
+#[tactic(auto, unfolding(crate::specs::Stages::header_stage))]
 pub fn header_line(
     due: HeaderLine,
     h: Header,
@@ -113,8 +113,7 @@ pub fn is_sound(m: State, h: Header, ns: &[u32], bs: &[u32]) -> bool
 {
     let a = session_pools::node_extent(h.nodes, ns.len());
     let b = session_pools::bucket_extent(h.buckets, bs.len());
-    let d = soundness::check(m, 0, &ns[..a], &bs[..b]);
-    d.sound
+    soundness::check(m, 0, &ns[..a], &bs[..b]).is_some()
 }
 
 // Starts a call for task k. No word of a pool is read, so it is the start over any.

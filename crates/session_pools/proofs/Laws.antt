@@ -1,11 +1,8 @@
--- Laws that the proofs of the functions cite, over plain lists and numbers: the extent of a pool's part, a node's size. Assumes
+-- Laws that the proofs of the functions cite, over plain numbers: the extent of a pool's part. Assumes
 -- nothing.
-use mathlib.Core.Path.{◌≡◌, refl, sym}
-use mathlib.Core.List.{List}
+use mathlib.Core.Path.{◌≡◌}
 use Prim.Native.Nat.{ℕ, ◌*◌, ◌<◌, ◌≤◌}
 use borrow.Author.Tests.{le-leb, lt-leb}
-use lib.ListN.{length, get_or, get_or-eq_default}
-use Rattle.spec.specs.Words.{size}
 use Rattle.session_pools.specs.PoolParts.{extent}
 
 -- ---- the extent of a part
@@ -27,11 +24,4 @@ module _ (width most n words : ℕ) where
   unfolding extent
   extent_short l h f = rw (le-leb _ _ l, le-leb _ _ h, lt-leb _ _ f)
 
--- a node's size, past the pool's end too
-pub size_in : (ns : List ℕ) (k : ℕ) → get_or ns (34 * k) 0 ≡ size ns k
-unfolding size
-size_in ns k = refl
-
-pub size_past : (ns : List ℕ) (k : ℕ) → length ns ≤ 34 * k → 0 ≡ size ns k
-unfolding size
-size_past ns k h = sym (get_or-eq_default ns 0 h)
+pub ruleset extents = (extent_low, extent_high, extent_fits, extent_short)

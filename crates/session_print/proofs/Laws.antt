@@ -1,16 +1,18 @@
 -- Laws of printing that the proofs of the functions cite, in the form in which loops and branches use them.
 -- Assumes nothing.
-use mathlib.Core.Path.{◌≡◌}
-use mathlib.Core.List.{List, ◌++◌}
+use Rattle.std.specs.Prelude.{Option, ℕ, Ok}
+use mathlib.Core.Path.{◌≡◌, ap, ◌∙◌}
+use mathlib.Core.List.{List, [], ◌∷◌, ◌++◌}
 use Prim.Native.Nat.{ℕ, ◌+◌, ◌<◌, ◌≤◌}
 use native.Mathlib.Numerals.{add-one}
 use lib.ListN.{length, get_or, drop, drop_of_length-le}
 use lib.Seq.{drop-cons}
-use Rattle.session.specs.Print.{key_line, tag_lines}
-use Rattle.session.specs.Keys.{tag_key}
+use Rattle.spec.specs.declared.Answer.{Answer}
+use Rattle.spec.specs.declared.Progress.TheVariants.{At, End}
+use Rattle.session.specs.Print.{decimal, key_line, tag_lines, answer_word, occupancy_field, output_line}
+use Rattle.session.specs.Keys.{comma, newline, at_key, end_key, tag_key}
 use Rattle.session.specs.BufferLaws.{append_both}
 use Rattle.session.specs.Buffer.{Buffer, append}
-use Rattle.session_bytes.proofs.Laws.{append_2, append_3}
 
 pub tags_on : (ts : List ℕ) (i : ℕ) (t : Buffer) → i < length ts
     → append (tag_lines (drop i ts)) t ≡ append (tag_lines (drop (i + 1) ts)) (append (key_line tag_key (get_or ts i 0)) t)
@@ -21,8 +23,29 @@ pub tags_end : (ts : List ℕ) (i : ℕ) (t : Buffer) → length ts ≤ i → ap
 unfolding tag_lines append
 tags_end ts i t h = rw (drop_of_length-le ts h)
 
--- several printed one after the other
-pub append_6 : (x y z a f c : List ℕ) (t u v w b g d : Buffer)
-    → u ≡ append x t → v ≡ append y u → w ≡ append z v → b ≡ append a w → g ≡ append f b → d ≡ append c g → d ≡ append (x ++ y ++ z ++ a ++ f ++ c) t
-append_6 x y z a f c t u v w b g d p q r s o e =
-    append_3 (x ++ y ++ z ++ a) f c t b g d (append_2 (x ++ y ++ z) a t w b (append_3 x y z t u v w p q r) s) o e
+-- ---- a line that is printed part by part
+
+pub at_parts : (k l : ℕ) (t : Buffer)
+    → append (output_line k (Ok (At l))) t ≡ append (newline ∷ []) (append (decimal l) (append (at_key ++ decimal k ++ (comma ∷ [])) t))
+unfolding output_line
+at_parts k l t =
+    let front = at_key ++ decimal k ++ (comma ∷ []) in
+    append_both (front ++ decimal l) (newline ∷ []) t ∙ ap (append (newline ∷ [])) (append_both front (decimal l) t)
+
+pub end_parts : (k : ℕ) (w : Answer) (own : ℕ) (full : Option ℕ) (t : Buffer)
+    → append (output_line k (Ok (End w own full))) t
+    ≡ append (newline ∷ []) (append (occupancy_field full) (append (decimal own) (append (comma ∷ [])
+    (append (answer_word w) (append (end_key ++ decimal k ++ (comma ∷ [])) t)))))
+unfolding output_line
+end_parts k w own full t =
+    let a = end_key ++ decimal k ++ (comma ∷ []) in
+    let b = a ++ answer_word w in
+    let c = b ++ (comma ∷ []) in
+    let d = c ++ decimal own in
+    append_both (d ++ occupancy_field full) (newline ∷ []) t
+    ∙ ap (append (newline ∷ []))
+    (append_both d (occupancy_field full) t
+    ∙ ap (append (occupancy_field full))
+    (append_both c (decimal own) t
+    ∙ ap (append (decimal own))
+    (append_both b (comma ∷ []) t ∙ ap (append (comma ∷ [])) (append_both a (answer_word w) t))))

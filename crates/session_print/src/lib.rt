@@ -1,90 +1,93 @@
-// Printing the lines of a session into a lent buffer: each function appends what the definition of that line gives
-// (specs/Print) from a place of the buffer on and gives the next place; bytes that find no room are left out (specs/Buffer).
+// Printing the lines of a session on a page: each function appends what the definition of that line gives
+// (specs/Print); bytes that find no room are left out (specs/Buffer).
 #![tactic(auto)]
 
-ghost use Rattle.std.specs.Prelude.{◌≡◌};
+ghost use Rattle.std.specs.Prelude.{Ok};
+ghost use Rattle.spec.specs.declared.Progress.TheVariants.{At, End};
 ghost use Rattle.session.specs.Print.{answer_word, occupancy_field, output_line, tag_lines, listing_lines};
-ghost use Rattle.session.specs.Buffer.{buffer, append};
+ghost use Rattle.session_bytes.specs.Pages.{Appends};
 
-use spec::{Answer, Occupancy, Output};
+use session_bytes::Page;
+use spec::{Answer, Output, Progress};
 
 // An answer's word.
-pub fn answer(buf: &mut [u8], at: usize, a: Answer) -> usize
-    ensures { buffer buf.new result ≡ append (answer_word a) (buffer buf.old at) }
+#[tactic(auto, unfolding(session::specs::Print::answer_word))]
+pub fn answer(page: &mut Page<'_>, a: Answer)
+    ensures { Appends (answer_word a) page.old page.new }
 {
-    match a {
-        Answer::Yes => session_bytes::all_bytes(buf, at, b"yes"),
-        Answer::No => session_bytes::all_bytes(buf, at, b"no"),
-        Answer::Full => session_bytes::all_bytes(buf, at, b"full"),
-        Answer::Done => session_bytes::all_bytes(buf, at, b"done"),
-        Answer::Lost => session_bytes::all_bytes(buf, at, b"lost"),
-        Answer::Limit => session_bytes::all_bytes(buf, at, b"limit"),
-    }
+    let word: &[u8] = match a {
+        Answer::Yes => b"yes",
+        Answer::No => b"no",
+        Answer::Full => b"full",
+        Answer::Done => b"done",
+        Answer::Lost => b"lost",
+        Answer::Limit => b"limit",
+    };
+    page.bytes(word);
 }
 
 // `at=task,next line`.
-fn at_line(buf: &mut [u8], at: usize, k: u32, l: u32) -> usize
-    ensures { buffer buf.new result ≡ append (output_line k (Output.At l)) (buffer buf.old at) }
+#[tactic(auto, using(crate::proofs::Laws::at_parts))]
+fn at_line(page: &mut Page<'_>, k: u32, l: u32)
+    ensures { Appends (output_line k (Ok (At l))) page.old page.new }
 {
-    let a = session_bytes::keyed(buf, at, b"at=", k as u64, 44);
-    let b = session_bytes::number(buf, a, l as u64);
-    session_bytes::one_byte(buf, b, 10)
+    page.keyed(b"at=", u64::from(k), b',');
+    page.number(u64::from(l));
+    page.byte(b'\n');
 }
 
 // The fourth field of an end line, where the number of tags is given.
-fn occupancy_field(buf: &mut [u8], at: usize, full: Occupancy) -> usize
-    ensures { buffer buf.new result ≡ append (occupancy_field full) (buffer buf.old at) }
+#[tactic(auto, using(session_bytes::proofs::Laws::parts), unfolding(session::specs::Print::occupancy_field, session::specs::Buffer::append))]
+fn occupancy_field(page: &mut Page<'_>, full: Option<u32>)
+    ensures { Appends (occupancy_field full) page.old page.new }
 {
-    match full {
-        Occupancy::NotGiven => at,
-        Occupancy::Tags(n) => {
-            let a = session_bytes::one_byte(buf, at, 44);
-            session_bytes::number(buf, a, n as u64)
-        }
+    if let Some(n) = full {
+        page.byte(b',');
+        page.number(u64::from(n));
     }
 }
 
 // `end=task,answer,own steps`, and for an insert or a remove `,number of tags`.
-fn end_line(buf: &mut [u8], at: usize, k: u32, w: Answer, own: u16, full: Occupancy) -> usize
-    ensures { buffer buf.new result ≡ append (output_line k (Output.End w own full)) (buffer buf.old at) }
+#[tactic(auto, using(crate::proofs::Laws::end_parts))]
+fn end_line(page: &mut Page<'_>, k: u32, w: Answer, own: u16, full: Option<u32>)
+    ensures { Appends (output_line k (Ok (End w own full))) page.old page.new }
 {
-    let a = session_bytes::keyed(buf, at, b"end=", k as u64, 44);
-    let b = answer(buf, a, w);
-    let c = session_bytes::one_byte(buf, b, 44);
-    let d = session_bytes::number(buf, c, own as u64);
-    let e = occupancy_field(buf, d, full);
-    session_bytes::one_byte(buf, e, 10)
+    page.keyed(b"end=", u64::from(k), b',');
+    answer(page, w);
+    page.byte(b',');
+    page.number(u64::from(own));
+    occupancy_field(page, full);
+    page.byte(b'\n');
 }
 
 // The line for what task k's start or step answered.
-pub fn output(buf: &mut [u8], at: usize, k: u32, o: Output) -> usize
-    ensures { buffer buf.new result ≡ append (output_line k o) (buffer buf.old at) }
+#[tactic(auto, unfolding(session::specs::Print::output_line))]
+pub fn output(page: &mut Page<'_>, k: u32, o: Output)
+    ensures { Appends (output_line k o) page.old page.new }
 {
     match o {
-        Output::At(l) => at_line(buf, at, k, l),
-        Output::End(a, own, full) => end_line(buf, at, k, a, own, full),
-        Output::Refuse(n) => session_bytes::refusal(buf, at, n),
+        Ok(Progress::At(l)) => at_line(page, k, l),
+        Ok(Progress::End(a, own, full)) => end_line(page, k, a, own, full),
+        Err(why) => page.refusal(why.number()),
     }
 }
 
 // A `tag=` line for each tag.
-fn tags(buf: &mut [u8], at: usize, ts: &[u32]) -> usize
-    ensures { buffer buf.new result ≡ append (tag_lines ts.now) (buffer buf.old at) }
+#[tactic(auto, using(crate::proofs::Laws::tags_on, crate::proofs::Laws::tags_end))]
+fn tags(page: &mut Page<'_>, ts: &[u32])
+    ensures { Appends (tag_lines ts.now) page.old page.new }
 {
-    let mut to = at;
-    let mut i = 0;
-    while i < ts.len() {
-        to = session_bytes::key_line(buf, to, b"tag=", ts[i] as u64);
-        i += 1;
+    for t in ts {
+        page.key_line(b"tag=", u64::from(*t));
     }
-    to
 }
 
 // The final listing: `size=`, `tags=` and a `tag=` line for each tag.
-pub fn listing(buf: &mut [u8], at: usize, size: u32, ts: &[u32]) -> usize
-    ensures { buffer buf.new result ≡ append (listing_lines size ts.now) (buffer buf.old at) }
+#[tactic(auto, using(session_bytes::proofs::Laws::parts), unfolding(session::specs::Print::listing_lines))]
+pub fn listing(page: &mut Page<'_>, size: u32, ts: &[u32])
+    ensures { Appends (listing_lines size ts.now) page.old page.new }
 {
-    let a = session_bytes::key_line(buf, at, b"size=", size as u64);
-    let b = session_bytes::key_line(buf, a, b"tags=", ts.len() as u64);
-    tags(buf, b, ts)
+    page.key_line(b"size=", u64::from(size));
+    page.key_line(b"tags=", ts.len() as u64);
+    tags(page, ts);
 }

@@ -12,7 +12,7 @@ use Rattle.session_lines.specs.LinesOutside.{outside_same, outside_last, stopped
 use Rattle.stdio.specs.declared.input.Input.{Input}
 use Rattle.stdio.specs.Readers.{OutsideFixes, Countable}
 use Rattle.stdio.specs.Runs.{Prints, exact}
-use Rattle.stdio.specs.Streams.{PrintsLines, Took, Streamed}
+use Rattle.stdio.specs.Streams.{PrintsLines, Streamed}
 
 -- a session in the middle of its input, and what the lent pools hold
 pub record Running : Type 0 where
@@ -39,9 +39,6 @@ next x l = running (effect x l).session (effect x l).nodes (effect x l).buckets
 
 unfoldable pub prints : Running → List ℕ → List ℕ
 prints x l = (effect x l).prints
-
-abbrev pub Takes : Running → ℕ → Input → List ℕ → Running → ℕ → List ℕ → Type 0
-Takes = Took prints_on next prints
 
 abbrev pub Reads : Bool → List ℕ → Running → Input → List ℕ → Running → ℕ → List ℕ → Type 0
 Reads = Streamed prints_on next prints longest_line longest_end longest_end

@@ -2,15 +2,18 @@
 // status, and `read` serves any program that reads a session. In memory: one read of the input, one line, what that read prints, and the two pools.
 #![tactic(auto)]
 
-ghost use Rattle.std.specs.Prelude.{◌≡◌, true, ◌++◌, ◌+◌, ◌*◌, ◌≤◌, length, take};
+ghost use Rattle.std.specs.Prelude.{◌≡◌, true, ◌+◌, ◌*◌, ◌≤◌, length, take};
 ghost use Rattle.session.specs.OutputLengths.{longest_line, longest_end};
 ghost use Rattle.session.specs.Transcript.{transcript};
+ghost use Rattle.session_state.specs.Handling.{has_stopped};
 ghost use Rattle.session_lines.specs.KnownMemory.{KnownIn};
-ghost use Rattle.stdio.specs.Readers.{last_lines};
 ghost use Rattle.stdio.specs.Runs.{Prints, Ran};
-ghost use Rattle.session_run.specs.Running.{running, begin, prints_on, Takes, Reads};
+ghost use Rattle.session_run.specs.Running.{Running, running, begin, prints_on, next, prints, Reads};
+ghost use Rattle.session_run.specs.Running.{session_lines as lines_print, session_outside, stopped_decides};
+ghost use Rattle.session_run.specs.Knowing.{Knows, line_keeps, line_spends, some_due, end_spends};
 
-use session_state::{Handled, Session};
+use line_printers::{LinePrinter, Printed};
+use session_state::Session;
 use stdio::input::Input;
 use stdio::output::Text;
 use stdio::source::Source;
@@ -30,37 +33,75 @@ fn output_room() -> [u8; 76404]
     [0; 76404]
 }
 
-// The line at hand, if one is to be taken. What it prints is written to the buffer from `due` on, and `printed` counts both. Memory was sound when it was
-// opened, and stays so: no line scans it.
-fn take_given(
-    s: Session,
-    due: usize,
-    q: Input,
-    ns: &mut [u32],
-    bs: &mut [u32],
-    out: &mut [u8],
-) -> Handled
-    requires { (due + longest_line ≤ length out.old) × KnownIn true s ns.old bs.old }
-    ensures takes { Takes (running s ns.old bs.old) due q out.old (running result.session ns.new bs.new)
-        result.printed out.new }
-    ensures known_in { KnownIn true result.session ns.new bs.new }
-{
-    if stdio::input::has_line(q) {
-        let h = q.line;
-        let n = partial_line::line_length(h);
-        let b = h.bytes;
-        let t = session_lines::known_line(true, s, ns, bs, &b[..n], &mut out[due..]);
-        let session = t.session;
-        let more = t.printed;
-        return Handled {
-            session,
-            printed: due + more,
-        };
+// A session as a program that prints as it goes. Memory was sound when it was opened, and stays so: no line scans it.
+#[derive(Clone, Copy)]
+struct Reading {
+    session: Session,
+}
+
+impl LinePrinter for Reading {
+    ghost Stands = { Running };
+
+    ghost stands = { λ r ns bs. running r.session ns bs };
+
+    ghost prints_on = { prints_on };
+
+    ghost next = { next };
+
+    ghost prints = { prints };
+
+    ghost decides = { λ r. has_stopped r.session.phase };
+
+    ghost knows = { Knows };
+
+    ghost each = { longest_line };
+
+    ghost last = { longest_end };
+
+    ghost once = { λ x. longest_end };
+
+    fn take_line(
+        self,
+        ns: &mut [u32],
+        bs: &mut [u32],
+        line: &[u8],
+        out: &mut [u8],
+    ) -> Printed<Reading> {
+        let t = session_lines::known_line(true, self.session, ns, bs, line, out);
+        let state = Reading { session: t.session };
+        Printed {
+            state,
+            printed: t.printed,
+        }
     }
-    Handled {
-        session: s,
-        printed: due,
+
+    fn is_decided(self) -> bool {
+        session_state::has_stopped(self.session.phase)
     }
+
+    // A last line that is too long or not closed is outside the grammar, whatever its bytes are.
+    fn finish(self, p: Input, ns: &mut [u32], bs: &mut [u32], out: &mut [u8]) -> usize {
+        if stdio::input::cut_off(p) {
+            let long = partial_line::too_long();
+            session_lines::handle_line(self.session, ns, bs, &long, out).printed
+        } else {
+            session_lines::end_input(self.session, ns, bs, out).printed
+        }
+    }
+
+    ghost lines = { lines_print };
+
+    ghost known = { line_keeps };
+
+    ghost spends = { line_spends };
+
+    ghost few = { some_due };
+
+    ghost ends = { end_spends };
+
+    ghost decided = { λ r ns bs e ls. stopped_decides (running r.session ns bs) e ls };
+
+    ghost outside = { session_outside };
 }
 
 // Reads until the input ends, the session has stopped, or a read or a write fails. What is printed before a read is written before it, or where it is
@@ -79,40 +120,15 @@ pub fn read<S: Source>(
         (running result.session ns.new bs.new) result.due out.new }
     ensures known_in { KnownIn true result.session ns.new bs.new × (result.input.left ≤ 0) }
 {
-    let mut p = stdio::input::begin(reads, room.len());
-    let mut s = session_state::new_session();
-    let mut due = 0;
-    while 0 < p.left {
-        let q = stdio::input::next_line(from, p, room);
-        let t = take_given(s, due, q, ns, bs, out);
-        s = t.session;
-        let phase = s.phase;
-        let d = stdio::input::settle(q, session_state::has_stopped(phase));
-        let w = stdio::output::pass_on(d, shown, out, t.printed);
-        due = w.due;
-        p = w.input;
-    }
+    let begin = Reading {
+        session: session_state::new_session(),
+    };
+    let k = line_printers::read(from, reads, shown, begin, room, ns, bs, out);
     Progress {
-        session: s,
-        input: p,
-        due,
+        session: k.state.session,
+        input: k.input,
+        due: k.due,
     }
-}
-
-// The end of the input. What it prints is written to the buffer from `due` on, and the length of both given. A last line that is too long or not closed is
-// outside the grammar, whatever its bytes are.
-fn finish(s: Session, p: Input, due: usize, ns: &mut [u32], bs: &mut [u32], out: &mut [u8]) -> usize
-    requires { due + longest_end ≤ length out.old }
-    ensures out_after { take result out.new ≡ take due out.old ++ prints_on (running s ns.old bs.old) (last_lines p) }
-    ensures upper_bound { (result ≤ length out.old) × (length p.line.bytes ≡ 41) }
-{
-    if stdio::input::cut_off(p) {
-        let long = partial_line::too_long();
-        let t = session_lines::handle_line(s, ns, bs, &long, &mut out[due..]);
-        return due + t.printed;
-    }
-    let e = session_lines::end_input(s, ns, bs, &mut out[due..]);
-    due + e.printed
 }
 
 // What is printed for an input: standard input if `reads`, else the bytes of the room. The pools hold at least 64 nodes and 200 buckets, whatever their words
@@ -129,11 +145,10 @@ fn text<S: Source>(
     ensures prints { Prints transcript reads room.old result.input (take result.len out.new) }
     ensures len_in_bounds { result.len ≤ length out.new }
 {
-    let k = read(from, reads, true, room, ns, bs, out);
-    let s = k.session;
-    let input = k.input;
-    let len = finish(s, input, k.due, ns, bs, out);
-    Text { input, len }
+    let begin = Reading {
+        session: session_state::new_session(),
+    };
+    line_printers::text(from, reads, begin, room, ns, bs, out)
 }
 
 // The session program: standard input to its end, or as far as the session goes.

@@ -1,12 +1,12 @@
 -- What one line does to a session whose pools are lent whole, and what the end of the input prints: the definitions that the
 -- code is held to. That they print the paper's transcript is shown in session_lines, PrintsTranscript. Assumes nothing.
-use Rattle.std.specs.Prelude.{ℕ, ◌≡◌, refl, List, [], ◌∷◌, ◌++◌, Bool, true, false, eqb, drop, replicate, if◌then◌else◌}
+use Rattle.std.specs.Prelude.{ℕ, ◌≡◌, refl, List, [], ◌∷◌, ◌++◌, Bool, true, false, eqb, drop, replicate, if◌then◌else◌, Option, Some, None}
 use Rattle.std.proofs.Common.{arith}
 use Rattle.spec.specs.declared.State.{State}
 use Rattle.spec.specs.Machine.{Machine, machine_of, zero_config, state_of}
 use Rattle.spec.specs.Entries.{Opened, opening, Reply, start, step, list}
 use Rattle.session.specs.declared.EventLine.{EventLine}
-use Rattle.session.specs.declared.EventLine.TheVariants.{Start, Step, Outside}
+use Rattle.session.specs.declared.EventLine.TheVariants.{Start, Step}
 use Rattle.session.specs.declared.Header.{Header}
 use Rattle.session.specs.declared.HeaderLine.TheVariants.{Tasks}
 use Rattle.session.specs.declared.HeaderStep.{HeaderStep}
@@ -109,10 +109,10 @@ open_then h ns bs next = opened_then (opening h.config (node_part h ns) (bucket_
 unfoldable pub reply_effect : ℕ → Reply → Session → List ℕ → List ℕ → LineEffect
 reply_effect k r s ns bs = with_machine Events (output_line k r.out) r.machine s.header ns bs
 
-unfoldable pub event_effect : EventLine → Session → List ℕ → List ℕ → LineEffect
-event_effect (Start k call tag) s ns bs = reply_effect k (start (session_machine s ns bs) k call tag) s ns bs
-event_effect (Step k) s ns bs = reply_effect k (step (session_machine s ns bs) k) s ns bs
-event_effect Outside s ns bs = pools_kept (stopped s 10) ns bs
+unfoldable pub event_effect : Option EventLine → Session → List ℕ → List ℕ → LineEffect
+event_effect (Some (Start k call tag)) s ns bs = reply_effect k (start (session_machine s ns bs) k call tag) s ns bs
+event_effect (Some (Step k)) s ns bs = reply_effect k (step (session_machine s ns bs) k) s ns bs
+event_effect None s ns bs = pools_kept (stopped s 10) ns bs
 
 -- the final listing
 abbrev pub final_output : Session → List ℕ → List ℕ → List ℕ
@@ -125,7 +125,7 @@ listing_effect s ns bs = pools_kept (prints_last s (final_output s ns bs)) ns bs
 
 -- what a line says where a header line is due, and what it asks for if it is an event's: "a line not of a header line's form .. is
 -- judged only after the opening"
-unfoldable pub header_effect : HeaderStep → EventLine → Session → List ℕ → List ℕ → LineEffect
+unfoldable pub header_effect : HeaderStep → Option EventLine → Session → List ℕ → List ℕ → LineEffect
 header_effect (Next due h) x s ns bs = pools_kept (record { session = session (Due due) h s.state; prints = [] }) ns bs
 header_effect (Complete h) x s ns bs = open_then h ns bs silent
 header_effect (Absent h) x s ns bs = open_then h ns bs (event_effect x)

@@ -5,6 +5,7 @@ ghost use Rattle.std.specs.Prelude.{◌≡◌};
 ghost use Rattle.session_state.specs.Handling.{session, new_session, handled, stopped, reads_events, has_stopped, SessionHandled};
 
 use session::{Header, HeaderLine};
+use session_bytes::Page;
 use spec::State;
 
 // Where a session stands between two lines: a header line is due, events are read, or nothing more is printed.
@@ -31,66 +32,62 @@ pub struct Handled {
 }
 
 // A session of which no line is read yet.
+#[tactic(auto, unfolding(crate::specs::Handling::new_session, session::specs::Header::empty_header))]
 pub fn new_session() -> Session
     ensures { result ≡ new_session }
 {
-    let config = state::zero_config();
-    let header = Header {
-        config,
-        nodes: 0,
-        buckets: 0,
-    };
-    let z = state::zero_state();
     Session {
         phase: Phase::Due(HeaderLine::Tasks),
-        header,
-        state: z,
+        header: Header {
+            config: state::zero_config(),
+            nodes: 0,
+            buckets: 0,
+        },
+        state: state::zero_state(),
     }
 }
 
 // Whether events are read.
+#[tactic(auto, unfolding(crate::specs::Handling::reads_events))]
 pub fn reads_events(phase: Phase) -> bool
     ensures { result ≡ reads_events phase }
 {
-    match phase {
-        Phase::Due(_) => false,
-        Phase::Events => true,
-        Phase::Stopped => false,
-    }
+    matches!(phase, Phase::Events)
 }
 
 // Whether the session has stopped: then whatever follows prints nothing more.
+#[tactic(auto, unfolding(crate::specs::Handling::has_stopped))]
 pub fn has_stopped(phase: Phase) -> bool
     ensures { result ≡ has_stopped phase }
 {
-    match phase {
-        Phase::Due(_) => false,
-        Phase::Events => false,
-        Phase::Stopped => true,
-    }
+    matches!(phase, Phase::Stopped)
 }
 
 // A line is handled: where the session stands then, and how many bytes were printed.
 pub fn after_line(phase: Phase, header: Header, m: State, printed: usize) -> Handled
     ensures { result ≡ handled (session phase header m) printed }
 {
-    let next = Session {
-        phase,
-        header,
-        state: m,
-    };
     Handled {
-        session: next,
+        session: Session {
+            phase,
+            header,
+            state: m,
+        },
         printed,
     }
 }
 
-// A refusal, after which nothing more is printed.
+// A refusal, after which nothing more is printed. It is a number, and no enum: what is printed is the paper's number, and the definitions say numbers.
 pub fn stop(s: Session, refusal: u32, out: &mut [u8]) -> Handled
     ensures { SessionHandled (stopped s refusal) result out.old out.new }
 {
-    let c = session_bytes::refusal(out, 0, refusal);
-    let header = s.header;
-    let m = s.state;
-    after_line(Phase::Stopped, header, m, c)
+    let mut page = Page::new(out);
+    page.refusal(refusal);
+    Handled {
+        session: Session {
+            phase: Phase::Stopped,
+            ..s
+        },
+        printed: page.printed(),
+    }
 }

@@ -14,6 +14,7 @@ pub fn remainder(n: u32, size: u32) -> u32
 }
 
 // What of a tag is taken mod a node's size in a set opened so: in version 2 the tag without its check digit.
+#[tactic(auto, unfolding(spec::specs::Listed::key))]
 pub fn key(g: Config, tag: u32) -> u32
     ensures { result ≡ key g tag }
 {
@@ -21,9 +22,9 @@ pub fn key(g: Config, tag: u32) -> u32
 }
 
 // The number of a tag's place in a node of this size.
+#[tactic(auto, unfolding(spec::specs::Listed::slot))]
 pub fn slot(g: Config, tag: u32, size: u32) -> u32
     ensures { result ≡ slot g tag size }
 {
-    let k = key(g, tag);
-    remainder(k, size)
+    remainder(key(g, tag), size)
 }

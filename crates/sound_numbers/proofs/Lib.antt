@@ -1,2 +1,1 @@
-mod Conditions
 mod Unused

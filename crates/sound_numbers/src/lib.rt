@@ -9,6 +9,7 @@ ghost use Rattle.spec.specs.Sound.{config_sound, sound_numbers, zero_task, sound
 use spec::{Config, State, Task};
 
 // What the state keeps of its opening: a line for each condition of `config_sound`.
+#[tactic(auto, unfolding(spec::specs::Sound::config_sound))]
 pub fn config_ok(g: Config) -> bool
     ensures { result ≡ config_sound g }
 {
@@ -20,6 +21,7 @@ pub fn config_ok(g: Config) -> bool
 }
 
 // The state's numbers and the slices' lengths: a line for each condition of `sound_numbers`.
+#[tactic(auto, unfolding(spec::specs::Sound::sound_numbers))]
 pub fn numbers_ok(s: State, ns: &[u32], bs: &[u32]) -> bool
     ensures { result ≡ sound_numbers (machine_of s ns.now bs.now) }
 {
@@ -43,7 +45,9 @@ pub fn numbers_ok(s: State, ns: &[u32], bs: &[u32]) -> bool
     sound_records::all_true(&w)
 }
 
-// The record of a task that does not run is zeros.
+// The record of a task that does not run is zeros. (Its words are joined by one `or`, and not compared with an idle record by `==`, which would go on or
+// stop at each: the scan has no exit within a record, docs/SPEED.md.)
+#[tactic(auto, unfolding(spec::specs::Sound::zeros, spec::specs::Sound::zero_task, spec::specs::Lists::every))]
 pub fn idle_ok(c: Task) -> bool
     ensures { result ≡ zero_task c }
 {
@@ -66,6 +70,7 @@ pub fn idle_ok(c: Task) -> bool
 }
 
 // A task from T on: it does not run, and its record is zeros.
+#[tactic(auto, using(crate::proofs::Unused::from_T))]
 pub fn unused_ok(c: Task) -> bool
     ensures { (y : Machine) (k : ℕ) → y.state.config.tasks ≤ k → result ≡ sound_task y k c }
 {

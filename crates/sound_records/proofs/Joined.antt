@@ -25,6 +25,13 @@ pub and-false : (p : Bool) → (p && false) ≡ false
 and-false true = refl
 and-false false = refl
 
+-- what `p && q` gives, by how the test of p went
+pub and_then : {p q v : Bool} → p ≡ true → v ≡ q → v ≡ (p && q)
+and_then h e = rw h e
+
+pub and_else : {p v : Bool} (q : Bool) → p ≡ false → v ≡ false → v ≡ (p && q)
+and_else q h e = rw h e
+
 module _ (w : List Bool) (i : ℕ) (a : Bool) where
   pub all_turn : i < length w → ((a && get_or w i false) && all_true (drop (i + 1) w)) ≡ (a && all_true (drop i w))
   unfolding all_true

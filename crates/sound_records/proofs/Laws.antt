@@ -1,30 +1,26 @@
 -- Laws of the loops over a list and over the records of a pool, a turn of a loop each.
 -- Assumes nothing.
-use mathlib.Core.Path.{◌≡◌}
-use mathlib.Core.List.{List}
+use Rattle.std.specs.List.{list_any}
+use mathlib.Core.Path.{◌≡◌, refl}
+use mathlib.Core.List.{List, [], ◌∷◌}
 use mathlib.Core.Bool.{true, false}
 use Prim.Native.Nat.{ℕ, suc, ◌+◌, ◌-◌, ◌*◌, ◌<◌, ◌≤◌}
-use native.Mathlib.Numerals.{add-one}
 use native.Mathlib.Omega.{arith}
-use borrow.Author.Tests.{eq-eqb, ne_eqb}
-use lib.ListN.{length, get_or, drop, drop_of_length-le}
-use lib.Seq.{drop-cons, drop-drop}
+use lib.Dec.{eqb}
+use lib.ListN.{drop}
+use lib.Seq.{drop-drop}
 use Rattle.spec.specs.Lists.{member}
 use Rattle.spec.specs.Machine.{Machine}
 use Rattle.spec.specs.Sound.{sound_node, sound_nodes, sound_bucket, sound_buckets}
 
-module _ (s : List ℕ) (i : ℕ) (h : i < length s) where
-  pub member_here : (x : ℕ) → x ≡ get_or s i 0 → member x (drop i s) ≡ true
-  unfolding member
-  member_here x e = rw (drop-cons s i 0 h, eq-eqb _ _ e)
+eqb_swaps : (a b : ℕ) → eqb a b ≡ eqb b a
+eqb_swaps a b = grind arith
 
-  pub member_on : (x : ℕ) → (x ≡ get_or s i 0 → ⊥) → member x (drop i s) ≡ member x (drop (i + 1) s)
-  unfolding member
-  member_on x n = rw (add-one, drop-cons s i 0 h, ne_eqb _ _ n)
-
-pub member_end : (x : ℕ) (s : List ℕ) (i : ℕ) → length s ≤ i → member x (drop i s) ≡ false
+-- the library's test whether an element equals x
+pub any_member : (x : ℕ) (s : List ℕ) → list_any (λ y. eqb y x) s ≡ member x s
 unfolding member
-member_end x s i h = rw (drop_of_length-le s h)
+any_member x [] = refl
+any_member x (y ∷ s) = rw (eqb_swaps y x, any_member x s)
 
 -- ---- the pools, record by record
 

@@ -21,10 +21,7 @@ const MOST_COUNT: u32 = pool::MOST_TAGS as u32;
 pub fn within(lo: u32, hi: u32, n: u32) -> bool
     ensures { result ≡ within lo hi n }
 {
-    if n < lo {
-        return false;
-    }
-    n <= hi
+    lo <= n && n <= hi
 }
 
 // Each of the conditions holds. Here and in the loops over a record's words below there is no exit on the way, so that the loop is
@@ -33,10 +30,8 @@ pub fn all_true(w: &[bool]) -> bool
     ensures { result ≡ all_true w.now }
 {
     let mut all = true;
-    let mut i = 0;
-    while i < w.len() {
-        all = all & w[i];
-        i += 1;
+    for holds in w {
+        all &= *holds;
     }
     all
 }
@@ -44,14 +39,7 @@ pub fn all_true(w: &[bool]) -> bool
 pub fn among(x: u32, s: &[u32]) -> bool
     ensures { result ≡ member x s.now }
 {
-    let mut i = 0;
-    while i < s.len() {
-        if x == s[i] {
-            return true;
-        }
-        i += 1;
-    }
-    false
+    s.contains(&x)
 }
 
 // The n words from this one on are 0: their bitwise or is.
@@ -60,10 +48,8 @@ pub fn zero_words(w: &[u32], first: usize, n: usize) -> bool
     ensures { result ≡ zeros n (drop first w.now) }
 {
     let mut all: u32 = 0;
-    let mut j: usize = 0;
-    while j < n {
-        all = all | w[first + j];
-        j += 1;
+    for x in &w[first..first + n] {
+        all |= *x;
     }
     all == 0
 }
@@ -71,25 +57,14 @@ pub fn zero_words(w: &[u32], first: usize, n: usize) -> bool
 pub fn is_listed_size(n: u32) -> bool
     ensures { result ≡ listed_size n }
 {
-    let w: [u32; 6] = [1, 2, 4, 8, 16, 32];
-    among(n, &w)
+    among(n, &[1, 2, 4, 8, 16, 32])
 }
 
 // None, or a node of the pool of h nodes that has a size.
 pub fn link_ok(ns: &[u32], h: u32, l: u32) -> bool
     ensures { (y : Machine) → y.nodes ≡ ns.now → y.state.nodes ≡ h → result ≡ node_link y l }
 {
-    if h < l {
-        return false;
-    }
-    if l == 0 {
-        return true;
-    }
-    let z = pool::size_of(ns, l);
-    if z == 0 {
-        return false;
-    }
-    true
+    l <= h && (l == 0 || pool::size_of(ns, l) != 0)
 }
 
 pub fn all_within(s: &[u32], b: u32) -> bool
@@ -97,10 +72,8 @@ pub fn all_within(s: &[u32], b: u32) -> bool
     ensures { result ≡ every (λ l. leb l b) s.now }
 {
     let mut all = true;
-    let mut i = 0;
-    while i < s.len() {
-        all = all & (s[i] <= b);
-        i += 1;
+    for x in s {
+        all &= *x <= b;
     }
     all
 }
@@ -111,12 +84,10 @@ fn is_ascending(s: &[u32]) -> bool
     ensures { result ≡ ascending s.now }
 {
     let mut bad: u32 = 0;
-    let mut i = 1;
-    while i < s.len() {
+    for i in 1..s.len() {
         if s[i] <= s[i - 1] {
             bad += 1;
         }
-        i += 1;
     }
     bad == 0
 }
@@ -129,10 +100,7 @@ fn places_ok(w: &[u32], b: u32, n: usize) -> bool
     ensures { result ≡ (every (λ l. leb l b) (take 32 (drop 2 w.now)) && zeros (32 - n) (drop (2 + n) w.now)) }
 {
     let e = 2 + n;
-    if !all_within(&w[2..e], b) {
-        return false;
-    }
-    zero_words(w, e, PLACES - n)
+    all_within(&w[2..e], b) && zero_words(w, e, PLACES - n)
 }
 
 // The size and the places. Each size has a call of its own, so that the compiler knows how many places it tests and how many must be 0.
@@ -140,8 +108,7 @@ fn sized_ok(w: &[u32], b: u32) -> bool
     requires { 34 ≤ length w.now }
     ensures { result ≡ (size_known w.now && (every (λ l. leb l b) (take 32 (drop 2 w.now)) && none_past_size w.now)) }
 {
-    let z = w[0];
-    match z {
+    match w[0] {
         0 => places_ok(w, b, 0),
         1 => places_ok(w, b, 1),
         2 => places_ok(w, b, 2),
@@ -157,25 +124,17 @@ fn node_ok(w: &[u32], ns: &[u32], h: u32, b: u32) -> bool
     requires { 34 ≤ length w.now }
     ensures { (y : Machine) → y.nodes ≡ ns.now → y.state.nodes ≡ h → y.state.buckets ≡ b → result ≡ sound_node y w.now }
 {
-    let p = w[1];
-    if !link_ok(ns, h, p) {
-        return false;
-    }
-    sized_ok(w, b)
+    link_ok(ns, h, w[1]) && sized_ok(w, b)
 }
 
 pub fn nodes_ok(ns: &[u32], h: u32, b: u32) -> bool
     requires { (h ≤ 64) × (34 * h ≤ length ns.now) }
     ensures { (y : Machine) → y.nodes ≡ ns.now → y.state.nodes ≡ h → y.state.buckets ≡ b → result ≡ sound_nodes y h ns.now }
 {
-    let n = h as usize;
-    let mut k: usize = 0;
-    while k < n {
-        let a = NODE_WORDS * k;
-        if !node_ok(&ns[a..], ns, h, b) {
+    for k in 0..h as usize {
+        if !node_ok(&ns[NODE_WORDS * k..], ns, h, b) {
             return false;
         }
-        k += 1;
     }
     true
 }
@@ -196,34 +155,24 @@ pub fn tags_ok(w: &[u32]) -> bool
     }
     let n = c as usize;
     let e = 2 + n;
-    if !is_ascending(&w[2..e]) {
-        return false;
-    }
-    zero_words(w, e, MOST_TAGS - n)
+    is_ascending(&w[2..e]) && zero_words(w, e, MOST_TAGS - n)
 }
 
 fn bucket_ok(w: &[u32]) -> bool
     requires { 66 ≤ length w.now }
     ensures { result ≡ sound_bucket w.now }
 {
-    let f = w[0];
-    if 1 < f {
-        return false;
-    }
-    tags_ok(w)
+    w[0] <= 1 && tags_ok(w)
 }
 
 pub fn buckets_ok(bs: &[u32], n: usize) -> bool
     requires { (n ≤ 1024) × (66 * n ≤ length bs.now) }
     ensures { result ≡ sound_buckets n bs.now }
 {
-    let mut k = 0;
-    while k < n {
-        let a = pool::BUCKET_WORDS * k;
-        if !bucket_ok(&bs[a..]) {
+    for k in 0..n {
+        if !bucket_ok(&bs[pool::BUCKET_WORDS * k..]) {
             return false;
         }
-        k += 1;
     }
     true
 }

@@ -8,8 +8,7 @@ ghost use Rattle.spec.specs.Sound.{sound_numbers, sound_task, sound_tasks, sound
 ghost use Rattle.soundness.specs.Told.{checked_of};
 ghost use Rattle.state_words.specs.StateWords.{task_at, tasks_of_words, state_of_words, task_fits, state_fits};
 
-use soundness::Checked;
-use spec::{Config, State, Task};
+use spec::{State, Task};
 
 // So many words are those of h nodes.
 fn nodes_fit(words: usize, h: u32) -> bool
@@ -26,15 +25,12 @@ fn buckets_fit(words: usize, b: u32) -> bool
 }
 
 // The words before the tasks and the slices' lengths: a line for each condition of `sound_numbers`.
+#[tactic(auto, unfolding(spec::specs::Sound::sound_numbers, state_words::specs::StateWords::state_of_words))]
 fn numbers_ok(w: &[u32], ns: &[u32], bs: &[u32]) -> bool
     requires { length w.now ≡ 113 }
     ensures { result ≡ sound_numbers (machine_of (state_of_words w.now) ns.now bs.now) }
 {
-    let g = Config {
-        tasks: w[0],
-        version: w[1],
-        zero_withdrawn: w[2] != 0,
-    };
+    let g = yard_words::config_of(w);
     let h = w[3];
     let b = w[4];
     let head = w[5];
@@ -54,6 +50,7 @@ fn numbers_ok(w: &[u32], ns: &[u32], bs: &[u32]) -> bool
 }
 
 // The words of a task from T on: all are 0.
+#[tactic(auto, using(crate::proofs::Laws::unused_zeros))]
 fn unused_ok(w: &[u32], at: usize) -> bool
     requires { (at + 13 ≤ length w.now) × (task_fits w.now at ≡ true) }
     ensures { (y : Machine) (k : ℕ) → y.state.config.tasks ≤ k → result ≡ sound_task y k (task_at w.now at) }
@@ -68,70 +65,55 @@ fn tasks_ok(w: &[u32], t: u32, h: u32, b: u32, ns: &[u32]) -> bool
         → result ≡ sound_tasks y 0 (tasks_of_words w.now) }
 {
     let n = t as usize;
-    let mut k: usize = 0;
-    while k < n {
+    for k in 0..n {
         let c = yard_words::task_at(w, 9 + 13 * k);
         if !soundness::task_ok(c, k as u32, t, ns, h, b) {
             return false;
         }
-        k += 1;
     }
     let mut all = true;
-    while k < 8 {
-        all = all & unused_ok(w, 9 + 13 * k);
-        k += 1;
+    for k in n..8 {
+        all &= unused_ok(w, 9 + 13 * k);
     }
     all
 }
 
 // The state that the words are, and both pools, are sound.
+#[tactic(auto, using(state_words::specs::RoundTrip::fits_long))]
 fn sound(w: &[u32], ns: &[u32], bs: &[u32]) -> bool
     requires { state_fits w.now ≡ true }
     ensures { result ≡ sound (machine_of (state_of_words w.now) ns.now bs.now) }
 {
-    if !numbers_ok(w, ns, bs) {
-        return false;
+    if numbers_ok(w, ns, bs)
+        && sound_records::nodes_ok(ns, w[3], w[4])
+        && sound_records::buckets_ok(bs, w[4] as usize)
+    {
+        tasks_ok(w, w[0], w[3], w[4], ns)
+    } else {
+        false
     }
-    let h = w[3];
-    let b = w[4];
-    if !sound_records::nodes_ok(ns, h, b) {
-        return false;
-    }
-    if !sound_records::buckets_ok(bs, b as usize) {
-        return false;
-    }
-    tasks_ok(w, w[0], h, b, ns)
 }
 
 // What a check gives of words that are known to be sound: the record of task j.
-pub fn known(w: &[u32], j: u32) -> Checked
+pub fn known(w: &[u32], j: u32) -> Option<Task>
     requires { length w.now ≡ 113 }
     ensures { (ns bs : List ℕ) → sound (machine_of (state_of_words w.now) ns bs) ≡ true
         → result ≡ checked_of (machine_of (state_of_words w.now) ns bs) j }
 {
-    if 8 <= j {
-        let c = state::idle();
-        return Checked {
-            sound: true,
-            task: c,
-        };
-    }
-    let c = yard_words::task_at(w, 9 + 13 * (j as usize));
-    Checked {
-        sound: true,
-        task: c,
-    }
+    let task = if j < 8 {
+        yard_words::task_at(w, 9 + 13 * (j as usize))
+    } else {
+        state::idle()
+    };
+    Some(task)
 }
 
 // Refusal 8 of the state that the words are, and the record of task j. The only function that calls `sound`, which is so compiled into it.
-pub fn check(w: &[u32], j: u32, ns: &[u32], bs: &[u32]) -> Checked
+pub fn check(w: &[u32], j: u32, ns: &[u32], bs: &[u32]) -> Option<Task>
     requires { state_fits w.now ≡ true }
     ensures { result ≡ checked_of (machine_of (state_of_words w.now) ns.now bs.now) j }
 {
-    if !sound(w, ns, bs) {
-        return soundness::unsound();
-    }
-    known(w, j)
+    if sound(w, ns, bs) { known(w, j) } else { None }
 }
 
 // ---- the state of sound words
@@ -142,9 +124,10 @@ fn used_task(w: &[u32], at: usize, used: bool) -> Task
     ensures { result ≡ (if used then task_at w.now at else idle) }
 {
     if used {
-        return yard_words::task_at(w, at);
+        yard_words::task_at(w, at)
+    } else {
+        state::idle()
     }
-    state::idle()
 }
 
 // The tasks: of those from T on no word is read.
@@ -165,24 +148,19 @@ fn used_tasks(w: &[u32], n: u32) -> [Task; 8]
 }
 
 // The state that these words are, which with some pools is sound.
+#[tactic(auto, unfolding(state_words::specs::StateWords::state_of_words))]
 pub fn state_of_words(w: &[u32]) -> State
     requires { (length w.now ≡ 113) × ((ns : List ℕ) × (bs : List ℕ) × (sound (machine_of (state_of_words w.now) ns bs) ≡ true)) }
     ensures { result ≡ state_of_words w.now }
 {
-    let g = Config {
-        tasks: w[0],
-        version: w[1],
-        zero_withdrawn: w[2] != 0,
-    };
-    let ts = used_tasks(w, w[0]);
     State {
-        config: g,
+        config: yard_words::config_of(w),
         nodes: w[3],
         buckets: w[4],
         head: w[5],
         last_node: w[6],
         last_bucket: w[7],
         chosen: w[8],
-        task: ts,
+        task: used_tasks(w, w[0]),
     }
 }

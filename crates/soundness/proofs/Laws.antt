@@ -1,6 +1,7 @@
 -- Laws of the loop over the tasks.
 -- Assumes nothing.
-use mathlib.Core.Path.{◌≡◌, sym, ap, ◌∙◌}
+use Rattle.std.specs.Prelude.{Option, None, Some, is_some}
+use mathlib.Core.Path.{◌≡◌, refl, sym, ap, ◌∙◌}
 use mathlib.Core.List.{List}
 use mathlib.Core.Bool.{Bool, true, false, ◌&&◌}
 use Prim.Native.Nat.{ℕ, suc, ◌+◌, ◌<◌, ◌≤◌}
@@ -39,9 +40,35 @@ joined_all a r e f g = sym e ∙ ap (λ (b : Bool). b && r) f ∙ g
 
 -- ---- the record that goes with a check
 
-pub told_sound : {b : Bool} {c : Task} → b ≡ true → told b c ≡ record { sound = true; task = c }
+pub told_sound : {b : Bool} {c : Task} → b ≡ true → told b c ≡ Some c
 unfolding told
 told_sound e = rw e
+
+pub told_unsound : {b : Bool} (c : Task) → b ≡ false → told b c ≡ None
+unfolding told
+told_unsound c e = rw e
+
+some_none : {c : Task} → Some c ≡ None → ⊥
+some_none e = cc
+
+some_same : {c d : Task} → Some c ≡ Some d → c ≡ d
+some_same e = cc
+
+-- what it says of memory, and of the record
+pub told_none : (b : Bool) (c : Task) → told b c ≡ None → b ≡ false
+unfolding told
+told_none false c e = refl
+told_none true c e = absurd (some_none e)
+
+pub told_some : (b : Bool) (c : Task) {x : Task} → told b c ≡ Some x → (b ≡ true) × (x ≡ c)
+unfolding told
+told_some false c e = absurd (some_none (sym e))
+told_some true c e = (refl, sym (some_same e))
+
+pub told_is_some : (b : Bool) (c : Task) {d : Option Task} → d ≡ told b c → is_some d ≡ b
+unfolding told
+told_is_some false c e = rw e refl
+told_is_some true c e = rw e refl
 
 pub no_such_task : (y : Machine) (j : ℕ) → length y.state.task ≡ 8 → 8 ≤ j → task_of y j ≡ idle
 unfolding task_of

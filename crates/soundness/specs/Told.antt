@@ -1,13 +1,12 @@
--- What a check of all memory gives: whether it is sound, and a task's record where it is. Assumes nothing.
-use Rattle.std.specs.Prelude.{ℕ, Bool, if◌then◌else◌}
-use Rattle.spec.specs.Machine.{Machine, idle, task_of}
+-- What a check of all memory gives: of sound memory a task's record, of other memory none. Assumes nothing.
+use Rattle.std.specs.Prelude.{ℕ, Bool, if◌then◌else◌, Option, None, Some}
+use Rattle.spec.specs.Machine.{Machine, task_of}
 use Rattle.spec.specs.Sound.{sound}
 use Rattle.spec.specs.declared.Task.{Task}
-use Rattle.soundness.specs.declared.Checked.{Checked}
 
-unfoldable pub told : Bool → Task → Checked
-told sound c = record { sound = sound; task = if sound then c else idle }
+unfoldable pub told : Bool → Task → Option Task
+told sound c = if sound then Some c else None
 
 -- with the record of task k
-abbrev pub checked_of : Machine → ℕ → Checked
+abbrev pub checked_of : Machine → ℕ → Option Task
 checked_of y k = told (sound y) (task_of y k)

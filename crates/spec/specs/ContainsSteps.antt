@@ -2,11 +2,11 @@
 -- empty, with no other count, in every schedule, whatever other tasks do between.": as a type, told from the events of a schedule and
 -- their outputs alone. It is more than paper 01's "A contains ends at the latest with its fifth own step.". Proved in the crate linear;
 -- what it allows and refuses is in ContainsExamples. Assumes nothing.
-use Rattle.std.specs.Prelude.{ℕ, suc, ◌≤◌, ◌≡◌, List, [], ◌∷◌, ◌⊎◌, eqb, if◌then◌else◌}
+use Rattle.std.specs.Prelude.{ℕ, suc, ◌≤◌, ◌≡◌, List, [], ◌∷◌, ◌⊎◌, eqb, if◌then◌else◌, Ok, Err}
 use Rattle.spec.specs.declared.Call.{Call}
 use Rattle.spec.specs.declared.Call.TheVariants.{Contains, Grow}
-use Rattle.spec.specs.declared.Output.{Output}
-use Rattle.spec.specs.declared.Output.TheVariants.{At, End, Refuse}
+use Rattle.spec.specs.Outputs.{Output}
+use Rattle.spec.specs.declared.Progress.TheVariants.{At, End}
 use Rattle.spec.specs.Schedule.{Event, starts, steps}
 
 -- ---- a task's last started call, and how far it got
@@ -35,12 +35,12 @@ stepped l o r =
 
 -- each task's, after one event
 unfoldable pub progress : (ℕ → Progress) → Event → Output → ℕ → Progress
-progress r (starts p call tag) (At l) q = if eqb q p then begun call l else r q
-progress r (starts p call tag) (End a own full) q = r q
-progress r (starts p call tag) (Refuse n) q = r q
-progress r (steps p) (At l) q = if eqb q p then stepped l (At l) (r q) else r q
-progress r (steps p) (End a own full) q = if eqb q p then stepped 0 (End a own full) (r q) else r q
-progress r (steps p) (Refuse n) q = r q
+progress r (starts p call tag) (Ok (At l)) q = if eqb q p then begun call l else r q
+progress r (starts p call tag) (Ok (End a own full)) q = r q
+progress r (starts p call tag) (Err n) q = r q
+progress r (steps p) (Ok (At l)) q = if eqb q p then stepped l (Ok (At l)) (r q) else r q
+progress r (steps p) (Ok (End a own full)) q = if eqb q p then stepped 0 (Ok (End a own full)) (r q) else r q
+progress r (steps p) (Err n) q = r q
 
 -- before the first event no task has started a contains
 abbrev pub no_progress : ℕ → Progress
@@ -57,18 +57,18 @@ Throughout P r (e ∷ es) (o ∷ os) = P (progress r e o) e o × Throughout P (p
 -- paper 01: "13 b is t's place for the tag; filled to 18, empty to 15.": a contains that has ended did line 13 once, and by what that step
 -- answered it made so many steps
 abbrev pub ThreeOrFive : List Output → ℕ → Type 0
-ThreeOrFive by n = ((by ≡ At 18 ∷ []) × (n ≡ 3)) ⊎ ((by ≡ At 15 ∷ []) × (n ≡ 5))
+ThreeOrFive by n = ((by ≡ Ok (At 18) ∷ []) × (n ≡ 3)) ⊎ ((by ≡ Ok (At 15) ∷ []) × (n ≡ 5))
 
 -- one that goes on has made fewer, and done line 13 at most once
 abbrev pub GoesOn : List Output → ℕ → Type 0
-GoesOn by n = ((by ≡ []) × (n ≤ 1)) ⊎ ((by ≡ At 18 ∷ []) × (n ≤ 2)) ⊎ ((by ≡ At 15 ∷ []) × (n ≤ 4))
+GoesOn by n = ((by ≡ []) × (n ≤ 1)) ⊎ ((by ≡ Ok (At 18) ∷ []) × (n ≤ 2)) ⊎ ((by ≡ Ok (At 15) ∷ []) × (n ≤ 4))
 
 -- after each accepted step of a contains; the one that ends it gives as own steps how many it made
 abbrev pub Exact : (ℕ → Progress) → Event → Output → Type 0
 Exact r (starts p call tag) o = Unit {0}
-Exact r (steps p) (At l) = (r p).call ≡ Contains → GoesOn (r p).by_13 (r p).accepted
-Exact r (steps p) (End a own full) = (r p).call ≡ Contains → (own ≡ (r p).accepted) × ThreeOrFive (r p).by_13 own
-Exact r (steps p) (Refuse n) = Unit {0}
+Exact r (steps p) (Ok (At l)) = (r p).call ≡ Contains → GoesOn (r p).by_13 (r p).accepted
+Exact r (steps p) (Ok (End a own full)) = (r p).call ≡ Contains → (own ≡ (r p).accepted) × ThreeOrFive (r p).by_13 own
+Exact r (steps p) (Err n) = Unit {0}
 
 abbrev pub ContainsExact : List Event → List Output → Type 0
 ContainsExact es os = Throughout Exact no_progress es os

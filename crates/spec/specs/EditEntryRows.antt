@@ -1,11 +1,13 @@
 -- Rows of openings, starts, held records, the listing and shown buckets that wrong definitions break: those that the must-fail edits of this
 -- crate need and no more, since each edit computes them all. The others are in the crate `cases` (EntryRows, VersionRows, WithdrawnRows,
 -- HeldRows). Assumes nothing.
-use Rattle.std.specs.Prelude.{ℕ, ◌≡◌, refl, List, [], ◌∷◌, map, Bool, true, replicate}
+use Rattle.std.specs.Prelude.{ℕ, ◌≡◌, refl, List, [], ◌∷◌, map, Bool, true, replicate, Ok, Err}
+use Rattle.spec.specs.declared.Refusal.{Refusal}
+use Rattle.spec.specs.declared.Refusal.TheVariants.{Running, Spoilt, Withdrawn}
 use Rattle.spec.specs.declared.Call.TheVariants.{Insert, Remove, Grow}
 use Rattle.spec.specs.declared.Config.{Config}
-use Rattle.spec.specs.declared.Output.{Output}
-use Rattle.spec.specs.declared.Output.TheVariants.{At, Refuse}
+use Rattle.spec.specs.Outputs.{Output}
+use Rattle.spec.specs.declared.Progress.TheVariants.{At}
 use Rattle.spec.specs.declared.Task.{Task}
 use Rattle.spec.specs.Machine.{Machine, machine_of, config_of, with_version, with_zero_withdrawn, task_of}
 use Rattle.spec.specs.Listed.{listed}
@@ -58,14 +60,14 @@ wants_node = call 4 tag 0 line 27 i 0 own 1 t 1 s 0 b 0 m 0 n 0 new_node 0 new_b
 unfoldable pub replies : Output → Machine → Reply
 replies o y = record { out = o; machine = y }
 
-unfoldable pub refuses : ℕ → List Task → Reply
-refuses r cs = replies (Refuse r) (small cs)
+unfoldable pub refuses : Refusal → List Task → Reply
+refuses r cs = replies (Err r) (small cs)
 
 -- 8 where an idle task's record is not zeros: it has made a step
 unfoldable pub left_over : Task
 left_over = stopped (call 0 tag 0 line 0 i 0 own 1 t 0 s 0 b 0 m 0 n 0 new_node 0 new_bucket 0)
 
-pub eight_for_an_idle_task : step (small (insert_at_33 ∷ left_over ∷ [])) 0 ≡ refuses 8 (insert_at_33 ∷ left_over ∷ [])
+pub eight_for_an_idle_task : step (small (insert_at_33 ∷ left_over ∷ [])) 0 ≡ refuses Spoilt (insert_at_33 ∷ left_over ∷ [])
 unfolding everything whole_rows small insert_at_33 replies refuses left_over
 eight_for_an_idle_task = refl
 
@@ -100,8 +102,8 @@ fresh f k l = call f tag k line l i 0 own 0 t 0 s 0 b 0 m 0 n 0 new_node 0 new_b
 -- starts of task 0 with tag 0, the last one while its call runs
 pub starts_of_zero :
     start (with_zero []) 0 Insert 0 ∷ start (with_zero []) 0 Remove 0 ∷ start (with_zero []) 0 Grow 0 ∷ start (with_zero (insert_at_33 ∷ [])) 0 Insert 0 ∷ []
-    ≡ replies (Refuse 14) (with_zero []) ∷ replies (At 32) (with_zero (fresh 2 0 32 ∷ [])) ∷ replies (At 20) (with_zero (fresh 4 0 20 ∷ []))
-    ∷ replies (Refuse 5) (with_zero (insert_at_33 ∷ [])) ∷ []
+    ≡ replies (Err Withdrawn) (with_zero []) ∷ replies (Ok (At 32)) (with_zero (fresh 2 0 32 ∷ [])) ∷ replies (Ok (At 20)) (with_zero (fresh 4 0 20 ∷ []))
+    ∷ replies (Err Running) (with_zero (insert_at_33 ∷ [])) ∷ []
 unfolding everything whole_rows insert_at_33 replies ruled yard_under with_zero fresh
 starts_of_zero = refl
 

@@ -3,6 +3,7 @@
 -- RefusalOrderRows, VersionRows) and hold these rows too. Every place of the task is filled and t is not always the head, so that what a
 -- line leaves alone shows. Assumes nothing.
 use Rattle.std.specs.Prelude.{ℕ, zero, suc, ◌+◌, ◌≡◌, refl, List, [], ◌∷◌, map}
+use Rattle.spec.specs.declared.Refusal.TheVariants.{Spoilt}
 use Rattle.spec.specs.declared.Answer.TheVariants.{Yes, No, Full}
 use Rattle.spec.specs.declared.Config.{Config}
 use Rattle.spec.specs.declared.Task.{Task}
@@ -163,7 +164,7 @@ unfoldable pub all_taken : Task → Machine
 all_taken c = yard 0 0 0 (node 1 2 (1 ∷ []) ∷ node 2 0 (0 ∷ 2 ∷ []) ∷ []) (bucket 1 (5 ∷ []) ∷ bucket 1 [] ∷ []) (c ∷ [])
 
 unfoldable pub line_27_unlisted : Row
-line_27_unlisted = refused 8 all_taken (call 5 tag 0 line 27 i 0 own 1 t 1 s 0 b 0 m 0 n 0 new_node 0 new_bucket 0)
+line_27_unlisted = refused Spoilt all_taken (call 5 tag 0 line 27 i 0 own 1 t 1 s 0 b 0 m 0 n 0 new_node 0 new_bucket 0)
 
 -- ---- all of these
 

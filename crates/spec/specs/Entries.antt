@@ -1,16 +1,14 @@
 -- The entries: opening, start, step, list, show, each with its refusals in the order of "Who can cause a refusal", then the
 -- work. "A refusal gives only its number; state and slices keep every word." Assumes nothing.
-use Rattle.std.specs.Prelude.{ℕ, ◌+◌, ◌*◌, ◌-◌, ◌%◌, ◌/◌, min, List, [], ◌∷◌, ◌++◌, Bool, false, not, ◌&&◌, ◌||◌, ltb, leb, eqb, length, drop, replicate, if◌then◌else◌}
+use Rattle.std.specs.Prelude.{ℕ, ◌+◌, ◌*◌, ◌-◌, ◌%◌, ◌/◌, min, List, [], ◌∷◌, ◌++◌, Bool, false, not, ◌&&◌, ◌||◌, ltb, leb, eqb, length, drop, replicate, if◌then◌else◌, Option, Some, None, Ok, Err}
+use Rattle.spec.specs.declared.Refusal.{Refusal}
+use Rattle.spec.specs.declared.Refusal.TheVariants.{NoTask, Running, Idle, NoRecord, Spoilt, ShortList, Withdrawn}
 use Rattle.spec.specs.declared.Task.{Task}
 use Rattle.spec.specs.declared.Config.{Config}
 use Rattle.spec.specs.declared.Call.{Call}
 use Rattle.spec.specs.declared.Call.TheVariants.{Insert, Remove, Contains, Grow, Shrink}
-use Rattle.spec.specs.declared.Occupancy.{Occupancy}
-use Rattle.spec.specs.declared.Occupancy.TheVariants.{NotGiven, Tags}
-use Rattle.spec.specs.declared.Output.{Output}
-use Rattle.spec.specs.declared.Output.TheVariants.{At, End, Refuse}
-use Rattle.spec.specs.declared.Listing.{Listing}
-use Rattle.spec.specs.declared.Listing.TheVariants.{Count, Refused}
+use Rattle.spec.specs.Outputs.{Output, Listing}
+use Rattle.spec.specs.declared.Progress.TheVariants.{At, End}
 use Rattle.spec.specs.Numbers.{call_number}
 use Rattle.spec.specs.Machine.{Machine, idle, fresh_task, with_own, zero_config, state_of, task_of, set_task}
 use Rattle.spec.specs.Words.{number, filled, count, tags, apply}
@@ -61,8 +59,8 @@ pub record Reply : Type 0 where
   pub out : Output
   pub machine : Machine
 
-unfoldable pub refuse : ℕ → Machine → Reply
-refuse r y = record { out = Refuse r; machine = y }
+unfoldable pub refuse : Refusal → Machine → Reply
+refuse r y = record { out = Err r; machine = y }
 
 -- "A start sets the call, the tag (0 for a resize) and the first line (12, 32 or 20)"
 unfoldable pub started : Call → ℕ → Task
@@ -84,21 +82,21 @@ withdrawn g Shrink k = false
 -- "Start: 8, 4, 5." Paper 02, U9: "14, starting an insert of tag 0 under the new rule, after 5"
 unfoldable pub start : Machine → ℕ → Call → ℕ → Reply
 start y k call tag =
-    if not (sound y) then refuse 8 y
-    else if not (ltb k (task_count y)) then refuse 4 y
-    else if (task_of y k).running then refuse 5 y
-    else if withdrawn y.state.config call tag then refuse 14 y
-    else record { out = At (started call tag).line; machine = set_task k (started call tag) y }
+    if not (sound y) then refuse Spoilt y
+    else if not (ltb k (task_count y)) then refuse NoTask y
+    else if (task_of y k).running then refuse Running y
+    else if withdrawn y.state.config call tag then refuse Withdrawn y
+    else record { out = Ok (At (started call tag).line); machine = set_task k (started call tag) y }
 
 -- paper 02, U2: "A bucket's add and remove now also give the number of tags it holds afterwards, and an ended insert or remove
 -- hands that number on, full and no included": of the bucket of that link, in what the step leaves; a contains and a resize name none
-unfoldable pub occupancy : Machine → ℕ → Occupancy
-occupancy y l = if filled l then Tags (count y.buckets (number l)) else NotGiven
+unfoldable pub occupancy : Machine → ℕ → Option ℕ
+occupancy y l = if filled l then Some (count y.buckets (number l)) else None
 
 -- the task's next record with its own steps, or an idle record, and what is answered
 unfoldable pub finish : Machine → ℕ → ℕ → Next → Reply
-finish y k own (on c) = record { out = At c.line; machine = set_task k (with_own own c) y }
-finish y k own (ends a l) = record { out = End a own (occupancy y l); machine = set_task k idle y }
+finish y k own (on c) = record { out = Ok (At c.line); machine = set_task k (with_own own c) y }
+finish y k own (ends a l) = record { out = Ok (End a own (occupancy y l)); machine = set_task k idle y }
 
 -- "Own steps count accepted steps of the call, staying at 65,535."
 unfoldable pub accept : Machine → ℕ → ℕ → Effect → Reply
@@ -107,16 +105,16 @@ accept y k own e = finish (apply e.write y) k (min (own + 1) 65535) e.next
 -- "8 of the step, 7", then the line
 unfoldable pub step_running : Machine → ℕ → Task → Reply
 step_running y k c =
-    if unsound_step y c then refuse 8 y
-    else if all_held y c then refuse 7 y
+    if unsound_step y c then refuse Spoilt y
+    else if all_held y c then refuse NoRecord y
     else accept y k c.own (effect y c)
 
 -- "Step: 8, 4, 6, 8 of the step, 7."
 unfoldable pub step : Machine → ℕ → Reply
 step y k =
-    if not (sound y) then refuse 8 y
-    else if not (ltb k (task_count y)) then refuse 4 y
-    else if not (task_of y k).running then refuse 6 y
+    if not (sound y) then refuse Spoilt y
+    else if not (ltb k (task_count y)) then refuse NoTask y
+    else if not (task_of y k).running then refuse Idle y
     else step_running y k (task_of y k)
 
 -- ---- list and show
@@ -130,9 +128,9 @@ pub record Written : Type 0 where
 -- "In a list also if more than 64 tags are listed."
 unfoldable pub list : Machine → List ℕ → Written
 list y w =
-    if not (sound y) || ltb 64 (length (listed y)) then record { says = Refused 8; words = w }
-    else if not (leb 64 (length w)) then record { says = Refused 9; words = w }
-    else record { says = Count (length (listed y)); words = listed y ++ drop (length (listed y)) w }
+    if not (sound y) || ltb 64 (length (listed y)) then record { says = Err Spoilt; words = w }
+    else if not (leb 64 (length w)) then record { says = Err ShortList; words = w }
+    else record { says = Ok (length (listed y)); words = listed y ++ drop (length (listed y)) w }
 
 -- "Showing a bucket gives back the part of the lent words that holds its tags; a bad number or spoilt memory gives an empty part."
 unfoldable pub show : Machine → ℕ → List ℕ

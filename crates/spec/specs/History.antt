@@ -1,11 +1,11 @@
 -- The history of a schedule: its ended inserts, removes and contains, told from the events and their outputs alone.
 -- Assumes nothing.
-use Rattle.std.specs.Prelude.{ℕ, suc, List, [], ◌∷◌, Bool, true, false, eqb, if◌then◌else◌}
+use Rattle.std.specs.Prelude.{ℕ, suc, List, [], ◌∷◌, Bool, true, false, eqb, if◌then◌else◌, Ok, Err}
 use Rattle.spec.specs.declared.Answer.{Answer}
 use Rattle.spec.specs.declared.Call.{Call}
 use Rattle.spec.specs.declared.Call.TheVariants.{Insert, Remove, Contains, Grow, Shrink}
-use Rattle.spec.specs.declared.Output.{Output}
-use Rattle.spec.specs.declared.Output.TheVariants.{At, End, Refuse}
+use Rattle.spec.specs.Outputs.{Output}
+use Rattle.spec.specs.declared.Progress.TheVariants.{At, End}
 use Rattle.spec.specs.Schedule.{Event, starts, steps}
 
 -- "A call starts at its accepted start; the accepted step that ends it gives its answer": `start` and `end` are the places of the
@@ -34,19 +34,19 @@ set_call Shrink = false
 
 -- each task's last accepted start, after event n
 unfoldable pub note : ℕ → (ℕ → Started) → Event → Output → ℕ → Started
-note n last (starts p call tag) (At l) q = if eqb q p then record { call = call; tag = tag; start = n } else last q
-note n last (starts p call tag) (End a own full) q = last q
-note n last (starts p call tag) (Refuse r) q = last q
+note n last (starts p call tag) (Ok (At l)) q = if eqb q p then record { call = call; tag = tag; start = n } else last q
+note n last (starts p call tag) (Ok (End a own full)) q = last q
+note n last (starts p call tag) (Err r) q = last q
 note n last (steps p) o q = last q
 
 -- the ended calls after event n, the last first
 unfoldable pub tell : ℕ → (ℕ → Started) → List Ended → Event → Output → List Ended
 tell n last H (starts p call tag) o = H
-tell n last H (steps p) (At l) = H
-tell n last H (steps p) (End a own full) =
+tell n last H (steps p) (Ok (At l)) = H
+tell n last H (steps p) (Ok (End a own full)) =
     let b = last p in
     if set_call b.call then (record { task = p; call = b.call; tag = b.tag; answer = a; start = b.start; end = n } ∷ H) else H
-tell n last H (steps p) (Refuse r) = H
+tell n last H (steps p) (Err r) = H
 
 -- the same after all events from the n-th on
 unfoldable pub history_from : ℕ → (ℕ → Started) → List Ended → List Event → List Output → List Ended

@@ -1,4 +1,5 @@
 pub mod Lists
+pub mod Outputs
 pub mod Numbers
 pub mod Machine
 pub mod Words

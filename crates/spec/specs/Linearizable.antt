@@ -1,11 +1,10 @@
 -- Demand 3 as a type: of every schedule there is one order of all ended inserts, removes and contains in which a call that ended before
 -- another started stands first, a plain set of at most 64 tags gives exactly their answers, and the set then has exactly the tags listed.
 -- And a promise beside it. Proved in the crate linear. Assumes nothing.
-use Rattle.std.specs.Prelude.{ℕ, ◌≤◌, ◌≡◌, List, [], ◌∷◌, ◌++◌, length, drop}
+use Rattle.std.specs.Prelude.{ℕ, ◌≤◌, ◌≡◌, List, [], ◌∷◌, ◌++◌, length, drop, Ok, Err}
+use Rattle.spec.specs.declared.Refusal.TheVariants.{Spoilt}
 use Rattle.spec.specs.declared.Config.{Config}
-use Rattle.spec.specs.declared.Output.{Output}
-use Rattle.spec.specs.declared.Output.TheVariants.{Refuse}
-use Rattle.spec.specs.declared.Listing.TheVariants.{Count}
+use Rattle.spec.specs.Outputs.{Output}
 use Rattle.spec.specs.Plain.{plain}
 use Rattle.spec.specs.Entries.{list}
 use Rattle.spec.specs.Schedule.{Event, schedule}
@@ -53,11 +52,11 @@ pub record Linearizable (g : Config) (ns bs : List ℕ) (es : List Event) : Type
   -- "The tags then listed are those that a list call writes, given what the schedule left and 64 words."
   pub listed : (w : List ℕ) → length w ≡ 64
       → list (schedule g ns bs es).machine w
-      ≡ record { says = Count (length (after [] order)); words = after [] order ++ drop (length (after [] order)) w }
+      ≡ record { says = Ok (length (after [] order)); words = after [] order ++ drop (length (after [] order)) w }
 
 -- ---- beside it
 
 -- "Never from an opening onward": no refusal 8 among the outputs
 abbrev pub NoEight : List Output → Type 0
 NoEight [] = Unit {0}
-NoEight (o ∷ os) = (¬ (o ≡ Refuse 8)) × NoEight os
+NoEight (o ∷ os) = (¬ (o ≡ Err Spoilt)) × NoEight os

@@ -1,15 +1,14 @@
 -- What the rows of computed cases are made of. A row gives an opening, all its events, all their outputs, and the head, its size and
 -- the listed tags at the end. The cases that paper 01 marks P, and schedules of ours, are in the crate `cases`; those of whole machines are
 -- made by WholeRows. Assumes nothing.
-use Rattle.std.specs.Prelude.{ℕ, zero, suc, ◌*◌, List, [], ◌∷◌, ◌++◌, replicate}
+use Rattle.std.specs.Prelude.{ℕ, zero, suc, ◌*◌, List, [], ◌∷◌, ◌++◌, replicate, Some, None, Ok}
 use Rattle.spec.specs.declared.Answer.{Answer}
 use Rattle.spec.specs.declared.Answer.TheVariants.{Yes, Done}
 use Rattle.spec.specs.declared.Call.{Call}
 use Rattle.spec.specs.declared.Call.TheVariants.{Insert, Grow}
 use Rattle.spec.specs.declared.Config.{Config}
-use Rattle.spec.specs.declared.Occupancy.TheVariants.{NotGiven, Tags}
-use Rattle.spec.specs.declared.Output.{Output}
-use Rattle.spec.specs.declared.Output.TheVariants.{At, End}
+use Rattle.spec.specs.Outputs.{Output}
+use Rattle.spec.specs.declared.Progress.TheVariants.{At, End}
 use Rattle.spec.specs.Listed.{listed, head_of, size_of}
 use Rattle.spec.specs.Entries.{opening}
 use Rattle.spec.specs.Schedule.{Event, starts, steps, run}
@@ -60,11 +59,11 @@ inserting tag (suc n) = calling 0 Insert tag 3 ++ inserting (suc tag) n
 
 -- the end of a contains or a resize, by its answer and own steps
 abbrev pub ended : Answer → ℕ → Output
-ended a own = End a own NotGiven
+ended a own = Ok (End a own None)
 
 -- of an insert or a remove, with the number of tags of its bucket
 abbrev pub counted : Answer → ℕ → ℕ → Output
-counted a own n = End a own (Tags n)
+counted a own n = Ok (End a own (Some n))
 
 -- a list n times
 unfoldable pub times : ℕ → List Output → List Output
@@ -73,7 +72,7 @@ times (suc n) os = os ++ times n os
 
 -- an insert or remove that finds its bucket in place and ends with its third step
 unfoldable pub in_three : Output → List Output
-in_three end = At 32 ∷ At 33 ∷ At 36 ∷ end ∷ []
+in_three end = Ok (At 32) ∷ Ok (At 33) ∷ Ok (At 36) ∷ end ∷ []
 
 -- n inserts into a bucket of so many tags, each of which goes in
 unfoldable pub gaining : ℕ → ℕ → List Output
@@ -82,23 +81,23 @@ gaining k (suc n) = in_three (counted Yes 3 (suc k)) ++ gaining (suc k) n
 
 -- filling an empty place after a grow: lines 39 to 51, up to the output of line 50
 unfoldable pub filling : List Output
-filling = At 40 ∷ At 43 ∷ At 44 ∷ At 49 ∷ At 50 ∷ At 51 ∷ []
+filling = Ok (At 40) ∷ Ok (At 43) ∷ Ok (At 44) ∷ Ok (At 49) ∷ Ok (At 50) ∷ Ok (At 51) ∷ []
 
 -- the grow of the one place of size 1, which is filled
 unfoldable pub first_grow : List Output
-first_grow = At 20 ∷ At 39 ∷ At 40 ∷ At 51 ∷ At 24 ∷ At 27 ∷ At 28 ∷ ended Done 7 ∷ []
+first_grow = Ok (At 20) ∷ Ok (At 39) ∷ Ok (At 40) ∷ Ok (At 51) ∷ Ok (At 24) ∷ Ok (At 27) ∷ Ok (At 28) ∷ ended Done 7 ∷ []
 
 -- a grow that fills n + 1 empty places and then goes on to 24
 unfoldable pub grow_to_24 : ℕ → List Output
-grow_to_24 n = At 20 ∷ times n (At 39 ∷ filling) ++ At 39 ∷ filling ++ At 24 ∷ []
+grow_to_24 n = Ok (At 20) ∷ times n (Ok (At 39) ∷ filling) ++ Ok (At 39) ∷ filling ++ Ok (At 24) ∷ []
 
 -- the same, ended by its k-th own step
 unfoldable pub grow_filling : ℕ → ℕ → List Output
-grow_filling n k = grow_to_24 n ++ At 27 ∷ At 28 ∷ ended Done k ∷ []
+grow_filling n k = grow_to_24 n ++ Ok (At 27) ∷ Ok (At 28) ∷ ended Done k ∷ []
 
 -- task 0's insert of 5 stands at 36, task 1 has grown the set
 unfoldable pub waiting : List Event
 waiting = calling 0 Insert 5 2 ++ calling 1 Grow 0 7
 
 unfoldable pub waiting_outs : List Output
-waiting_outs = At 32 ∷ At 33 ∷ At 36 ∷ first_grow
+waiting_outs = Ok (At 32) ∷ Ok (At 33) ∷ Ok (At 36) ∷ first_grow

@@ -1,11 +1,12 @@
 -- An example of ContainsExact (ContainsSteps): outputs of a run in which both counts stand. That the set gives them, and outputs of wrong
 -- machines that it refuses, are in ContainsExamples of the crate `cases`. Assumes nothing.
-use Rattle.std.specs.Prelude.{ℕ, ◌≡◌, refl, List, [], ◌∷◌, ◌++◌}
+use Rattle.std.specs.Prelude.{ℕ, ◌≡◌, refl, List, [], ◌∷◌, ◌++◌, Ok, Err}
 use Rattle.std.proofs.Common.{inl, inr, arith}
+use Rattle.spec.specs.declared.Refusal.TheVariants.{Running, Idle}
 use Rattle.spec.specs.declared.Answer.TheVariants.{No}
 use Rattle.spec.specs.declared.Call.TheVariants.{Contains, Grow}
-use Rattle.spec.specs.declared.Output.{Output}
-use Rattle.spec.specs.declared.Output.TheVariants.{At, Refuse}
+use Rattle.spec.specs.Outputs.{Output}
+use Rattle.spec.specs.declared.Progress.TheVariants.{At}
 use Rattle.spec.specs.Schedule.{Event}
 use Rattle.spec.specs.ContainsSteps.{begun, stepped, progress, ContainsExact}
 use Rattle.spec.specs.Rows.{stepping, calling, ended, first_grow}
@@ -20,8 +21,8 @@ between =
 
 unfoldable pub between_outs : List Output
 between_outs =
-    At 12 ∷ At 13 ∷ At 18 ∷ first_grow ++ Refuse 6 ∷ ended No 3
-    ∷ At 12 ∷ At 13 ∷ At 15 ∷ Refuse 5 ∷ At 20 ∷ At 39 ∷ At 16 ∷ At 18 ∷ ended No 5 ∷ Refuse 6 ∷ []
+    Ok (At 12) ∷ Ok (At 13) ∷ Ok (At 18) ∷ first_grow ++ Err Idle ∷ ended No 3
+    ∷ Ok (At 12) ∷ Ok (At 13) ∷ Ok (At 15) ∷ Err Running ∷ Ok (At 20) ∷ Ok (At 39) ∷ Ok (At 16) ∷ Ok (At 18) ∷ ended No 5 ∷ Err Idle ∷ []
 
 -- a claim of a grow, and one of a contains
 grow : {P : Type 0} → Grow ≡ Contains → P

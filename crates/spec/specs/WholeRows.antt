@@ -1,9 +1,10 @@
 -- What the rows of whole machines are made of: a task's record, a state and pools written out, and one step of task 0 from one machine
 -- to another. Such a machine need not come from an opening: every sound memory has its next step. Assumes nothing.
-use Rattle.std.specs.Prelude.{ℕ, ◌-◌, List, [], ◌∷◌, ◌++◌, true, false, length, replicate}
+use Rattle.std.specs.Prelude.{ℕ, ◌-◌, List, [], ◌∷◌, ◌++◌, true, false, length, replicate, Ok, Err}
+use Rattle.spec.specs.declared.Refusal.{Refusal}
 use Rattle.spec.specs.declared.Config.{Config}
-use Rattle.spec.specs.declared.Output.{Output}
-use Rattle.spec.specs.declared.Output.TheVariants.{At, Refuse}
+use Rattle.spec.specs.Outputs.{Output}
+use Rattle.spec.specs.declared.Progress.TheVariants.{At}
 use Rattle.spec.specs.declared.State.{State}
 use Rattle.spec.specs.declared.Task.{Task}
 use Rattle.spec.specs.Machine.{Machine, config_of, machine_of, idle}
@@ -84,7 +85,7 @@ stepped r = step r.before 0
 
 -- task 0's record in a yard, and then in another; and then in the same
 unfoldable pub goes : (Task → Machine) → (Task → Machine) → Task → Task → Row
-goes y z c d = record { before = y c; out = At d.line; after = z d }
+goes y z c d = record { before = y c; out = Ok (At d.line); after = z d }
 
 unfoldable pub keeps : (Task → Machine) → Task → Task → Row
 keeps y c d = goes y y c d
@@ -97,8 +98,8 @@ unfoldable pub ends : (Task → Machine) → Output → Task → Row
 ends y o c = ends_writing y y o c
 
 -- nothing changes
-unfoldable pub refused : ℕ → (Task → Machine) → Task → Row
-refused r y c = record { before = y c; out = Refuse r; after = y c }
+unfoldable pub refused : Refusal → (Task → Machine) → Task → Row
+refused r y c = record { before = y c; out = Err r; after = y c }
 
 -- opens all of these
 unfoldable pub whole_rows : ℕ

@@ -2,7 +2,7 @@
 // later field is added in this file alone.
 #![tactic(auto)]
 
-ghost use Rattle.std.specs.Prelude.{◌≡◌, ◌-◌};
+ghost use Rattle.std.specs.Prelude.{◌≡◌};
 ghost use Rattle.spec.specs.Machine.{config_of, with_version, with_zero_withdrawn, zero_config, idle, fresh_task, state_of};
 
 use spec::{Config, State, Task};
@@ -10,6 +10,7 @@ use spec::{Config, State, Task};
 // ---- a task's record
 
 // A task that runs nothing.
+#[tactic(auto, unfolding(spec::specs::Machine::idle))]
 pub fn idle() -> Task
     ensures { result ≡ idle }
 {
@@ -31,6 +32,7 @@ pub fn idle() -> Task
 }
 
 // A running task: a call's number, its tag and its first line; the rest zeros and empty places.
+#[tactic(auto, unfolding(spec::specs::Machine::fresh_task, spec::specs::Machine::idle))]
 pub fn fresh_task(call: u32, tag: u32, line: u32) -> Task
     ensures { result ≡ fresh_task call tag line }
 {
@@ -39,15 +41,7 @@ pub fn fresh_task(call: u32, tag: u32, line: u32) -> Task
         call,
         tag,
         line,
-        i: 0,
-        own: 0,
-        t: 0,
-        s: 0,
-        b: 0,
-        m: 0,
-        n: 0,
-        new_node: 0,
-        new_bucket: 0,
+        ..idle()
     }
 }
 
@@ -68,11 +62,7 @@ pub fn config(tasks: u32) -> Config
 pub fn with_version(g: Config, version: u32) -> Config
     ensures { result ≡ with_version version g }
 {
-    Config {
-        tasks: g.tasks,
-        version,
-        zero_withdrawn: g.zero_withdrawn,
-    }
+    Config { version, ..g }
 }
 
 // The same under the new rule, by which tag 0 is withdrawn, or under the old one.
@@ -80,9 +70,8 @@ pub fn with_zero_withdrawn(g: Config, withdrawn: bool) -> Config
     ensures { result ≡ with_zero_withdrawn withdrawn g }
 {
     Config {
-        tasks: g.tasks,
-        version: g.version,
         zero_withdrawn: withdrawn,
+        ..g
     }
 }
 
@@ -97,22 +86,13 @@ pub fn zero_config() -> Config
     }
 }
 
-// The task before which task 0 comes, going round: T − 1; 0 if there is none.
-fn last_task(tasks: u32) -> u32
-    ensures { result ≡ tasks - 1 }
-{
-    if tasks == 0 {
-        return 0;
-    }
-    tasks - 1
-}
-
-// The state as an opening leaves it, with no task running: h nodes and b buckets.
+// The state as an opening leaves it, with no task running: h nodes and b buckets. The last task chosen is T − 1, before which task 0
+// comes, going round.
+#[tactic(auto, unfolding(spec::specs::Machine::state_of))]
 pub fn fresh_state(g: Config, h: u32, b: u32) -> State
     ensures { result ≡ state_of g h b }
 {
-    let c = idle();
-    let chosen = last_task(g.tasks);
+    let chosen = g.tasks.saturating_sub(1);
     State {
         config: g,
         nodes: h,
@@ -121,7 +101,7 @@ pub fn fresh_state(g: Config, h: u32, b: u32) -> State
         last_node: 0,
         last_bucket: 0,
         chosen,
-        task: [c; 8],
+        task: [idle(); 8],
     }
 }
 
@@ -129,6 +109,5 @@ pub fn fresh_state(g: Config, h: u32, b: u32) -> State
 pub fn zero_state() -> State
     ensures { result ≡ state_of zero_config 0 0 }
 {
-    let g = zero_config();
-    fresh_state(g, 0, 0)
+    fresh_state(zero_config(), 0, 0)
 }

@@ -1,6 +1,6 @@
 -- Any reader of lines over an input that comes in pieces, of which at most 41 bytes of a line are kept: a whole input gives what its lines give. A
 -- reader stands at some S; `answer s ls` is what it comes to if the lines `ls` follow, and `take_line` takes the bytes of a closed one. Assumes nothing.
-use Rattle.std.specs.Prelude.{ℕ, ◌+◌, ◌-◌, ◌<◌, ◌≤◌, ◌≡◌, List, [], ◌∷◌, ◌++◌, Bool, true, false, eqb, length, take, if◌then◌else◌}
+use Rattle.std.specs.Prelude.{ℕ, ◌+◌, ◌<◌, ◌≤◌, ◌≡◌, List, [], ◌∷◌, ◌++◌, Bool, true, false, eqb, length, if◌then◌else◌}
 use Rattle.session.specs.Grammar.{InputLine, closed_line, open_line, input_lines, admissible}
 use Rattle.partial_line.specs.PartialLines.{line_bytes}
 use Rattle.stdio.specs.declared.input.Given.TheVariants.{TooLong, Ended}

@@ -1,6 +1,6 @@
 -- What a run prints, and a whole program: `Prints` of an input, on standard input or in memory; `Ran` of standard input. `f` is the paper's definition of what
 -- an input gives. Assumes nothing.
-use Rattle.std.specs.Prelude.{ℕ, ◌+◌, ◌≤◌, ◌≡◌, refl, List, [], ◌++◌, Bool, true, false, ℤ, pos, length, take}
+use Rattle.std.specs.Prelude.{ℕ, ◌≤◌, ◌≡◌, refl, List, [], ◌++◌, Bool, true, false, ℤ, pos, length, take}
 use Rattle.std.proofs.Common.{sym, ap, subst, ◌∙◌, of_z, to_z}
 use Rattle.std.specs.Int.{w32}
 use Rattle.session.specs.Grammar.{InputLine, input_lines}

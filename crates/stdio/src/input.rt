@@ -1,8 +1,9 @@
 // An input by lines, standard input or bytes in memory: `next_line` gives what is known of the next one after at most one read. No line is kept beyond its
 // 41st byte, and no byte is read after one that fixed the answer.
-ghost use Rattle.std.specs.Prelude.{◌≡◌, ◌≤◌, length, if◌then◌else◌};
-ghost use Rattle.stdio.specs.Inputs.{given_number, is_line, is_long, at_end, failed, unclosed_end, cut_off, leaves_out, begun_line};
-ghost use Rattle.stdio.specs.Inputs.{line_number, given_of, left_of, begin, with_given, settled_if, stopped_at, Fits, Taken, Gives};
+ghost use Rattle.std.specs.Prelude.{◌≡◌, length, eqb};
+ghost use Rattle.stdio.specs.Inputs.{given_number, is_line, is_long, at_end, goes_on, failed, unclosed_end, cut_off, leaves_out, begun_line};
+ghost use Rattle.stdio.specs.Inputs.{line_number, given_of, left_of, begin, with_given, settled_if, Fits, Taken, Gives};
+ghost use Rattle.stdio.specs.Outcomes.{will_read};
 
 use crate::source::Source;
 use partial_line::PartialLine;
@@ -41,229 +42,177 @@ pub fn room() -> [u8; 1024]
     [0; 1024]
 }
 
-// How many bytes are at hand before any are read: none of standard input, all of an input in memory.
-fn at_hand(reads: bool, n: usize) -> usize
-    ensures { result ≡ (if reads then 0 else n) }
-{
-    if reads {
-        return 0;
-    }
-    n
-}
-
-// Standard input, of which nothing is read yet, or n bytes that are in memory.
+// Standard input, of which nothing is read yet, or n bytes that are in memory, all of them at hand.
+#[tactic(auto, unfolding(crate::specs::Inputs::begin))]
 pub fn begin(reads: bool, n: usize) -> Input
     ensures { result ≡ begin reads n }
 {
-    let line = partial_line::empty_line();
     Input {
         at: 0,
-        end: at_hand(reads, n),
+        end: if reads { 0 } else { n },
         reads,
         number: 1,
-        left: 18446744073709551615,
-        line,
+        left: u64::MAX,
+        line: partial_line::empty_line(),
         given: Given::Part,
     }
 }
 
-// More may be asked for after 0 and 1; a line fixed the answer in 2 and 3; a read or a write failed in 5 and 6.
-pub fn given_number(given: Given) -> u8
-    ensures { result ≡ given_number given }
+// Whether more may be asked for.
+#[tactic(auto, unfolding(crate::specs::Inputs::given_number))]
+fn goes_on(given: Given) -> bool
+    ensures { result ≡ goes_on given }
 {
-    match given {
-        Given::Part => 0,
-        Given::Line => 1,
-        Given::TooLong => 2,
-        Given::Settled => 3,
-        Given::Ended => 4,
-        Given::ReadFailed => 5,
-        Given::WriteFailed => 6,
-    }
+    matches!(given, Given::Part | Given::Line)
 }
 
 // Whether the last call gave a closed line.
+#[tactic(auto, unfolding(crate::specs::Inputs::given_number))]
 pub fn has_line(p: Input) -> bool
     ensures { result ≡ is_line p.given }
 {
-    let given = p.given;
-    given_number(given) == 1
+    matches!(p.given, Given::Line)
 }
 
 // Whether the line at hand is too long.
+#[tactic(auto, unfolding(crate::specs::Inputs::given_number))]
 pub fn has_long(p: Input) -> bool
     ensures { result ≡ is_long p.given }
 {
-    let given = p.given;
-    given_number(given) == 2
+    matches!(p.given, Given::TooLong)
 }
 
+#[tactic(auto, unfolding(crate::specs::Inputs::given_number))]
 pub fn has_ended(p: Input) -> bool
     ensures { result ≡ at_end p.given }
 {
-    let given = p.given;
-    given_number(given) == 4
+    matches!(p.given, Given::Ended)
 }
 
 // Whether a read or a write failed.
+#[tactic(auto, unfolding(crate::specs::Inputs::given_number))]
 pub fn has_failed(p: Input) -> bool
     ensures { result ≡ failed p.given }
 {
-    let given = p.given;
-    4 < given_number(given)
+    matches!(p.given, Given::ReadFailed | Given::WriteFailed)
 }
 
 // Whether the input ended in the middle of a line.
 pub fn unclosed(p: Input) -> bool
     ensures { result ≡ unclosed_end p }
 {
-    let h = p.line;
-    if has_ended(p) {
-        return h.len != 0;
-    }
-    false
+    has_ended(p) && p.line.len != 0
 }
 
 // Whether the last line is outside the grammar: too long, or not closed.
+#[tactic(auto, unfolding(crate::specs::Inputs::cut_off))]
 pub fn cut_off(p: Input) -> bool
     ensures { result ≡ cut_off p }
 {
-    if has_long(p) {
-        return true;
-    }
-    unclosed(p)
+    has_long(p) || unclosed(p)
+}
+
+// Whether a line fixed the answer.
+#[tactic(auto, unfolding(crate::specs::Inputs::given_number))]
+fn has_settled(p: Input) -> bool
+    ensures { result ≡ eqb (given_number p.given) 3 }
+{
+    matches!(p.given, Given::Settled)
 }
 
 // Whether the last line is left out of an answer that goes by the lines before it: it fixed the answer, or is outside the grammar.
+#[tactic(auto, unfolding(crate::specs::Inputs::leaves_out))]
 pub fn leaves_out(p: Input) -> bool
     ensures { result ≡ leaves_out p }
 {
-    let given = p.given;
-    if given_number(given) == 3 {
-        return true;
-    }
-    cut_off(p)
+    has_settled(p) || cut_off(p)
+}
+
+// The next call for a line will read: nothing is at hand.
+#[tactic(auto, unfolding(crate::specs::Outcomes::will_read))]
+pub(crate) fn will_read(p: Input) -> bool
+    ensures { result ≡ will_read p }
+{
+    goes_on(p.given) && p.reads && p.end <= p.at
 }
 
 // The line that is begun: none after one that was given whole.
+#[tactic(auto, unfolding(crate::specs::Inputs::begun_line))]
 pub fn begun(p: Input) -> PartialLine
     ensures { result ≡ begun_line p }
 {
-    let h = p.line;
     if has_line(p) {
-        let bytes = h.bytes;
-        return PartialLine { bytes, len: 0 };
+        PartialLine { len: 0, ..p.line }
+    } else {
+        p.line
     }
-    h
 }
 
 // The number of the line that is begun.
+#[tactic(auto, unfolding(crate::specs::Inputs::line_number))]
 fn line_number(p: Input) -> u64
     ensures { result ≡ line_number p }
 {
-    let n = p.number;
     if has_line(p) {
-        if n < 18446744073709551615 {
-            return n + 1;
-        }
+        p.number.saturating_add(1)
+    } else {
+        p.number
     }
-    n
 }
 
+#[tactic(auto, unfolding(crate::specs::Inputs::given_of))]
 fn given_by(closed: bool, len: usize) -> Given
     ensures { result ≡ given_of closed len }
 {
     if closed {
-        return Given::Line;
+        Given::Line
+    } else if len < 41 {
+        Given::Part
+    } else {
+        Given::TooLong
     }
-    if len < 41 {
-        return Given::Part;
-    }
-    Given::TooLong
 }
 
 // How many calls are left after one that gave this.
+#[tactic(auto, unfolding(crate::specs::Inputs::left_of))]
 fn left_after(given: Given, n: u64) -> u64
     ensures { result ≡ left_of given n }
 {
-    if given_number(given) < 2 {
-        return n;
-    }
-    0
+    if goes_on(given) { n } else { 0 }
 }
 
 // No more is to be asked for.
 pub fn over(p: Input, given: Given) -> Input
     ensures { result ≡ with_given p given }
 {
-    let line = p.line;
     Input {
-        at: p.at,
-        end: p.end,
-        reads: p.reads,
-        number: p.number,
         left: 0,
-        line,
         given,
+        ..p
     }
 }
 
 // After a line that fixes the answer, or does not.
+#[tactic(auto, unfolding(crate::specs::Inputs::settled_if))]
 pub fn settle(p: Input, settled: bool) -> Input
     ensures { result ≡ settled_if settled p }
 {
-    if settled {
-        return over(p, Given::Settled);
-    }
-    p
+    if settled { over(p, Given::Settled) } else { p }
 }
 
-// The input after some bytes of the room, which are at hand.
-fn taken(
-    h: PartialLine,
-    number: u64,
-    n: u64,
-    reads: bool,
-    at: usize,
-    end: usize,
-    room: &[u8],
-) -> Input
-    requires { (at ≤ end) × (end ≤ length room.now) }
-    ensures { Taken h at end reads n room.now result }
+// The input after some bytes of the room, which are at hand, where the line at hand is begun and n calls are left.
+fn taken(p: Input, n: u64, room: &[u8]) -> Input
+    requires { Fits p room.now }
+    ensures { Taken p.line p.at p.end p.reads n room.now result }
 {
-    let f = partial_line::fill(h, &room[at..end]);
-    let line = f.line;
-    let what = given_by(f.closed, line.len);
+    let f = partial_line::fill(p.line, &room[p.at..p.end]);
+    let given = given_by(f.closed, f.line.len);
     Input {
-        at: at + f.used,
-        end,
-        reads,
-        number,
-        left: left_after(what, n),
-        line,
-        given: what,
-    }
-}
-
-// The input where no more is to be asked for.
-pub fn stopped(
-    h: PartialLine,
-    number: u64,
-    reads: bool,
-    at: usize,
-    end: usize,
-    given: Given,
-) -> Input
-    ensures { result ≡ stopped_at h number reads at end given }
-{
-    Input {
-        at,
-        end,
-        reads,
-        number,
-        left: 0,
-        line: h,
+        at: p.at + f.used,
+        left: left_after(given, n),
+        line: f.line,
         given,
+        ..p
     }
 }
 
@@ -272,28 +221,25 @@ pub fn next_line<S: Source>(from: &mut S, p: Input, room: &mut [u8]) -> Input
     requires { Fits p room.old }
     ensures { Gives p room.old result room.new }
 {
-    let h = begun(p);
-    let number = line_number(p);
-    let at = p.at;
-    let end = p.end;
-    let reads = p.reads;
+    let q = Input {
+        number: line_number(p),
+        line: begun(p),
+        ..p
+    };
     if p.left < 2 {
-        return stopped(h, number, reads, at, end, Given::ReadFailed);
+        return over(q, Given::ReadFailed);
     }
     let n = p.left - 1;
-    if at < end {
-        return taken(h, number, n, reads, at, end, room);
+    if p.at < p.end {
+        return taken(q, n, room);
     }
-    if !reads {
-        return stopped(h, number, reads, 0, 0, Given::Ended);
+    let none = Input { at: 0, end: 0, ..q };
+    if !p.reads {
+        return over(none, Given::Ended);
     }
-    let got = from.read(room);
-    if got.failed {
-        return stopped(h, number, reads, 0, 0, Given::ReadFailed);
+    match from.read(room) {
+        Err(_) => over(none, Given::ReadFailed),
+        Ok(0) => over(none, Given::Ended),
+        Ok(count) => taken(Input { end: count, ..none }, n, room),
     }
-    let count = got.count;
-    if count == 0 {
-        return stopped(h, number, reads, 0, 0, Given::Ended);
-    }
-    taken(h, number, n, reads, 0, count, room)
 }

@@ -5,7 +5,7 @@ ghost use Rattle.stdio.specs.Inputs.{leaves_out};
 ghost use Rattle.stdio.specs.Outcomes.{status_number, outcome_with, said, last_line_start, last_line, Passes, Ends, Exits};
 
 use crate::input::{Given, Input};
-use crate::words;
+use crate::{input, words};
 
 // The answer is yes; it is no; the input was refused; a read or a write failed.
 #[derive(Clone, Copy)]
@@ -25,10 +25,7 @@ pub struct Passed {
 
 // Writes some bytes, or none where they are not to be shown. False if a write failed.
 fn show(shown: bool, text: &[u8]) -> bool {
-    if shown {
-        return io::write_all(1, text);
-    }
-    true
+    !shown || io::write_all(1, text)
 }
 
 // What is printed so far, the first `due` bytes of the buffer, is written if the next call for a line will read, and kept if not; where it is not to be
@@ -37,22 +34,17 @@ pub fn pass_on(p: Input, shown: bool, out: &[u8], due: usize) -> Passed
     requires { due ≤ length out.now }
     ensures { Passes p due result }
 {
-    let given = p.given;
-    if 1 < crate::input::given_number(given) {
-        return Passed { input: p, due };
-    }
-    if !p.reads {
-        return Passed { input: p, due };
-    }
-    if p.at < p.end {
+    if !input::will_read(p) {
         return Passed { input: p, due };
     }
     if show(shown, &out[..due]) {
         return Passed { input: p, due: 0 };
     }
-    let h = crate::input::begun(p);
-    let q = crate::input::stopped(h, p.number, p.reads, p.at, p.end, Given::WriteFailed);
-    Passed { input: q, due: 0 }
+    let line = input::begun(p);
+    Passed {
+        input: input::over(Input { line, ..p }, Given::WriteFailed),
+        due: 0,
+    }
 }
 
 // What the last line of an answer says.
@@ -64,48 +56,41 @@ fn text_says(text: &[u8]) -> Outcome
 }
 
 // Where the last line of a text begins.
+#[tactic(auto, using(crate::proofs::OutputLaws::starts_here, crate::proofs::OutputLaws::starts_before, crate::proofs::OutputLaws::starts_first))]
 pub fn last_line(text: &[u8]) -> usize
     ensures value { result ≡ last_line_start text.now }
     ensures upper_bound { result ≤ length text.now }
 {
-    if text.len() == 0 {
-        return 0;
-    }
-    let mut i = text.len() - 1;
-    while 0 < i {
-        if text[i - 1] == 10 {
+    for i in (1..text.len()).rev() {
+        if text[i - 1] == b'\n' {
             return i;
         }
-        i -= 1;
     }
     0
 }
 
+#[tactic(auto, unfolding(crate::specs::Outcomes::said))]
 fn line_says(line: &[u8]) -> Outcome
     ensures { result ≡ said line.now }
 {
     if session_keys::starts_with(line, b"refuse=") {
-        return Outcome::Refused;
+        Outcome::Refused
+    } else if session_keys::starts_with(line, b"line=")
+        || session_keys::starts_with(line, b"none")
+        || session_keys::starts_with(line, b"office")
+    {
+        Outcome::No
+    } else {
+        Outcome::Yes
     }
-    if session_keys::starts_with(line, b"line=") {
-        return Outcome::No;
-    }
-    if session_keys::starts_with(line, b"none") {
-        return Outcome::No;
-    }
-    if session_keys::starts_with(line, b"office") {
-        return Outcome::No;
-    }
-    Outcome::Yes
 }
 
 // The answer, written at the end of a run, or what failed, on standard error. Of an input that was refused standard error has the line and the reason.
 pub fn answer(name: &[u8], p: Input, text: &[u8]) -> Outcome
     ensures { Ends p text.now result }
 {
-    let given = p.given;
-    if crate::input::has_failed(p) {
-        words::failure(name, given);
+    if input::has_failed(p) {
+        words::failure(name, p.given);
         return Outcome::Failed;
     }
     if !io::write_all(1, text) {
@@ -118,27 +103,24 @@ pub fn answer(name: &[u8], p: Input, text: &[u8]) -> Outcome
 }
 
 // The outcome of an answer that goes by the lines before the last one, if that is left out: told as a refusal is, unless something failed.
+#[tactic(auto, unfolding(crate::specs::Outcomes::outcome_with, crate::specs::Outcomes::refused_unless_failed))]
 pub fn left_out(name: &[u8], p: Input, o: Outcome) -> Outcome
     ensures { result ≡ outcome_with (leaves_out p) o }
 {
-    if !crate::input::leaves_out(p) {
+    if !input::leaves_out(p) {
         return o;
     }
     match o {
-        Outcome::Yes => {
+        Outcome::Yes | Outcome::No => {
             words::refusal(name, p, 10);
             Outcome::Refused
         }
-        Outcome::No => {
-            words::refusal(name, p, 10);
-            Outcome::Refused
-        }
-        Outcome::Refused => Outcome::Refused,
-        Outcome::Failed => Outcome::Failed,
+        Outcome::Refused | Outcome::Failed => o,
     }
 }
 
 // The exit status.
+#[tactic(auto, unfolding(crate::specs::Outcomes::status_number))]
 pub fn status(o: Outcome) -> i32
     ensures { result ≡ pos (status_number o) }
 {
@@ -162,7 +144,5 @@ pub fn exit(name: &[u8], t: Text, out: &[u8]) -> i32
     requires { t.len ≤ length out.now }
     ensures { Exits t.input (take t.len out.now) result }
 {
-    let p = t.input;
-    let o = answer(name, p, &out[..t.len]);
-    status(o)
+    status(answer(name, t.input, &out[..t.len]))
 }

@@ -13,49 +13,34 @@ use partial_line::PartialLine;
 fn resume(p: Input, n: u64) -> Input
     ensures { result ≡ resumed p n }
 {
-    let h = p.line;
-    let bytes = h.bytes;
-    let line = PartialLine { bytes, len: 0 };
     Input {
-        at: p.at,
-        end: p.end,
-        reads: p.reads,
-        number: p.number,
         left: n,
-        line,
+        line: PartialLine { len: 0, ..p.line },
         given: Given::Part,
+        ..p
     }
 }
 
 // A part of the line is passed over; byte 10 fixes the answer.
+#[tactic(auto, unfolding(crate::specs::LongLines::passed))]
 fn pass(t: Input, n: u64) -> Input
     ensures { result ≡ passed t.given t n }
 {
-    let given = t.given;
-    match given {
-        Given::Part => resume(t, n),
+    match t.given {
+        Given::Part | Given::TooLong => resume(t, n),
         Given::Line => crate::input::over(t, Given::Settled),
-        Given::TooLong => resume(t, n),
-        Given::Settled => t,
-        Given::Ended => t,
-        Given::ReadFailed => t,
-        Given::WriteFailed => t,
+        Given::Settled | Given::Ended | Given::ReadFailed | Given::WriteFailed => t,
     }
 }
 
 fn back(p: Input, q: Input) -> Input
     ensures { result ≡ line_of p q }
 {
-    let line = p.line;
-    let given = q.given;
     Input {
-        at: q.at,
-        end: q.end,
-        reads: q.reads,
         number: p.number,
         left: 0,
-        line,
-        given,
+        line: p.line,
+        ..q
     }
 }
 
@@ -64,12 +49,11 @@ pub fn close_line<S: Source>(from: &mut S, p: Input, room: &mut [u8]) -> Input
     requires { Fits p room.old × (p.given ≡ TooLong) × (0 < length (line_bytes p.line)) }
     ensures { Closes p room.old result room.new }
 {
-    let mut q = resume(p, 18446744073709551615);
+    let mut q = resume(p, u64::MAX);
     while 0 < q.left {
         let n = q.left - 1;
         let t = crate::input::next_line(from, q, room);
-        let d = pass(t, n);
-        q = d;
+        q = pass(t, n);
     }
     back(p, q)
 }

@@ -1,18 +1,16 @@
 // Where the bytes of standard input come from: one read at a time, of what is there at once.
-ghost use Rattle.std.specs.Prelude.{◌≤◌, length};
+ghost use Rattle.std.specs.Prelude.{◌≤◌, length, IfOk};
 
 use std::io::{ErrorKind, Read};
 
-// What one read gave: some bytes of the room, none where the input ends, or it failed.
+// A read failed: nothing is known of what comes after it.
 #[derive(Clone, Copy)]
-pub struct Got {
-    pub failed: bool,
-    pub count: usize,
-}
+pub struct ReadError;
 
 pub trait Source {
-    fn read(&mut self, room: &mut [u8]) -> Got
-        ensures { result.count ≤ length room.new };
+    // How many bytes of the room one read filled, none where the input ends.
+    fn read(&mut self, room: &mut [u8]) -> Result<usize, ReadError>
+        ensures { IfOk result (λ count. count ≤ length room.new) };
 }
 
 // A reader of std, as `stdin()` of the runtime: a read that a signal interrupts is gone on with.
@@ -28,29 +26,15 @@ impl<R: Read> Reader<R> {
 }
 
 impl<R: Read> Source for Reader<R> {
-    fn read(&mut self, room: &mut [u8]) -> Got {
+    fn read(&mut self, room: &mut [u8]) -> Result<usize, ReadError> {
         for _ in 0..u64::MAX {
             match self.reader.read(room) {
-                Ok(count) => {
-                    return Got {
-                        failed: false,
-                        count,
-                    };
-                }
-                Err(e) => {
-                    if e.kind() != ErrorKind::Interrupted {
-                        return Got {
-                            failed: true,
-                            count: 0,
-                        };
-                    }
-                }
+                Ok(count) => return Ok(count),
+                Err(e) if e.kind() == ErrorKind::Interrupted => {}
+                Err(_) => return Err(ReadError),
             }
         }
-        Got {
-            failed: true,
-            count: 0,
-        }
+        Err(ReadError)
     }
 }
 
@@ -62,17 +46,10 @@ pub struct Bytewise {
 }
 
 impl Source for Bytewise {
-    fn read(&mut self, room: &mut [u8]) -> Got {
-        if room.len() == 0 {
-            return Got {
-                failed: false,
-                count: 0,
-            };
+    fn read(&mut self, room: &mut [u8]) -> Result<usize, ReadError> {
+        if room.is_empty() {
+            return Ok(0);
         }
-        let count = io::read_full(self.fd, &mut room[..1]);
-        Got {
-            failed: false,
-            count,
-        }
+        Ok(io::read_full(self.fd, &mut room[..1]))
     }
 }

@@ -34,73 +34,49 @@ pub fn failure(name: &[u8], given: Given) {
 fn byte(line: &[u8], at: usize) -> u8
     ensures { result ≡ get_or line.now at 0 }
 {
-    if at < line.len() {
-        return line[at];
-    }
-    0
-}
-
-fn wide(x: u8) -> u32
-    ensures value { result ≡ x }
-    ensures upper_bound { result ≤ 255 }
-{
-    x as u32
+    line.get(at).copied().unwrap_or(0)
 }
 
 fn digit(line: &[u8], at: usize) -> u32
     ensures value { result ≡ digit line.now at }
     ensures upper_bound { result ≤ 255 }
 {
-    let x = wide(byte(line, at));
-    if x < 48 {
-        return 0;
-    }
-    x - 48
+    u32::from(byte(line, at).saturating_sub(b'0'))
 }
 
 // The number of a refusal's line, `refuse=` and one digit or two.
+#[tactic(auto, using(crate::proofs::OutputLaws::one_digit, crate::proofs::OutputLaws::two_digits))]
 fn refusal_number(line: &[u8]) -> u32
     ensures { result ≡ refusal_number line.now }
 {
     let first = digit(line, 7);
-    if byte(line, 8) < 48 {
-        return first;
+    if byte(line, 8) < b'0' {
+        first
+    } else {
+        first * 10 + digit(line, 8)
     }
-    first * 10 + digit(line, 8)
 }
 
 // Whether the last byte of the line at hand is a carriage return.
 fn returns_carriage(p: Input) -> bool {
-    let h = p.line;
-    let n = partial_line::line_length(h);
-    let b = h.bytes;
-    if n == 0 {
-        return false;
-    }
-    byte(&b, n - 1) == 13
+    matches!(p.line.as_bytes().last(), Some(b'\r'))
 }
 
 // Why a line is outside the grammar (10).
 fn line_cause(p: Input) {
-    let given = p.given;
-    let h = p.line;
-    if 40 < h.len {
+    if 40 < p.line.len {
         say(b"more than 40 bytes");
-        return;
-    }
-    if let Given::Ended = given {
-        if h.len == 0 {
+    } else if let Given::Ended = p.given {
+        if p.line.len == 0 {
             say(b"the input ends too early");
-            return;
+        } else {
+            say(b"last line is not closed");
         }
-        say(b"last line is not closed");
-        return;
-    }
-    if returns_carriage(p) {
+    } else if returns_carriage(p) {
         say(b"carriage return before the end of the line");
-        return;
+    } else {
+        say(b"outside the grammar");
     }
-    say(b"outside the grammar");
 }
 
 // The cause of a refusal that belongs to no one line: README.md has them all.
@@ -118,20 +94,26 @@ fn cause(n: u32) {
     }
 }
 
-// Which line was refused, where it is one, and why.
+fn line_number(p: Input) {
+    say(b"line ");
+    io::print_decimal(2, p.number);
+    say(b": ");
+}
+
+// Which line was refused, where it is one, and why. The refusal is a number here, in `cause` and in `refusal_number`, and no enum: what is printed and told
+// is the paper's number, read off the printed line, and the definitions and the crate refusal_laws say numbers.
 pub fn refusal(name: &[u8], p: Input, n: u32) {
     program(name);
-    if (n == 10) | (n == 12) {
-        say(b"line ");
-        io::print_decimal(2, p.number);
-        say(b": ");
-    }
-    if n == 10 {
-        line_cause(p);
-    } else if n == 12 {
-        say(b"missing");
-    } else {
-        cause(n);
+    match n {
+        10 => {
+            line_number(p);
+            line_cause(p);
+        }
+        12 => {
+            line_number(p);
+            say(b"missing");
+        }
+        _ => cause(n),
     }
     say(b"\n");
 }

@@ -1,4 +1,5 @@
 -- Laws of the rows that the proofs of the functions cite, in the form in which loops and branches use them. Assumes nothing.
+use Rattle.std.specs.Prelude.{Option}
 use mathlib.Core.Path.{◌≡◌, refl, ap, subst, ◌∙◌}
 use mathlib.Core.List.{List, [], ◌++◌}
 use mathlib.Core.Bool.{Bool, true, false}
@@ -22,7 +23,7 @@ use Rattle.session_bytes.proofs.Laws.{append_2}
 use Rattle.timeline.specs.declared.Timeline.{Timeline}
 use Rattle.timeline.specs.declared.Taken.{Taken}
 use Rattle.timeline.specs.Lines.{timeline, taken, front, count_after, after_line, timeline_line, timeline_end, TakenAs, EndedBy}
-use Rattle.timeline_rows.specs.Rows.{column, task_columns, task_name, task_names}
+use Rattle.timeline_rows.specs.Rows.{column, task_columns, task_name, task_names, event_word, answer_word, heading}
 
 -- ---- the columns from task j on, of the n tasks that have one
 
@@ -39,11 +40,7 @@ columns_end n j k ts t h =
     let e : n - j ≡ 0 = omega arith in
     rw e
 
-pub columns_from : (tasks k : ℕ) (ts : List Task) (most : ℕ) (t : Buffer) → most ≡ min tasks 8
-    → append (task_columns (most - 0) 0 k ts) t ≡ append (task_columns (min tasks 8) 0 k ts) t
-columns_from tasks k ts most t e =
-    let d : most - 0 ≡ min tasks 8 = omega (arith, e) in
-    ap (λ (m : ℕ). append (task_columns m 0 k ts) t) d
+pub ruleset columns = (columns_on, columns_end)
 
 -- ---- likewise the names in the first row
 
@@ -60,11 +57,13 @@ names_end n j t h =
     let e : n - j ≡ 0 = omega arith in
     rw e
 
-pub names_from : (tasks most : ℕ) (t : Buffer) → most ≡ min tasks 8
-    → append (task_names (most - 0) 0) t ≡ append (task_names (min tasks 8) 0) t
-names_from tasks most t e =
-    let d : most - 0 ≡ min tasks 8 = omega (arith, e) in
-    ap (λ (m : ℕ). append (task_names m 0) t) d
+pub ruleset names = (names_on, names_end)
+
+pub heading_parts : (tasks : ℕ) (t : Buffer) → append (heading tasks) t ≡ append answer_word (append (task_names (min tasks 8) 0) (append event_word t))
+unfolding heading
+heading_parts tasks t =
+    append_both (event_word ++ task_names (min tasks 8) 0) answer_word t
+    ∙ ap (append answer_word) (append_both event_word (task_names (min tasks 8) 0) t)
 
 -- ---- a line
 
@@ -80,7 +79,7 @@ module _ (t : Timeline) (ns bs : List ℕ) (l : InputLine) (d : Handled) (n' b' 
   printed_within = omega (arith, append_within _ w w' d.printed h.wrote, room)
 
   -- the row's columns, and then that
-  pub takes : (x : EventLine) (before middle after : List ℕ) (f e k : ℕ) (r : Taken) → x ≡ parse_event_line l
+  pub takes : (x : Option EventLine) (before middle after : List ℕ) (f e k : ℕ) (r : Taken) → x ≡ parse_event_line l
       → buffer middle f ≡ append (front x t d.session) (buffer before 0) → buffer after e ≡ append (take d.printed w') (buffer middle f)
       → k ≡ count_after x t d.session → r ≡ taken (timeline d.session k) e
       → TakenAs (timeline_line t ns bs l) r n' b' before after
@@ -95,7 +94,7 @@ module _ (t : Timeline) (ns bs : List ℕ) (l : InputLine) (d : Handled) (n' b' 
             ∙ append_2 (front x t d.session) (take d.printed w') (buffer before 0) (buffer middle f) (buffer after e) fronts copied
             ∙ ap (λ (q : List ℕ). append (front x t d.session ++ q) (buffer before 0)) printed_whole
             ∙ ap (λ (s : Session). append (front x t s ++ p.prints) (buffer before 0)) h.next
-            ∙ ap (λ (y : EventLine). append (front y t p.session ++ p.prints) (buffer before 0)) same;
+            ∙ ap (λ (y : Option EventLine). append (front y t p.session ++ p.prints) (buffer before 0)) same;
       }
 
 -- ---- the end of the input

@@ -1,22 +1,21 @@
 -- Each event has its row, accepted or refused, and each row is one line: `event_row` says which, `row_is_one_line` that it has one byte 10, and
 -- `as_many_rows` that so many events print as many lines. Assumes nothing.
-use Rattle.std.specs.Prelude.{◌≡◌, List, [], ◌∷◌, ◌++◌, Bool, true, false, ℕ, zero, suc, ◌+◌, ◌/◌, ◌%◌, min, eqb, ltb, length, get_or, if◌then◌else◌}
+use Rattle.std.specs.Prelude.{◌≡◌, List, [], ◌∷◌, ◌++◌, Bool, true, false, ℕ, zero, suc, ◌+◌, ◌/◌, ◌%◌, min, eqb, ltb, length, get_or, if◌then◌else◌, Option, Some, None, Ok, Err}
 use Rattle.std.proofs.Math.Path.{refl, ap, subst}
 use Rattle.std.proofs.Common.{sym, ◌∙◌, arith, ne_eqb}
 use Rattle.spec.specs.declared.Answer.{Answer}
 use Rattle.spec.specs.declared.Answer.TheVariants.{Yes, No, Full, Done, Lost, Limit}
 use Rattle.spec.specs.declared.Call.{Call}
-use Rattle.spec.specs.declared.Occupancy.{Occupancy}
-use Rattle.spec.specs.declared.Occupancy.TheVariants.{NotGiven, Tags}
-use Rattle.spec.specs.declared.Output.{Output}
-use Rattle.spec.specs.declared.Output.TheVariants.{At, End, Refuse}
+use Rattle.spec.specs.Outputs.{Output}
+use Rattle.spec.specs.declared.Progress.TheVariants.{At, End}
 use Rattle.spec.specs.declared.State.{State}
 use Rattle.spec.specs.declared.Task.{Task}
 use Rattle.spec.specs.Machine.{idle}
 use Rattle.spec.specs.Schedule.{Event, starts, steps, event}
+use Rattle.spec.specs.Numbers.{refusal_number}
 use Rattle.laws.specs.Tests.{tf, and_left, and_right}
 use Rattle.session.specs.declared.EventLine.{EventLine}
-use Rattle.session.specs.declared.EventLine.TheVariants.{Start, Step, Outside}
+use Rattle.session.specs.declared.EventLine.TheVariants.{Start, Step}
 use Rattle.session.specs.Grammar.{InputLine, parse_event_line}
 use Rattle.session.specs.Keys.{newline, comma}
 use Rattle.session.specs.Print.{decimal_digits, decimal, key_line, answer_word, occupancy_field, refusal_line, output_line}
@@ -28,7 +27,7 @@ use Rattle.session_state.specs.Handling.{reads_events, session_machine, with_mac
 use Rattle.timeline.specs.declared.Timeline.{Timeline}
 use Rattle.timeline_rows.specs.Rows.{blank, figure, number_field, mark, stands_first, stands_second, column, task_columns, row_columns, row}
 use Rattle.timeline_rows.specs.Columns.{one_more, counted, columns_of, heading_of}
-use Rattle.timeline.specs.Lines.{timeline, front, count_after, TimelineEffect, after_line, timeline_line}
+use Rattle.timeline.specs.Lines.{front, count_after, TimelineEffect, after_line, timeline_line}
 
 -- ---- lines are counted by their closing bytes
 
@@ -127,17 +126,17 @@ word_plain Done = refl
 word_plain Lost = refl
 word_plain Limit = refl
 
-field_plain : (full : Occupancy) → newlines (occupancy_field full) ≡ 0
+field_plain : (full : Option ℕ) → newlines (occupancy_field full) ≡ 0
 unfolding occupancy_field newlines
-field_plain NotGiven = refl
-field_plain (Tags n) = newlines_both (comma ∷ []) (decimal n) ∙ omega (arith, decimal_plain n)
+field_plain None = refl
+field_plain (Some n) = newlines_both (comma ∷ []) (decimal n) ∙ omega (arith, decimal_plain n)
 
 output_one_line : (k : ℕ) (o : Output) → newlines (output_line k o) ≡ 1
 unfolding output_line refusal_line key_line newlines
-output_one_line k (At l) = simp newlines_both (omega (arith, decimal_plain k, decimal_plain l))
-output_one_line k (End a own full) =
+output_one_line k (Ok (At l)) = simp newlines_both (omega (arith, decimal_plain k, decimal_plain l))
+output_one_line k (Ok (End a own full)) =
     simp newlines_both (omega (arith, decimal_plain k, word_plain a, decimal_plain own, field_plain full))
-output_one_line k (Refuse r) = simp newlines_both (omega (arith, decimal_plain r))
+output_one_line k (Err r) = simp newlines_both (omega (arith, decimal_plain (refusal_number r)))
 
 pub row_is_one_line : (n tasks k : ℕ) (s : State) (o : Output) → newlines (row n tasks k s o) ≡ 1
 unfolding row row_columns
@@ -170,18 +169,18 @@ module _ (t : Timeline) (ns bs : List ℕ) (l : InputLine) (reading : t.session.
   unfolding heading_of
   no_heading cols rest after = ap (λ (b : Bool). (heading_of b after ++ cols) ++ rest) is_reading
 
-  pub start_row : (k : ℕ) (call : Call) (tag : ℕ) → parse_event_line l ≡ Start k call tag
+  pub start_row : (k : ℕ) (call : Call) (tag : ℕ) → parse_event_line l ≡ Some (Start k call tag)
       → HasRow t ns bs (starts k call tag) (timeline_line t ns bs l)
   unfolding timeline_line after_line event_effect reply_effect with_machine front count_after counted columns_of reads_events event_row row event task_in
   start_row k call tag e =
-      let eq = ap (after_line (parse_event_line l) t) session_reads ∙ ap (λ (x : EventLine). after_line x t (event_effect x t.session ns bs)) e in
-      let d = after_line (Start k call tag) t (event_effect (Start k call tag) t.session ns bs) in
+      let eq = ap (after_line (parse_event_line l) t) session_reads ∙ ap (λ (x : Option EventLine). after_line x t (event_effect x t.session ns bs)) e in
+      let d = after_line (Some (Start k call tag)) t (event_effect (Some (Start k call tag)) t.session ns bs) in
       subst (HasRow t ns bs (starts k call tag)) (sym eq) (record { prints = no_heading _ _ _; reading = refl; events = refl })
 
-  pub step_row : (k : ℕ) → parse_event_line l ≡ Step k → HasRow t ns bs (steps k) (timeline_line t ns bs l)
+  pub step_row : (k : ℕ) → parse_event_line l ≡ Some (Step k) → HasRow t ns bs (steps k) (timeline_line t ns bs l)
   unfolding timeline_line after_line event_effect reply_effect with_machine front count_after counted columns_of reads_events event_row row event task_in
   step_row k e =
-      let eq = ap (after_line (parse_event_line l) t) session_reads ∙ ap (λ (x : EventLine). after_line x t (event_effect x t.session ns bs)) e in
+      let eq = ap (after_line (parse_event_line l) t) session_reads ∙ ap (λ (x : Option EventLine). after_line x t (event_effect x t.session ns bs)) e in
       subst (HasRow t ns bs (steps k)) (sym eq) (record { prints = no_heading _ _ _; reading = refl; events = refl })
 
 -- ---- the lines of an input
@@ -216,12 +215,12 @@ as_many_rows (l ∷ ls) t ns bs p a =
     rest : List ℕ
     rest = timeline_rows d.timeline d.nodes d.buckets ls
 
-    go : (x : EventLine) → parse_event_line l ≡ x → is_event x ≡ true → (d.timeline.session.phase ≡ Events → newlines rest ≡ length ls)
+    go : (x : Option EventLine) → parse_event_line l ≡ x → is_event x ≡ true → (d.timeline.session.phase ≡ Events → newlines rest ≡ length ls)
         → newlines (d.prints ++ rest) ≡ suc (length ls)
-    go (Start k call tag) e b ih =
+    go (Some (Start k call tag)) e b ih =
         let h = start_row t ns bs l p k call tag e in
         row_and_rest t ns bs rest (starts k call tag) d (length ls) h (ih h.reading)
-    go (Step k) e b ih =
+    go (Some (Step k)) e b ih =
         let h = step_row t ns bs l p k e in
         row_and_rest t ns bs rest (steps k) d (length ls) h (ih h.reading)
-    go Outside e b ih = absurd (tf b refl)
+    go None e b ih = absurd (tf b refl)

@@ -1,12 +1,12 @@
 -- How many bytes a timeline prints at most: for a row, for a line of the input and for its end. They tell a caller how much room to lend. Assumes
 -- nothing.
-use Rattle.std.specs.Prelude.{◌≡◌, refl, List, [], ◌++◌, Bool, true, false, ℕ, zero, suc, ◌+◌, ◌*◌, ◌≤◌, min, length, if◌then◌else◌}
+use Rattle.std.specs.Prelude.{◌≡◌, refl, List, [], ◌++◌, Bool, true, false, ℕ, zero, suc, ◌+◌, ◌*◌, ◌≤◌, min, length, if◌then◌else◌, Option, Some, None}
 use Rattle.std.proofs.Common.{arith, length-append}
-use Rattle.spec.specs.declared.Output.{Output}
+use Rattle.spec.specs.Outputs.{Output}
 use Rattle.spec.specs.declared.State.{State}
 use Rattle.spec.specs.declared.Task.{Task}
 use Rattle.session.specs.declared.EventLine.{EventLine}
-use Rattle.session.specs.declared.EventLine.TheVariants.{Start, Step, Outside}
+use Rattle.session.specs.declared.EventLine.TheVariants.{Start, Step}
 use Rattle.session.specs.Grammar.{InputLine, open_line, parse_event_line}
 use Rattle.session.specs.OutputLengths.{longest_line, longest_end, output_length}
 use Rattle.session_state.specs.declared.Session.{Session}
@@ -51,18 +51,18 @@ heading_bound tasks = simp length-append (omega (arith, names_length (min tasks 
 
 -- ---- a line of the input
 
-columns_of_bound : (x : EventLine) (n : ℕ) (before after : Session) → length (columns_of x n before after) ≤ 71
+columns_of_bound : (x : Option EventLine) (n : ℕ) (before after : Session) → length (columns_of x n before after) ≤ 71
 unfolding columns_of
-columns_of_bound (Start k call tag) n before after = row_columns_length _ _ _ _
-columns_of_bound (Step k) n before after = row_columns_length _ _ _ _
-columns_of_bound Outside n before after = omega arith
+columns_of_bound (Some (Start k call tag)) n before after = row_columns_length _ _ _ _
+columns_of_bound (Some (Step k)) n before after = row_columns_length _ _ _ _
+columns_of_bound None n before after = omega arith
 
 heading_of_bound : (reading : Bool) (after : Session) → length (heading_of reading after) ≤ 78
 unfolding heading_of
 heading_of_bound true after = omega arith
 heading_of_bound false after = heading_bound _
 
-front_bound : (x : EventLine) (t : Timeline) (after : Session) → length (front x t after) ≤ 149
+front_bound : (x : Option EventLine) (t : Timeline) (after : Session) → length (front x t after) ≤ 149
 unfolding front
 front_bound x t after = go (reads_events after.phase)
   where

@@ -1,6 +1,6 @@
 -- A timeline, a line of the session's input at a time: the session goes on as it does (Handling of session_state), and before what it prints for an
 -- event's line stand the row's columns, after an opening that is accepted the first row. Assumes nothing.
-use Rattle.std.specs.Prelude.{ℕ, ◌≡◌, List, [], ◌++◌, Bool, true, false, if◌then◌else◌}
+use Rattle.std.specs.Prelude.{ℕ, ◌≡◌, List, [], ◌++◌, Bool, true, false, if◌then◌else◌, Option}
 use Rattle.session.specs.declared.EventLine.{EventLine}
 use Rattle.session.specs.Buffer.{buffer, append}
 use Rattle.session.specs.Grammar.{InputLine, open_line, parse_event_line}
@@ -21,12 +21,12 @@ unfoldable pub new_timeline : Timeline
 new_timeline = timeline new_session 0
 
 -- what is printed before the session's own line, and the count: where events are read after the line
-unfoldable pub front : EventLine → Timeline → Session → List ℕ
+unfoldable pub front : Option EventLine → Timeline → Session → List ℕ
 front x t after =
     if reads_events after.phase then (heading_of (reads_events t.session.phase) after ++ columns_of x t.events t.session after)
     else []
 
-unfoldable pub count_after : EventLine → Timeline → Session → ℕ
+unfoldable pub count_after : Option EventLine → Timeline → Session → ℕ
 count_after x t after = if reads_events after.phase then counted x t.events else t.events
 
 -- ---- a line, and the end of the input
@@ -38,7 +38,7 @@ pub record TimelineEffect : Type 0 where
   pub prints : List ℕ
 
 -- what the session does with the line, and the row
-unfoldable pub after_line : EventLine → Timeline → LineEffect → TimelineEffect
+unfoldable pub after_line : Option EventLine → Timeline → LineEffect → TimelineEffect
 after_line x t d =
     record {
       timeline = timeline d.session (count_after x t d.session);

@@ -1,6 +1,6 @@
 -- Once its session has stopped a timeline prints nothing more, whatever lines follow and however the input ends: so that reading on would show nothing
 -- (`stopped_rows`, `stopped_end`). Assumes nothing.
-use Rattle.std.specs.Prelude.{ℕ, ◌≡◌, Bool}
+use Rattle.std.specs.Prelude.{ℕ, ◌≡◌, Bool, Option}
 use Rattle.std.proofs.Math.Path.{refl, ap}
 use Rattle.std.proofs.Common.{◌∙◌}
 use mathlib.Core.List.{List, [], ◌∷◌, ◌++◌}
@@ -27,7 +27,7 @@ module _ (t : Timeline) (ns bs : List ℕ) (stopped : t.session.phase ≡ Stoppe
   unfolding line_effect phase_effect
   session_silent l = ap (λ (p : Phase). phase_effect p t.session ns bs l) stopped
 
-  no_row : (x : EventLine) → after_line x t (silent t.session ns bs) ≡ unmoved t ns bs
+  no_row : (x : Option EventLine) → after_line x t (silent t.session ns bs) ≡ unmoved t ns bs
   unfolding after_line silent pools_kept front count_after
   no_row x = rw not_reading
 

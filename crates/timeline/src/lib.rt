@@ -8,6 +8,7 @@ ghost use Rattle.std.specs.Prelude.{◌≡◌, length};
 ghost use Rattle.session.specs.Grammar.{closed_line};
 ghost use Rattle.timeline.specs.Lines.{new_timeline, timeline_line, timeline_end, TakenAs, EndedBy};
 
+use session_bytes::Page;
 use session_state::Session;
 
 // A timeline between two lines: its session, and how many events it had.
@@ -25,11 +26,14 @@ pub struct Taken {
 }
 
 // A timeline of which no line is read yet.
+#[tactic(auto, unfolding(crate::specs::Lines::new_timeline))]
 pub fn new_timeline() -> Timeline
     ensures { result ≡ new_timeline }
 {
-    let session = session_state::new_session();
-    Timeline { session, events: 0 }
+    Timeline {
+        session: session_state::new_session(),
+        events: 0,
+    }
 }
 
 // More than enough for what a session prints for a line.
@@ -45,15 +49,13 @@ pub fn take_line(t: Timeline, ns: &mut [u32], bs: &mut [u32], line: &[u8], out: 
         out.old out.new }
 {
     let mut printed = room();
-    let before = t.session;
-    let d = session_lines::handle_line(before, ns, bs, line, &mut printed);
-    let after = d.session;
+    let d = session_lines::handle_line(t.session, ns, bs, line, &mut printed);
     let asked = session_parse::event_line(line);
-    let f = rows::front(out, asked, t, after);
-    let n = d.printed;
-    let e = session_bytes::all_bytes(out, f, &printed[..n]);
-    let events = rows::count_after(asked, t, after);
-    rows::taken(after, events, e)
+    let mut page = Page::new(out);
+    rows::front(&mut page, asked, t, d.session);
+    page.bytes(&printed[..d.printed]);
+    let events = rows::count_after(asked, t, d.session);
+    rows::taken(d.session, events, page.printed())
 }
 
 // The end of an input, whose last line is closed or not. What is printed for it is written from the buffer's first byte on, and its length given.
@@ -61,12 +63,10 @@ pub fn finish(t: Timeline, closed: bool, ns: &mut [u32], bs: &mut [u32], out: &m
     ensures { EndedBy (timeline_end t closed ns.old bs.old) result ns.new bs.new out.old
         out.new }
 {
-    let s = t.session;
     if closed {
-        let d = session_lines::end_input(s, ns, bs, out);
-        return d.printed;
+        session_lines::end_input(t.session, ns, bs, out).printed
+    } else {
+        let long = [0u8; 41];
+        session_lines::handle_line(t.session, ns, bs, &long, out).printed
     }
-    let long = [0u8; 41];
-    let d = session_lines::handle_line(s, ns, bs, &long, out);
-    d.printed
 }

@@ -5,7 +5,6 @@ use Rattle.std.proofs.Common.{sym, ◌∙◌}
 use Rattle.std.proofs.Math.Path.{ap}
 use mathlib.Core.List.{List, [], ◌∷◌, ◌++◌, append-nil}
 use Rattle.session.specs.Grammar.{InputLine, closed_line, open_line, input_lines, admissible}
-use Rattle.session.specs.OutputLengths.{longest_end}
 use Rattle.session_state.specs.declared.Phase.TheVariants.{Stopped}
 use Rattle.session_state.specs.Handling.{LineEffect, reads_events, has_stopped, is_stopped, line_effect}
 use Rattle.session_lines.specs.LinesOutside.{outside_same, outside_stops}
@@ -13,10 +12,9 @@ use Rattle.stdio.specs.declared.input.Input.{Input}
 use Rattle.stdio.specs.Inputs.{cut_off}
 use Rattle.stdio.specs.Readers.{OutsideFixes, Countable, last_lines}
 use Rattle.stdio.specs.Runs.{Prints, exact}
-use Rattle.stdio.specs.Streams.{PrintsLines, Took, Streamed}
+use Rattle.stdio.specs.Streams.{PrintsLines}
 use Rattle.partial_line.specs.PartialLines.{line_bytes}
 use Rattle.timeline.specs.declared.Timeline.{Timeline}
-use Rattle.timeline.specs.Lengths.{longest_rows}
 use Rattle.timeline.specs.Lines.{new_timeline, front, TimelineEffect, after_line, timeline_line, timeline_end}
 use Rattle.timeline.specs.Stopped.{stopped_line, stopped_end}
 
@@ -57,12 +55,6 @@ next x l = after (effect x (closed_line l))
 
 unfoldable pub prints : Running → List ℕ → List ℕ
 prints x l = (effect x (closed_line l)).prints
-
-abbrev pub Takes : Running → ℕ → Input → List ℕ → Running → ℕ → List ℕ → Type 0
-Takes = Took timeline_output next prints
-
-abbrev pub Reads : Bool → List ℕ → Running → Input → List ℕ → Running → ℕ → List ℕ → Type 0
-Reads = Streamed timeline_output next prints longest_rows longest_end longest_end
 
 -- ---- the laws of such a reader
 

@@ -2,111 +2,88 @@
 // function that gives the exit status. In memory: one read of the input, one line, what that read prints, and the two pools.
 #![tactic(auto)]
 
-ghost use Rattle.std.specs.Prelude.{◌≡◌, ◌++◌, ◌+◌, ◌*◌, ◌≤◌, length, take};
+ghost use Rattle.std.specs.Prelude.{◌≡◌, ⊤, ◌+◌, ◌*◌, ◌≤◌, length, take};
 ghost use Rattle.session.specs.OutputLengths.{longest_end};
-ghost use Rattle.stdio.specs.Readers.{last_lines};
+ghost use Rattle.session_state.specs.Handling.{has_stopped};
 ghost use Rattle.stdio.specs.Runs.{Prints, Ran};
 ghost use Rattle.timeline.specs.Lengths.{longest_rows};
-ghost use Rattle.timeline_program.specs.Running.{running, begin, timeline_output, timeline_over, timeline_transcript, Takes, Reads};
+ghost use Rattle.timeline_program.specs.Running.{Running, running, timeline_output, timeline_over, timeline_transcript, next, prints};
+ghost use Rattle.timeline_program.specs.Running.{timeline_lines, timeline_outside, stopped_decides};
+ghost use Rattle.timeline_program.specs.Room.{line_spends, some_due, end_spends};
 
+use line_printers::{LinePrinter, Printed};
 use stdio::input;
 use stdio::input::Input;
 use stdio::output::Text;
 use stdio::source::Source;
-use timeline::{Taken, Timeline};
+use timeline::Timeline;
 
-// A timeline and its input, of which no more is to be asked for, and how many bytes of what was printed are not written yet.
+// A timeline as a program that prints as it goes.
 #[derive(Clone, Copy)]
-struct Progress {
+struct Reading {
     timeline: Timeline,
-    input: Input,
-    due: usize,
 }
 
-// The line at hand, if one is to be taken. What it prints is written to the buffer from `due` on, and `printed` counts both.
-fn take_given(
-    t: Timeline,
-    q: Input,
-    due: usize,
-    ns: &mut [u32],
-    bs: &mut [u32],
-    out: &mut [u8],
-) -> Taken
-    requires { due + longest_rows ≤ length out.old }
-    ensures { Takes (running t ns.old bs.old) due q out.old (running result.timeline ns.new bs.new)
-        result.printed out.new }
-{
-    if input::has_line(q) {
-        let h = q.line;
-        let n = partial_line::line_length(h);
-        let b = h.bytes;
-        let d = timeline::take_line(t, ns, bs, &b[..n], &mut out[due..]);
-        let timeline = d.timeline;
-        let more = d.printed;
-        return Taken {
-            timeline,
-            printed: due + more,
+impl LinePrinter for Reading {
+    ghost Stands = { Running };
+
+    ghost stands = { λ r ns bs. running r.timeline ns bs };
+
+    ghost prints_on = { timeline_output };
+
+    ghost next = { next };
+
+    ghost prints = { prints };
+
+    ghost decides = { λ r. has_stopped r.timeline.session.phase };
+
+    ghost knows = { λ x. ⊤ };
+
+    ghost each = { longest_rows };
+
+    ghost last = { longest_end };
+
+    ghost once = { λ x. longest_end };
+
+    fn take_line(
+        self,
+        ns: &mut [u32],
+        bs: &mut [u32],
+        line: &[u8],
+        out: &mut [u8],
+    ) -> Printed<Reading> {
+        let t = timeline::take_line(self.timeline, ns, bs, line, out);
+        let state = Reading {
+            timeline: t.timeline,
         };
+        Printed {
+            state,
+            printed: t.printed,
+        }
     }
-    Taken {
-        timeline: t,
-        printed: due,
-    }
-}
 
-// Reads until the input ends, the session has stopped, or a read or a write fails. What is printed before a read is written before it; the rest is in the
-// buffer.
-fn read<S: Source>(
-    from: &mut S,
-    reads: bool,
-    room: &mut [u8],
-    ns: &mut [u32],
-    bs: &mut [u32],
-    out: &mut [u8],
-) -> Progress
-    requires { longest_rows * length room.old + longest_end ≤ length out.old }
-    ensures reads { Reads reads room.old (begin ns.old bs.old) result.input room.new
-        (running result.timeline ns.new bs.new) result.due out.new }
-    ensures left_bound { result.input.left ≤ 0 }
-{
-    let mut p = input::begin(reads, room.len());
-    let mut t = timeline::new_timeline();
-    let mut due = 0;
-    while 0 < p.left {
-        let q = input::next_line(from, p, room);
-        let d = take_given(t, q, due, ns, bs, out);
-        t = d.timeline;
-        let session = t.session;
-        let phase = session.phase;
-        let s = input::settle(q, session_state::has_stopped(phase));
-        let w = stdio::output::pass_on(s, true, out, d.printed);
-        due = w.due;
-        p = w.input;
+    fn is_decided(self) -> bool {
+        session_state::has_stopped(self.timeline.session.phase)
     }
-    Progress {
-        timeline: t,
-        input: p,
-        due,
-    }
-}
 
-// The end of the input. What it prints is written to the buffer from `due` on, and the length of both given.
-fn finish(
-    t: Timeline,
-    p: Input,
-    due: usize,
-    ns: &mut [u32],
-    bs: &mut [u32],
-    out: &mut [u8],
-) -> usize
-    requires { due + longest_end ≤ length out.old }
-    ensures out_after { take result out.new
-        ≡ take due out.old ++ timeline_output (running t ns.old bs.old) (last_lines p) }
-    ensures upper_bound { (result ≤ length out.old) × (length p.line.bytes ≡ 41) }
-{
-    let cut = input::cut_off(p);
-    let n = timeline::finish(t, !cut, ns, bs, &mut out[due..]);
-    due + n
+    fn finish(self, p: Input, ns: &mut [u32], bs: &mut [u32], out: &mut [u8]) -> usize {
+        let closed = !input::cut_off(p);
+        timeline::finish(self.timeline, closed, ns, bs, out)
+    }
+
+    ghost lines = { timeline_lines };
+
+    ghost known = { λ x l k. k };
+
+    ghost spends = { λ x l k. line_spends x l };
+
+    ghost few = { some_due };
+
+    ghost ends = { λ x p k. end_spends x p };
+
+    ghost decided = { λ r ns bs e ls. stopped_decides (running r.timeline ns bs) e ls };
+
+    ghost outside = { timeline_outside };
 }
 
 // What is printed for an input: standard input if `reads`, else the bytes of the room.
@@ -122,11 +99,10 @@ fn text<S: Source>(
     ensures prints { Prints (timeline_over ns.old bs.old) reads room.old result.input (take result.len out.new) }
     ensures len_in_bounds { result.len ≤ length out.new }
 {
-    let k = read(from, reads, room, ns, bs, out);
-    let t = k.timeline;
-    let input = k.input;
-    let len = finish(t, input, k.due, ns, bs, out);
-    Text { input, len }
+    let begin = Reading {
+        timeline: timeline::new_timeline(),
+    };
+    line_printers::text(from, reads, begin, room, ns, bs, out)
 }
 
 // What is printed for one read of 1,024 bytes, and at the end.

@@ -2,7 +2,7 @@
 -- shows where its task stands when the event comes: `.` if it runs no call, else the line that it does next. The task that the event names is marked
 -- by `*`. Assumes nothing.
 use Rattle.std.specs.Prelude.{ℕ, zero, suc, ◌+◌, ◌/◌, ◌%◌, min, ◌≡◌, refl, List, [], ◌∷◌, ◌++◌, Bool, eqb, get_or, if◌then◌else◌}
-use Rattle.spec.specs.declared.Output.{Output}
+use Rattle.spec.specs.Outputs.{Output}
 use Rattle.spec.specs.declared.State.{State}
 use Rattle.spec.specs.declared.Task.{Task}
 use Rattle.spec.specs.Machine.{idle}

@@ -2,7 +2,7 @@
 -- schedule that it stands for. Assumes nothing.
 use Rattle.std.specs.Prelude.{ℕ, List, [], ◌∷◌}
 use Rattle.spec.specs.declared.Config.{Config}
-use Rattle.spec.specs.declared.Output.{Output}
+use Rattle.spec.specs.Outputs.{Output}
 use Rattle.spec.specs.Machine.{Machine}
 use Rattle.spec.specs.Entries.{opening}
 use Rattle.spec.specs.Schedule.{Event, steps, event}

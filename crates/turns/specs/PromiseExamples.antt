@@ -1,14 +1,15 @@
 -- Examples for the promises of a run of starts, steps and turns: for each clause a run or told outputs that it refuses, and ones at its bound
 -- that it allows. Assumes nothing.
-use Rattle.std.specs.Prelude.{ℕ, ◌≤◌, ◌-◌, ◌≡◌, refl, List, [], ◌∷◌, ◌++◌, map, length, drop, replicate}
+use Rattle.std.specs.Prelude.{ℕ, ◌≤◌, ◌-◌, ◌≡◌, refl, List, [], ◌∷◌, ◌++◌, map, length, drop, replicate, None, Ok, Err}
 use Rattle.std.proofs.Common.{ap, arith}
+use Rattle.spec.specs.declared.Refusal.{Refusal}
+use Rattle.spec.specs.declared.Refusal.TheVariants.{NoTask, Running, Idle, NoRecord, Spoilt}
 use Rattle.spec.specs.declared.Answer.TheVariants.{Yes, No}
 use Rattle.spec.specs.declared.Call.TheVariants.{Contains}
 use Rattle.spec.specs.declared.Config.{Config}
-use Rattle.spec.specs.declared.Listing.TheVariants.{Count}
-use Rattle.spec.specs.declared.Occupancy.TheVariants.{NotGiven}
-use Rattle.spec.specs.declared.Output.{Output}
-use Rattle.spec.specs.declared.Output.TheVariants.{At, End, Refuse}
+use Rattle.spec.specs.Outputs.{Output}
+use Rattle.spec.specs.declared.Progress.TheVariants.{At, End}
+use Rattle.spec.specs.Numbers.{refusal_number}
 use Rattle.spec.specs.Machine.{Machine, config_of, with_chosen}
 use Rattle.spec.specs.Entries.{list}
 use Rattle.spec.specs.Schedule.{Ran, starts, steps, schedule}
@@ -24,10 +25,10 @@ use Rattle.turns.specs.TurnRows.{all_turns}
 -- ---- whose turn it was
 
 -- a turn that is refused with 7, or ends the call, is its task's all the same
-pub its_turn : To 1 (Turn.Of 1 (At 13)) × To 1 (Turn.Of 1 (Refuse 7)) × To 1 (Turn.Of 1 (End Yes 3 NotGiven))
-its_turn = ((At 13, refl), (Refuse 7, refl), (End Yes 3 NotGiven, refl))
+pub its_turn : To 1 (Turn.Of 1 (Ok (At 13))) × To 1 (Turn.Of 1 (Err NoRecord)) × To 1 (Turn.Of 1 (Ok (End Yes 3 None)))
+its_turn = ((Ok (At 13), refl), (Err NoRecord, refl), (Ok (End Yes 3 None), refl))
 
-pub not_its_turn : (¬ To 1 (Turn.Of 0 (At 13))) × (¬ To 1 Turn.Idle) × (¬ To 1 (Turn.Refused 8))
+pub not_its_turn : (¬ To 1 (Turn.Of 0 (Ok (At 13)))) × (¬ To 1 Turn.Idle) × (¬ To 1 (Turn.Refused Spoilt))
 not_its_turn = (
   λ t. (let e = t.1 in let z : ◌≡◌ {A = ℕ} 0 1 = cc in omega arith),
   λ t. (let e = t.1 in let z : ◌≡◌ {A = ℕ} 0 1 = cc in omega arith),
@@ -36,8 +37,8 @@ not_its_turn = (
 
 -- turns that go to tasks, whatever their steps answer; idle turns, refused ones and starts or steps are none
 pub turns_counted :
-    turns_given (turned (Turn.Of 0 (At 13)) ∷ turned Turn.Idle ∷ turned (Turn.Of 1 (Refuse 7)) ∷ entered (At 12) ∷ turned (Turn.Of 1 (End No 3 NotGiven))
-    ∷ turned (Turn.Refused 8) ∷ entered (Refuse 5) ∷ []) ≡ 3
+    turns_given (turned (Turn.Of 0 (Ok (At 13))) ∷ turned Turn.Idle ∷ turned (Turn.Of 1 (Err NoRecord)) ∷ entered (Ok (At 12)) ∷ turned (Turn.Of 1 (Ok (End No 3 None)))
+    ∷ turned (Turn.Refused Spoilt) ∷ entered (Err Running) ∷ []) ≡ 3
 unfolding turns_given
 turns_counted = refl
 
@@ -79,16 +80,16 @@ pub two_between :
     × (turns_given (moves left one_starts).says ≡ 2)
 unfolding all_turns turns_given left one_starts
 two_between = (
-  (At 13, refl),
-  (refl, no_such_turn {l = 1} {o = At 13} refl (λ e. omega arith), (refl, no_such_turn {l = 2} {o = At 13} refl (λ e. omega arith), tt)),
-  (At 18, refl),
+  (Ok (At 13), refl),
+  (refl, no_such_turn {l = 1} {o = Ok (At 13)} refl (λ e. omega arith), (refl, no_such_turn {l = 2} {o = Ok (At 13)} refl (λ e. omega arith), tt)),
+  (Ok (At 18), refl),
   refl,
 )
 
 -- it does not wait to a turn of its own: the third turn is task 0's
 pub own_turn_between : ¬ Waits 0 left (looks 2 ∷ turns ∷ turns ∷ turns ∷ [])
 unfolding all_turns left
-own_turn_between w = w.2.2.1 (At 18, refl)
+own_turn_between w = w.2.2.1 (Ok (At 18), refl)
 
 -- nor past a turn at which it is idle: its call ended, four turns went to the others, and meanwhile it started anew
 unfoldable pub ended_left : Machine
@@ -100,12 +101,12 @@ idle_between = turns ∷ turns ∷ turns ∷ looks 0 ∷ turns ∷ []
 pub four_while_idle :
     (turns_given (moves ended_left idle_between).says ≡ 4) × To 0 (turn (moves ended_left idle_between).machine).says × (¬ Waits 0 ended_left idle_between)
 unfolding all_turns turns_given ended_left idle_between
-four_while_idle = (refl, (At 13, refl), λ w. (let e = w.0 in let z : ◌≡◌ {A = ℕ} 0 1 = cc in omega arith))
+four_while_idle = (refl, (Ok (At 13), refl), λ w. (let e = w.0 in let z : ◌≡◌ {A = ℕ} 0 1 = cc in omega arith))
 
 -- nor where the first turn is its own, nor idle at the second turn alone, its call ended by steps between the two
 pub first_turn_its_own : ¬ Waits 1 left (turns ∷ turns ∷ [])
 unfolding all_turns left
-first_turn_its_own w = w.1 (At 13, refl)
+first_turn_its_own w = w.1 (Ok (At 13), refl)
 
 pub idle_at_the_second : ¬ Waits 0 left (turns ∷ enters (steps 0) ∷ enters (steps 0) ∷ turns ∷ [])
 unfolding all_turns left
@@ -117,8 +118,8 @@ idle_at_the_second w = let e = w.2.0 in let z : ◌≡◌ {A = ℕ} 0 1 = cc in 
 pub ended_by_its_turn :
     (run_of (config_of 2) (replicate 34 7) (replicate 66 7)
     (looks 0 ∷ enters (steps 0) ∷ enters (steps 0) ∷ looks 1 ∷ turns ∷ looks 0 ∷ turns ∷ turns ∷ [])).says
-    ≡ entered (At 12) ∷ entered (At 13) ∷ entered (At 18) ∷ entered (At 12) ∷ turned (Turn.Of 0 (End No 3 NotGiven)) ∷ entered (At 12)
-    ∷ turned (Turn.Of 1 (At 13)) ∷ turned (Turn.Of 0 (At 13)) ∷ []
+    ≡ entered (Ok (At 12)) ∷ entered (Ok (At 13)) ∷ entered (Ok (At 18)) ∷ entered (Ok (At 12)) ∷ turned (Turn.Of 0 (Ok (End No 3 None))) ∷ entered (Ok (At 12))
+    ∷ turned (Turn.Of 1 (Ok (At 13))) ∷ turned (Turn.Of 0 (Ok (At 13))) ∷ []
 unfolding all_turns
 ended_by_its_turn = refl
 
@@ -130,11 +131,11 @@ told_moves = looks 0 ∷ turns ∷ turns ∷ enters (steps 2) ∷ turns ∷ turn
 
 abbrev pub told_says : List Said
 told_says =
-    entered (At 12) ∷ turned Turn.Idle ∷ turned (Turn.Of 1 (Refuse 7)) ∷ entered (Refuse 6) ∷ turned (Turn.Refused 8) ∷ turned (Turn.Of 0 (At 13)) ∷ []
+    entered (Ok (At 12)) ∷ turned Turn.Idle ∷ turned (Turn.Of 1 (Err NoRecord)) ∷ entered (Err Idle) ∷ turned (Turn.Refused Spoilt) ∷ turned (Turn.Of 0 (Ok (At 13))) ∷ []
 
 pub told_schedule :
     (stands_for told_moves told_says ≡ starts 0 Contains 5 ∷ steps 1 ∷ steps 2 ∷ steps 0 ∷ [])
-    × (outputs told_says ≡ At 12 ∷ Refuse 7 ∷ Refuse 6 ∷ At 13 ∷ [])
+    × (outputs told_says ≡ Ok (At 12) ∷ Err NoRecord ∷ Err Idle ∷ Ok (At 13) ∷ [])
 unfolding all_turns
 told_schedule = (refl, refl)
 
@@ -149,7 +150,7 @@ outputs_and_machine g ns bs ms e = (ap (λ (r : Ran). r.outs) e, ap (λ (r : Ran
 unfoldable pub mixed : List Move
 mixed = turns ∷ looks 0 ∷ looks 1 ∷ turns ∷ enters (steps 0) ∷ turns ∷ []
 
-pub mixed_outputs : outputs (run_of (config_of 2) (replicate 34 7) (replicate 66 7) mixed).says ≡ At 12 ∷ At 12 ∷ At 13 ∷ At 18 ∷ At 13 ∷ []
+pub mixed_outputs : outputs (run_of (config_of 2) (replicate 34 7) (replicate 66 7) mixed).says ≡ Ok (At 12) ∷ Ok (At 12) ∷ Ok (At 13) ∷ Ok (At 18) ∷ Ok (At 13) ∷ []
 unfolding all_turns mixed
 mixed_outputs = refl
 
@@ -159,8 +160,8 @@ scheduled ks = (schedule (config_of 2) (replicate 34 7) (replicate 66 7) (starts
 
 pub schedules :
     map scheduled ((0 ∷ 0 ∷ 1 ∷ []) ∷ (0 ∷ 0 ∷ []) ∷ (0 ∷ 0 ∷ 0 ∷ []) ∷ (0 ∷ 0 ∷ 0 ∷ 1 ∷ []) ∷ [])
-    ≡ (At 12 ∷ At 12 ∷ At 13 ∷ At 18 ∷ At 13 ∷ []) ∷ (At 12 ∷ At 12 ∷ At 13 ∷ At 18 ∷ [])
-    ∷ (At 12 ∷ At 12 ∷ At 13 ∷ At 18 ∷ End No 3 NotGiven ∷ []) ∷ (At 12 ∷ At 12 ∷ At 13 ∷ At 18 ∷ End No 3 NotGiven ∷ At 13 ∷ []) ∷ []
+    ≡ (Ok (At 12) ∷ Ok (At 12) ∷ Ok (At 13) ∷ Ok (At 18) ∷ Ok (At 13) ∷ []) ∷ (Ok (At 12) ∷ Ok (At 12) ∷ Ok (At 13) ∷ Ok (At 18) ∷ [])
+    ∷ (Ok (At 12) ∷ Ok (At 12) ∷ Ok (At 13) ∷ Ok (At 18) ∷ Ok (End No 3 None) ∷ []) ∷ (Ok (At 12) ∷ Ok (At 12) ∷ Ok (At 13) ∷ Ok (At 18) ∷ Ok (End No 3 None) ∷ Ok (At 13) ∷ []) ∷ []
 unfolding all_turns scheduled
 schedules = refl
 
@@ -173,18 +174,18 @@ pub orders :
     × Timely d.order × Answers [] d.order
     × ((w : List ℕ) → length w ≡ 64
     → list (run_of g ns bs ms).machine w
-    ≡ record { says = Count (length (after [] d.order)); words = after [] d.order ++ drop (length (after [] d.order)) w })
+    ≡ record { says = Ok (length (after [] d.order)); words = after [] d.order ++ drop (length (after [] d.order)) w })
 orders d = (d.once, d.timely, d.answers, d.listed)
 
 -- 4 to 7 of a start or a step and 7 of a turn are allowed; 8 is not, of either, wherever it stands, and a turn that names no task is none
-ne_refusals : (r s : ℕ) → ¬ (r ≡ s) → ¬ (Refuse r ≡ Refuse s)
-ne_refusals r s f e = f cc
+ne_refusals : (r s : Refusal) → ¬ (refusal_number r ≡ refusal_number s) → ¬ (◌≡◌ {A = Output} (Err r) (Err s))
+ne_refusals r s f e = let z : r ≡ s = cc in f (ap refusal_number z)
 
-pub no_eight : NoEightRun (entered (Refuse 5) ∷ turned Turn.Idle ∷ turned (Turn.Of 1 (Refuse 7)) ∷ entered (Refuse 4) ∷ [])
-no_eight = (ne_refusals 5 8 (λ e. omega arith), (ne_refusals 7 8 (λ e. omega arith), (ne_refusals 4 8 (λ e. omega arith), tt)))
+pub no_eight : NoEightRun (entered (Err Running) ∷ turned Turn.Idle ∷ turned (Turn.Of 1 (Err NoRecord)) ∷ entered (Err NoTask) ∷ [])
+no_eight = (ne_refusals Running Spoilt (λ e. omega arith), (ne_refusals NoRecord Spoilt (λ e. omega arith), (ne_refusals NoTask Spoilt (λ e. omega arith), tt)))
 
 pub an_eight :
-    (¬ NoEightRun (entered (At 12) ∷ entered (Refuse 8) ∷ [])) × (¬ NoEightRun (turned Turn.Idle ∷ turned (Turn.Of 1 (Refuse 8)) ∷ []))
-    × (¬ NoEightRun (turned (Turn.Of 0 (At 13)) ∷ entered (Refuse 8) ∷ entered (At 12) ∷ []))
-    × (¬ NoEightRun (turned (Turn.Of 0 (At 13)) ∷ turned (Turn.Refused 8) ∷ [])) × (¬ NoEightRun (entered (At 12) ∷ turned (Turn.Refused 7) ∷ []))
+    (¬ NoEightRun (entered (Ok (At 12)) ∷ entered (Err Spoilt) ∷ [])) × (¬ NoEightRun (turned Turn.Idle ∷ turned (Turn.Of 1 (Err Spoilt)) ∷ []))
+    × (¬ NoEightRun (turned (Turn.Of 0 (Ok (At 13))) ∷ entered (Err Spoilt) ∷ entered (Ok (At 12)) ∷ []))
+    × (¬ NoEightRun (turned (Turn.Of 0 (Ok (At 13))) ∷ turned (Turn.Refused Spoilt) ∷ [])) × (¬ NoEightRun (entered (Ok (At 12)) ∷ turned (Turn.Refused NoRecord) ∷ []))
 an_eight = (λ n. n.1.0 refl, λ n. n.0 refl, λ n. n.1.0 refl, λ n. n.1, λ n. n.1)

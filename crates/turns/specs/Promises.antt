@@ -1,10 +1,9 @@
 -- What is promised of every run of starts, steps and turns, as types: fair turns, a schedule that it stands for, demand 3, never 8. Proved
 -- in the crate dispatcher. Assumes nothing.
-use Rattle.std.specs.Prelude.{ℕ, suc, ◌≤◌, ◌-◌, ◌≡◌, true, List, [], ◌∷◌, ◌++◌, length, drop}
+use Rattle.std.specs.Prelude.{ℕ, suc, ◌≤◌, ◌-◌, ◌≡◌, true, List, [], ◌∷◌, ◌++◌, length, drop, Ok, Err}
+use Rattle.spec.specs.declared.Refusal.TheVariants.{Spoilt}
 use Rattle.spec.specs.declared.Config.{Config}
-use Rattle.spec.specs.declared.Output.{Output}
-use Rattle.spec.specs.declared.Output.TheVariants.{Refuse}
-use Rattle.spec.specs.declared.Listing.TheVariants.{Count}
+use Rattle.spec.specs.Outputs.{Output}
 use Rattle.spec.specs.Machine.{Machine, with_chosen, task_of}
 use Rattle.spec.specs.Entries.{list}
 use Rattle.spec.specs.Schedule.{schedule}
@@ -61,12 +60,12 @@ module _ (g : Config) (ns bs : List ℕ) (ms : List Move) where
     pub answers : Answers [] order
     pub listed : (w : List ℕ) → length w ≡ 64
         → list (run_of g ns bs ms).machine w
-        ≡ record { says = Count (length (after [] order)); words = after [] order ++ drop (length (after [] order)) w }
+        ≡ record { says = Ok (length (after [] order)); words = after [] order ++ drop (length (after [] order)) w }
 
 -- "Never from an opening onward": no start, step or turn is refused with 8, and a turn with nothing but 7
 abbrev pub NoEightRun : List Said → Type 0
 NoEightRun [] = Unit {0}
-NoEightRun (entered o ∷ ss) = (¬ (o ≡ Refuse 8)) × NoEightRun ss
-NoEightRun (turned (Of k o) ∷ ss) = (¬ (o ≡ Refuse 8)) × NoEightRun ss
+NoEightRun (entered o ∷ ss) = (¬ (o ≡ Err Spoilt)) × NoEightRun ss
+NoEightRun (turned (Of k o) ∷ ss) = (¬ (o ≡ Err Spoilt)) × NoEightRun ss
 NoEightRun (turned Idle ∷ ss) = NoEightRun ss
 NoEightRun (turned (Refused r) ∷ ss) = ⊥

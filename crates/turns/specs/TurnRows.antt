@@ -1,9 +1,9 @@
 -- Rows of turns: whole machines before and after one, and what runs say. A wrong definition breaks them. Assumes nothing.
-use Rattle.std.specs.Prelude.{ℕ, ◌≡◌, refl, List, [], ◌∷◌, ◌++◌, map, replicate}
+use Rattle.std.specs.Prelude.{ℕ, ◌≡◌, refl, List, [], ◌∷◌, ◌++◌, map, replicate, Some, None, Ok, Err}
+use Rattle.spec.specs.declared.Refusal.TheVariants.{NoRecord, Spoilt}
 use Rattle.spec.specs.declared.Answer.TheVariants.{Yes}
 use Rattle.spec.specs.declared.Call.TheVariants.{Insert, Contains, Grow}
-use Rattle.spec.specs.declared.Occupancy.TheVariants.{NotGiven, Tags}
-use Rattle.spec.specs.declared.Output.TheVariants.{At, End, Refuse}
+use Rattle.spec.specs.declared.Progress.TheVariants.{At, End}
 use Rattle.spec.specs.declared.Task.{Task}
 use Rattle.spec.specs.Machine.{Machine, config_of, idle, with_chosen}
 use Rattle.spec.specs.Schedule.{starts, steps}
@@ -37,10 +37,10 @@ lost = call 3 tag 5 line 18 i 0 own 2 t 1 s 0 b 0 m 0 n 0 new_node 0 new_bucket 
 -- both run: the one after the last one chosen. One runs: it, though it was chosen last
 pub goes_round :
     map turn (at 0 (looks ∷ looks ∷ []) ∷ at 1 (looks ∷ looks ∷ []) ∷ at 0 (looks ∷ []) ∷ at 0 (idle ∷ looks ∷ []) ∷ [])
-    ≡ gives (Turn.Of 1 (At 13)) (at 1 (looks ∷ looked ∷ []))
-    ∷ gives (Turn.Of 0 (At 13)) (at 0 (looked ∷ looks ∷ []))
-    ∷ gives (Turn.Of 0 (At 13)) (at 0 (looked ∷ []))
-    ∷ gives (Turn.Of 1 (At 13)) (at 1 (idle ∷ looked ∷ []))
+    ≡ gives (Turn.Of 1 (Ok (At 13))) (at 1 (looks ∷ looked ∷ []))
+    ∷ gives (Turn.Of 0 (Ok (At 13))) (at 0 (looked ∷ looks ∷ []))
+    ∷ gives (Turn.Of 0 (Ok (At 13))) (at 0 (looked ∷ []))
+    ∷ gives (Turn.Of 1 (Ok (At 13))) (at 1 (idle ∷ looked ∷ []))
     ∷ []
 unfolding all_turns at looks looked
 goes_round = refl
@@ -49,11 +49,11 @@ goes_round = refl
 -- where nothing runs
 pub no_step :
     map turn (at 0 (looks ∷ wants_node ∷ []) ∷ at 0 [] ∷ at 0 (looks ∷ lost ∷ []) ∷ at 0 (looks ∷ worn ∷ []) ∷ at 2 [] ∷ [])
-    ≡ gives (Turn.Of 1 (Refuse 7)) (at 1 (looks ∷ wants_node ∷ []))
+    ≡ gives (Turn.Of 1 (Err NoRecord)) (at 1 (looks ∷ wants_node ∷ []))
     ∷ gives Turn.Idle (at 0 [])
-    ∷ gives (Turn.Of 1 (Refuse 8)) (at 0 (looks ∷ lost ∷ []))
-    ∷ gives (Turn.Refused 8) (at 0 (looks ∷ worn ∷ []))
-    ∷ gives (Turn.Refused 8) (at 2 [])
+    ∷ gives (Turn.Of 1 (Err Spoilt)) (at 0 (looks ∷ lost ∷ []))
+    ∷ gives (Turn.Refused Spoilt) (at 0 (looks ∷ worn ∷ []))
+    ∷ gives (Turn.Refused Spoilt) (at 2 [])
     ∷ []
 unfolding all_turns at looks lost
 no_step = refl
@@ -67,8 +67,8 @@ with_steps =
 
 unfoldable pub with_steps_say : List Said
 with_steps_say =
-    turned Turn.Idle ∷ entered (At 32) ∷ entered (At 12) ∷ turned (Turn.Of 0 (At 33)) ∷ turned (Turn.Of 2 (At 13)) ∷ entered (At 36)
-    ∷ turned (Turn.Of 0 (End Yes 3 (Tags 1))) ∷ turned (Turn.Of 2 (At 18)) ∷ turned (Turn.Of 2 (End Yes 3 NotGiven)) ∷ turned Turn.Idle ∷ []
+    turned Turn.Idle ∷ entered (Ok (At 32)) ∷ entered (Ok (At 12)) ∷ turned (Turn.Of 0 (Ok (At 33))) ∷ turned (Turn.Of 2 (Ok (At 13))) ∷ entered (Ok (At 36))
+    ∷ turned (Turn.Of 0 (Ok (End Yes 3 (Some 1)))) ∷ turned (Turn.Of 2 (Ok (At 18))) ∷ turned (Turn.Of 2 (Ok (End Yes 3 None))) ∷ turned Turn.Idle ∷ []
 
 pub passes_idle : (run_of (config_of 3) (replicate 34 7) (replicate 66 7) with_steps).says ≡ with_steps_say
 unfolding all_turns with_steps with_steps_say
@@ -85,7 +85,7 @@ idle_left_out = refl
 pub seven_uses_its_turn :
     (run_of (config_of 2) (replicate 34 7) (replicate 66 7)
     (enters (starts 0 Grow 0) ∷ replicate 5 (enters (steps 0)) ++ (enters (starts 1 Contains 5) ∷ replicate 4 turns))).says
-    ≡ entered (At 20) ∷ entered (At 39) ∷ entered (At 40) ∷ entered (At 51) ∷ entered (At 24) ∷ entered (At 27) ∷ entered (At 12)
-    ∷ turned (Turn.Of 0 (Refuse 7)) ∷ turned (Turn.Of 1 (At 13)) ∷ turned (Turn.Of 0 (Refuse 7)) ∷ turned (Turn.Of 1 (At 18)) ∷ []
+    ≡ entered (Ok (At 20)) ∷ entered (Ok (At 39)) ∷ entered (Ok (At 40)) ∷ entered (Ok (At 51)) ∷ entered (Ok (At 24)) ∷ entered (Ok (At 27)) ∷ entered (Ok (At 12))
+    ∷ turned (Turn.Of 0 (Err NoRecord)) ∷ turned (Turn.Of 1 (Ok (At 13))) ∷ turned (Turn.Of 0 (Err NoRecord)) ∷ turned (Turn.Of 1 (Ok (At 18))) ∷ []
 unfolding all_turns
 seven_uses_its_turn = refl

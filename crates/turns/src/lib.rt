@@ -2,13 +2,13 @@
 // and turns, and what is promised of every run. Nothing is run from here.
 #![tactic(auto)]
 
-use spec::Output;
+use spec::{Output, Refusal};
 
 // What a turn answers: nothing runs; the task that the turn went to, with what its step answers, which is no refusal but 7 or the step's
-// own 8; or the number with which spoilt memory is refused, 8.
+// own 8; or the refusal of spoilt memory.
 #[derive(Clone, Copy)]
 pub enum Turn {
     Idle,
     Of(u32, Output),
-    Refused(u32),
+    Refused(Refusal),
 }

@@ -1,17 +1,14 @@
 -- The records that a step may write, by the tests of the code, and what is kept of them; a node's words over those of a part. Assumes nothing.
-use Prim.Native.Nat.{ℕ, ◌+◌, ◌≤◌}
-use mathlib.Core.Path.{◌≡◌, ap, ◌∙◌}
+use Prim.Native.Nat.{ℕ}
+use mathlib.Core.Path.{◌≡◌, refl}
 use mathlib.Core.List.{List}
 use native.Mathlib.Omega.{arith}
-use borrow.Author.Tests.{eq-eqb, ne_eqb, le-leb}
-use lib.ListN.{length, drop, length-drop}
+use borrow.Author.Tests.{eq-eqb, ne_eqb}
 use Rattle.spec.specs.declared.Task.{Task}
 use Rattle.spec.specs.Machine.{Machine}
-use Rattle.spec.specs.Words.{number, overwrite}
+use Rattle.spec.specs.Words.{number}
 use Rattle.bucket.specs.declared.Bucket.{Bucket}
-use Rattle.pool.specs.Pool.{write_front, bucket_at}
-use Rattle.pool.proofs.Part.{rest}
-use Rattle.pool.proofs.At.{lent}
+use Rattle.pool.specs.Pool.{record_at, bucket_at}
 use Rattle.held.specs.Held.{node_to_take, bucket_to_take}
 use Rattle.undo.specs.declared.Kept.{Kept}
 use Rattle.undo.specs.Undo.{node_words, node_of_line, bucket_of_line, written_node, written_bucket, kept_of}
@@ -41,12 +38,10 @@ module _ (y : Machine) (c : Task) where
   unfolding written_bucket bucket_of_line
   bucket_else p q r = rw (ne_eqb c.line 49 p, ne_eqb c.line 36 q, ne_eqb c.line 52 r)
 
--- 34 words over the front of a loan from word i on
-pub front_over : (p v : List ℕ) (i : ℕ) → length v ≡ 34 → i + 34 ≤ length p → write_front (lent p i) v ≡ overwrite (drop i p) 0 v
-unfolding write_front
-front_over p v i e h =
-    let l : length v ≤ length (drop i p) = rw (length-drop i p) (omega arith) in
-    ap (λ (w : List ℕ). write_front w v) (rest p i) ∙ rw (le-leb _ _ l)
+-- a node's words are a record of 34
+pub node_record : (p : List ℕ) (k : ℕ) → record_at 34 p k ≡ node_words p k
+unfolding record_at node_words
+node_record p k = refl
 
 -- the records and their words, one after the other
 pub kept_is : (y : Machine) (c : Task) {k d : ℕ} {w : List ℕ} {b : Bucket} → k ≡ written_node y c → w ≡ node_words y.nodes k

@@ -2,7 +2,7 @@
 // argument is no such word (programs/yard.c has the command with its options, its files and its help).
 #![tactic(auto)]
 
-ghost use Rattle.std.specs.Prelude.{◌≤◌, length};
+ghost use Rattle.std.specs.Prelude.{◌≤◌, length, IfSome};
 
 use std::env::{Env, FillError};
 use std::process::ExitCode;
@@ -10,33 +10,22 @@ use stdio::source::{Reader, Source};
 
 // The program of a word, and its exit status.
 fn run<S: Source>(from: &mut S, word: &[u8]) -> i32 {
-    if word == b"run".as_slice() {
-        return programs::yardrun(from);
+    match word {
+        b"run" => programs::yardrun(from),
+        b"dump" => programs::yarddump(from),
+        b"timeline" => programs::yardtimeline(from),
+        b"record" => programs::yardrecord(from),
+        b"verify" => programs::yardverify(from),
+        b"notes" => programs::yardnotes(from),
+        b"plan" => programs::yardplan(from),
+        b"game" => programs::yardgame(from),
+        b"mattered" => programs::yardmattered(from),
+        _ => usage(),
     }
-    if word == b"dump".as_slice() {
-        return programs::yarddump(from);
-    }
-    if word == b"timeline".as_slice() {
-        return programs::yardtimeline(from);
-    }
-    if word == b"record".as_slice() {
-        return programs::yardrecord(from);
-    }
-    if word == b"verify".as_slice() {
-        return programs::yardverify(from);
-    }
-    if word == b"notes".as_slice() {
-        return programs::yardnotes(from);
-    }
-    if word == b"plan".as_slice() {
-        return programs::yardplan(from);
-    }
-    if word == b"game".as_slice() {
-        return programs::yardgame(from);
-    }
-    if word == b"mattered".as_slice() {
-        return programs::yardmattered(from);
-    }
+}
+
+// Says which words there are.
+fn usage() -> i32 {
     io::write_all(
         2,
         b"yard: one argument: run, dump, timeline, record, verify, notes, plan, game or mattered\n",
@@ -54,24 +43,23 @@ fn byte(status: i32) -> u8 {
     }
 }
 
-// The argument, if there is one and no more; else no bytes.
-fn argument<R: Env>(rt: &R, word: &mut [u8]) -> usize
-    ensures { result ≤ length word.new }
+// How many bytes the argument has, if there is one and no more, and it is no longer than the room for it.
+fn argument<R: Env>(rt: &R, word: &mut [u8]) -> Option<usize>
+    ensures { IfSome result (λ n. n ≤ length word.new) }
 {
     let mut more = [0u8; 1];
     match rt.arg(2, &mut more) {
-        Err(FillError::NotPresent) => {}
-        _ => return 0,
-    }
-    match rt.arg(1, word) {
-        Ok(n) => n,
-        Err(_) => 0,
+        Err(FillError::NotPresent) => rt.arg(1, word).ok(),
+        _ => None,
     }
 }
 
 fn main(rt: HostRuntime) -> ExitCode {
     let mut from = Reader::new(rt.stdin());
     let mut word = [0u8; 16];
-    let n = argument(&rt, &mut word);
-    ExitCode::from(byte(run(&mut from, &word[..n])))
+    let status = match argument(&rt, &mut word) {
+        Some(n) => run(&mut from, &word[..n]),
+        None => usage(),
+    };
+    ExitCode::from(byte(status))
 }

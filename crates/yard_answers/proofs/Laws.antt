@@ -1,13 +1,15 @@
 -- Laws of a call's answer: words that were written over, and a state's words after a move. Assumes nothing.
+use Rattle.std.specs.Prelude.{Ok, Err}
 use Prim.Native.Nat.{ℕ, zero, suc, ◌+◌, ◌<◌}
 use mathlib.Core.Path.{◌≡◌, refl, sym, ap}
 use mathlib.Core.Bool.{true, false}
 use mathlib.Core.List.{List, [], ◌∷◌, append-nil}
 use native.Mathlib.Omega.{arith}
 use lib.ListN.{length, set, drop, drop_of_length-le}
+use Rattle.spec.specs.declared.Refusal.{Refusal}
 use Rattle.spec.specs.declared.State.{State}
-use Rattle.spec.specs.declared.Output.{Output}
-use Rattle.spec.specs.declared.Output.TheVariants.{At, End, Refuse}
+use Rattle.spec.specs.Outputs.{Output}
+use Rattle.spec.specs.declared.Progress.TheVariants.{At, End}
 use Rattle.spec.specs.Numbers.{output_words}
 use Rattle.spec.specs.Machine.{state_chosen}
 use Rattle.spec.specs.Words.{overwrite}
@@ -48,17 +50,12 @@ over_next (x ∷ w) (suc i) k v h =
     let m : suc i + suc (length v) ≡ suc (i + suc (length v)) = omega arith in
     rw (n, m) (ap (λ (u : List ℕ). x ∷ u) (over_next w i k v (omega arith)))
 
-pub out_written : (o : Output) (out : List ℕ) → out_number o ≡ 0 → output_words o ≡ out_left o out
+-- what is no refusal is written, and its number is 0
+pub written : (o : Output) (out : List ℕ) → length out ≡ 4 → ((why : Refusal) → o ≡ Err why → ⊥) → (0 ≡ out_number o) × (overwrite out 0 (output_words o) ≡ out_left o out)
 unfolding out_number out_left
-out_written (At line) out e = refl
-out_written (End a own full) out e = refl
-out_written (Refuse r) out e = absurd (omega arith)
-
-pub out_kept : (o : Output) (out : List ℕ) → ¬ (out_number o ≡ 0) → out ≡ out_left o out
-unfolding out_number out_left
-out_kept (At line) out d = absurd (d refl)
-out_kept (End a own full) out d = absurd (d refl)
-out_kept (Refuse r) out d = refl
+written (Ok (At line)) out e d = (refl, over_four out (Ok (At line)) e)
+written (Ok (End a own full)) out e d = (refl, over_four out (Ok (End a own full)) e)
+written (Err why) out e d = absurd (d why refl)
 
 -- ---- the state's words after a move
 

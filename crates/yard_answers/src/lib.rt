@@ -3,7 +3,7 @@
 #![tactic(auto)]
 
 ghost use Rattle.std.specs.Prelude.{◌≡◌, true, ◌∷◌, ◌+◌, ◌*◌, ◌≤◌, length};
-ghost use Rattle.spec.specs.Numbers.{output_words};
+ghost use Rattle.spec.specs.Numbers.{opening_number, output_words};
 ghost use Rattle.spec.specs.Machine.{state_chosen};
 ghost use Rattle.spec.specs.Words.{overwrite};
 ghost use Rattle.lines.specs.Reply.{settled};
@@ -11,25 +11,15 @@ ghost use Rattle.state_words.specs.StateWords.{state_words, state_of_words, stat
 ghost use Rattle.yard_answers.specs.Answers.{open_number, out_number, out_left};
 
 use lines::Moved;
-use spec::Output;
+use spec::{Output, Refusal};
 
 // An opening's number: 0, or 256 and the refusal's.
-pub fn open_number(why: u32) -> u32
-    requires { why ≤ 255 }
-    ensures { result ≡ open_number why }
+pub fn open_number(why: Option<Refusal>) -> u32
+    ensures { result ≡ open_number (opening_number why) }
 {
-    if why == 0 { 0 } else { 256 + why }
-}
-
-// 0, or 256 and the refusal's number.
-fn out_number(o: Output) -> u32
-    requires { out_number o ≤ 511 }
-    ensures { result ≡ out_number o }
-{
-    match o {
-        Output::At(_) => 0,
-        Output::End(_, _, _) => 0,
-        Output::Refuse(why) => 256 + why,
+    match why {
+        None => 0,
+        Some(refusal) => 256 + refusal.number(),
     }
 }
 
@@ -38,11 +28,11 @@ pub fn put_output(out: &mut [u32], o: Output) -> u32
     requires { (length out.old ≡ 4) × (out_number o ≤ 511) }
     ensures { (result ≡ out_number o) × (out.new ≡ out_left o out.old) }
 {
-    let n = out_number(o);
-    if n == 0 {
-        schedule_words::write_output(out, 0, o);
+    if let Err(why) = o {
+        return 256 + why.number();
     }
-    n
+    schedule_words::write_output(out, 0, o);
+    0
 }
 
 // A turn that named task k, the turn number i: the task's number and its step's output.
@@ -51,8 +41,7 @@ pub fn put_named(out: &mut [u32], i: usize, k: u32, o: Output)
     ensures { out.new ≡ overwrite out.old (5 * i) (k ∷ output_words o) }
 {
     let at = 5 * i;
-    let next = at + 1;
-    schedule_words::write_output(&mut out[next..], 0, o);
+    schedule_words::write_output(&mut out[at + 1..], 0, o);
     out[at] = k;
 }
 
@@ -61,10 +50,8 @@ pub fn put_moved(w: &mut [u32], k: u32, m: Moved)
     requires { state_fits w.old ≡ true }
     ensures { w.new ≡ state_words (settled (state_of_words w.old) k m) }
 {
-    let o = m.out;
-    if lines::changes(o, k) {
-        let c = m.task;
-        yard_words::put_changes(w, k, m.head, m.last_node, m.last_bucket, c);
+    if lines::changes(m.out, k) {
+        yard_words::put_changes(w, k, m.head, m.last_node, m.last_bucket, m.task);
     }
 }
 

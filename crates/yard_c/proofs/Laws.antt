@@ -1,4 +1,5 @@
 -- Laws of the calls for C: the numbers are small, and what an entry gave put together as the call's definition has it. Assumes nothing.
+use Rattle.std.specs.Prelude.{Ok, Err}
 use Prim.Native.Nat.{ℕ, ◌+◌, ◌*◌, ◌/◌, ◌≤◌, ◌<◌, min}
 use mathlib.Core.Path.{◌≡◌, refl, sym, ap, subst, ◌∙◌}
 use mathlib.Core.Bool.{true, false, ◌&&◌}
@@ -7,12 +8,12 @@ use native.Mathlib.Omega.{arith}
 use borrow.Author.Tests.{eq-eqb, ne_eqb, ltb-true}
 use lib.Dec.{eqb, ltb}
 use lib.ListN.{length, set}
+use Rattle.spec.specs.declared.Refusal.TheVariants.{Spoilt}
 use Rattle.spec.specs.declared.Call.{Call}
 use Rattle.spec.specs.declared.Config.{Config}
 use Rattle.spec.specs.declared.State.{State}
-use Rattle.spec.specs.declared.Listing.{Listing}
-use Rattle.spec.specs.declared.Output.{Output}
-use Rattle.spec.specs.declared.Output.TheVariants.{At, End, Refuse}
+use Rattle.spec.specs.Outputs.{Output, Listing}
+use Rattle.spec.specs.declared.Progress.TheVariants.{At, End}
 use Rattle.spec.specs.Machine.{Machine, machine_of, state_chosen}
 use Rattle.spec.specs.Sound.{bucket_count, sound}
 use Rattle.spec.specs.Lists.{concat_map}
@@ -22,6 +23,7 @@ use Rattle.spec.specs.Schedule.{run}
 use Rattle.spec.specs.Entries.{opening, Reply, start, step, list, show}
 use Rattle.laws.specs.Tests.{and2, choose}
 use Rattle.laws.specs.Soundness.{sound_facts}
+use Rattle.laws.specs.RefusalNumbers.{from_1_to_14}
 use Rattle.turns.specs.declared.Turn.{Turn}
 use Rattle.turns.specs.declared.Turn.TheVariants.{Idle, Of, Refused}
 use Rattle.turns.specs.Turn.{gives, turn}
@@ -42,30 +44,17 @@ use Rattle.c_calls.specs.Runs.{c_run, c_turns}
 
 -- ---- refusals have small numbers
 
-small_out : (o : Output) → ((r : ℕ) → o ≡ Refuse r → r ≤ 14) → out_number o ≤ 511
+small_out : (o : Output) → out_number o ≤ 511
 unfolding out_number
-small_out (At line) h = omega arith
-small_out (End a own full) h = omega arith
-small_out (Refuse r) h = let s = h r refl in omega arith
-
-start_least : {y : Machine} {k : ℕ} {call : Call} {tag r : ℕ} → StartRefused y k call tag r → r ≤ 14
-start_least (is_8 e n) = omega arith
-start_least (is_4 e f h) = omega arith
-start_least (is_5 e f h g) = omega arith
-start_least (is_14 e f h g z) = omega arith
-
-step_least : {y : Machine} {k r : ℕ} → StepRefused y k r → r ≤ 14
-step_least (is_8 e n) = omega arith
-step_least (is_4 e f h) = omega arith
-step_least (is_6 e f h s) = omega arith
-step_least (is_8_step e f h g n) = omega arith
-step_least (is_7 e f h g b v) = omega arith
+small_out (Ok (At line)) = omega arith
+small_out (Ok (End a own full)) = omega arith
+small_out (Err r) = let s = from_1_to_14 r in omega arith
 
 pub start_small : (y : Machine) (k : ℕ) (call : Call) (tag : ℕ) → out_number (start y k call tag).out ≤ 511
-start_small y k call tag = small_out (start y k call tag).out (λ r e. start_least ((start_refused y k r call tag).0 e))
+start_small y k call tag = small_out (start y k call tag).out
 
 pub step_small : (y : Machine) (k : ℕ) → out_number (step y k).out ≤ 511
-step_small y k = small_out (step y k).out (λ r e. step_least ((step_refused y k r).0 e))
+step_small y k = small_out (step y k).out
 
 -- ---- the calls
 
@@ -131,9 +120,9 @@ module _ (w out ns bs : List ℕ) where
     unfolding turn_number turn_left
     turn_idle gave = turn_keeps ns bs Idle gave out refl
 
-    pub turn_eight : (ns' bs' : List ℕ) → gives (Refused 8) (machine_of s ns' bs') ≡ turn (machine_of s ns bs) → called 264 w ns' bs' out ≡ c_turn w ns bs out
+    pub turn_eight : (ns' bs' : List ℕ) → gives (Refused Spoilt) (machine_of s ns' bs') ≡ turn (machine_of s ns bs) → called 264 w ns' bs' out ≡ c_turn w ns bs out
     unfolding turn_number turn_left
-    turn_eight ns' bs' gave = turn_keeps ns' bs' (Refused 8) gave out refl
+    turn_eight ns' bs' gave = turn_keeps ns' bs' (Refused Spoilt) gave out refl
 
     pub turn_unused : (ns' bs' : List ℕ) (k : ℕ) (o : Output) → gives (Of k o) (machine_of s ns' bs') ≡ turn (machine_of s ns bs)
         → (out' : List ℕ) → out' ≡ overwrite out 0 (k ∷ output_words o) → called 1 w ns' bs' out' ≡ c_turn w ns bs out

@@ -1,17 +1,18 @@
 -- From an opening on, a caller's words are such that a state has: an opening writes such words, and every call that is given such words leaves such
 -- words. (A list and a show leave the state's words as they are: Unchanged.) So only a caller that changes them itself is refused for them. Assumes nothing.
-use Rattle.std.specs.Prelude.{ℕ, zero, suc, ◌/◌, min, ◌≡◌, true, not, ◌&&◌, List, [], ◌∷◌, length}
+use Rattle.std.specs.Prelude.{ℕ, zero, suc, ◌/◌, min, ◌≡◌, true, not, ◌&&◌, List, [], ◌∷◌, length, Ok, Err}
 use Rattle.std.proofs.Common.{eq-eqb}
 use Rattle.std.proofs.Math.Dec.{eqb}
 use Rattle.spec.specs.declared.Call.{Call}
 use Rattle.spec.specs.declared.Config.{Config}
-use Rattle.spec.specs.declared.Output.{Output}
-use Rattle.spec.specs.declared.Output.TheVariants.{At, End, Refuse}
+use Rattle.spec.specs.Outputs.{Output}
+use Rattle.spec.specs.declared.Progress.TheVariants.{At, End}
 use Rattle.spec.specs.Machine.{Machine, state_chosen, with_state, with_chosen}
 use Rattle.spec.specs.Words.{number, filled}
 use Rattle.spec.specs.Sound.{sound}
 use Rattle.spec.specs.Entries.{step}
 use Rattle.spec.specs.Schedule.{Event, starts, steps, event, run}
+use Rattle.spec.specs.Numbers.{refusal_number}
 use Rattle.laws.specs.Tests.{choose}
 use Rattle.turns.specs.Turn.{Turned, next_task, after_step, turn_to, turn}
 use Rattle.schedule.specs.Encoding.{decoded}
@@ -34,10 +35,10 @@ Left x = Stored x.machine.state
 
 after_stored : (y : Machine) (k : ℕ) (o : Output) (z : Machine) → Stored y.state → Stored z.state → Left (after_step y k o z)
 unfolding after_step with_chosen with_state state_chosen
-after_stored y k (At line) z h g = record { eight = g.eight; own_steps = g.own_steps }
-after_stored y k (End a own full) z h g = record { eight = g.eight; own_steps = g.own_steps }
-after_stored y k (Refuse r) z h g =
-    choose (λ (m : Machine). Stored m.state) (eqb r 7) _ _ (λ p. record { eight = h.eight; own_steps = h.own_steps }) (λ p. h)
+after_stored y k (Ok (At line)) z h g = record { eight = g.eight; own_steps = g.own_steps }
+after_stored y k (Ok (End a own full)) z h g = record { eight = g.eight; own_steps = g.own_steps }
+after_stored y k (Err r) z h g =
+    choose (λ (m : Machine). Stored m.state) (eqb (refusal_number r) 7) _ _ (λ p. record { eight = h.eight; own_steps = h.own_steps }) (λ p. h)
 
 pub turn_stored : (y : Machine) → Stored y.state → Left (turn y)
 unfolding turn turn_to

@@ -4,30 +4,32 @@
 use Prim.Native.Nat.{ℕ, suc, ◌+◌, ◌/◌, ◌≤◌, ◌<◌, min}
 use Rattle.std.proofs.Math.Path.{◌≡◌, refl}
 use Rattle.std.proofs.Common.{ap, inl, inr}
-use Rattle.std.specs.Prelude.{◌↔◌, ◌⊎◌, Bool, false, not, ◌&&◌, ◌||◌, leb, if◌then◌else◌}
+use Rattle.std.specs.Prelude.{◌↔◌, ◌⊎◌, Bool, false, not, ◌&&◌, ◌||◌, leb, if◌then◌else◌, Ok, Err}
 use Rattle.std.proofs.Math.Bool.{true}
 use mathlib.Core.List.{List, [], ◌∷◌}
 use native.Mathlib.Omega.{arith}
 use borrow.Author.Tests.{eqb-true, eqb-false, eq-eqb, ne_eqb, ltb-true, ltb-false, lt-ltb, le-ltb, leb-true, le-leb, not-false}
 use Rattle.std.proofs.Math.Dec.{eqb, ltb}
 use Rattle.std.proofs.Math.ListN.{length}
+use Rattle.spec.specs.declared.Refusal.{Refusal}
+use Rattle.spec.specs.declared.Refusal.TheVariants.{NoTask, Running, Idle, NoRecord, Spoilt, ShortList, Withdrawn}
 use Rattle.spec.specs.declared.Call.{Call}
 use Rattle.spec.specs.declared.Config.{Config}
-use Rattle.spec.specs.declared.Listing.{Listing}
-use Rattle.spec.specs.declared.Listing.TheVariants as listing
-use Rattle.spec.specs.declared.Output.{Output}
-use Rattle.spec.specs.declared.Output.TheVariants.{At, End, Refuse}
+use Rattle.spec.specs.Outputs.{Output, Listing}
+use Rattle.spec.specs.declared.Progress.TheVariants.{At, End}
 use Rattle.spec.specs.Lists.{member}
 use Rattle.spec.specs.Machine.{Machine, task_of}
 use Rattle.spec.specs.Words.{tags}
 use Rattle.spec.specs.Sound.{task_count, bucket_count, sound}
 use Rattle.spec.specs.Listed.{listed}
 use Rattle.spec.specs.Entries.{opening, start, step, Written, list, show}
+use Rattle.spec.specs.Numbers.{refusal_number}
 use Rattle.laws.specs.Tests.{tf, and2, and_i, or_none, choose}
 use Rattle.laws.specs.SoundFacts.{SoundFacts}
 use Rattle.laws.specs.Soundness.{sound_iff}
 use Rattle.laws.specs.StepRefusals.{StepSound}
 use Rattle.laws.specs.Withdrawn.{InsertOfZero}
+use Rattle.laws.specs.RefusalNumbers.{same_refusal, from_1_to_14}
 use Rattle.corollaries.specs.Tables as Table
 use Rattle.corollaries.specs.Tables.{Within, Records, OpeningRefused, StartRefused, StepRefused, opening_refused, start_refused, step_refused}
 use Rattle.corollaries.specs.Refusals.{refusal_1, refusal_2, refusal_3, refusal_11, refusal_4_start, refusal_5, refusal_8_start, refusal_14, Steps}
@@ -43,7 +45,7 @@ use Rattle.yard_answers.specs.Answers.{open_number, out_number, turn_number, tur
 use Rattle.turns.specs.Turns.{turns_of, turns_most, turns_written}
 use Rattle.c_calls.specs.Calls.{Called, machine_in, c_open, c_reply, c_start, c_step, c_turn, c_list, c_show}
 use Rattle.c_calls.specs.Runs.{c_run, c_turns}
-use Rattle.yard_c.specs.RefusedTurns.{refused_words, told}
+use Rattle.yard_c.specs.RefusedTurns.{refused_words, told, number_words, told_number}
 
 -- ---- conditions put together
 
@@ -85,11 +87,11 @@ module _ {T P : Type 0} {ok : Bool} {n : ℕ} (u v : Called) (test : ok ≡ true
       from false t h = d
 
 -- the number of an output that is a refusal
-refuses : (o : Output) (r : ℕ) → out_number o ≡ 256 + r ↔ (o ≡ Refuse r)
+refuses : (o : Output) (r : Refusal) → out_number o ≡ 256 + refusal_number r ↔ (o ≡ Err r)
 unfolding out_number
-refuses (At line) r = ((λ e. absurd (omega arith)), (λ e. absurd (let z : ◌≡◌ {A = ℕ} 0 1 = cc in omega arith)))
-refuses (End a own full) r = ((λ e. absurd (omega arith)), (λ e. absurd (let z : ◌≡◌ {A = ℕ} 0 1 = cc in omega arith)))
-refuses (Refuse m) r = ((λ e. let same : m ≡ r = omega arith in rw same), (λ e. let same : m ≡ r = cc in rw same))
+refuses (Ok (At line)) r = ((λ e. absurd (omega (arith, from_1_to_14 r))), (λ e. absurd (let z : ◌≡◌ {A = ℕ} 0 1 = cc in omega arith)))
+refuses (Ok (End a own full)) r = ((λ e. absurd (omega (arith, from_1_to_14 r))), (λ e. absurd (let z : ◌≡◌ {A = ℕ} 0 1 = cc in omega arith)))
+refuses (Err m) r = ((λ e. let same : m ≡ r = same_refusal m r (omega arith) in rw same), (λ e. let same : m ≡ r = cc in rw same))
 
 -- ---- opening: 8 for a state of another length alone
 
@@ -172,25 +174,25 @@ module _ (w ns bs out : List ℕ) where
     abbrev Starts : ℕ → Type 0
     Starts n = (c_start call w k tag ns bs out).number ≡ n
 
-    abbrev start_mean : (r : ℕ) → {P : Type 0} → ((start y k call tag).out ≡ Refuse r ↔ P) → out_number (start y k call tag).out ≡ 256 + r ↔ P
+    abbrev start_mean : (r : Refusal) → {P : Type 0} → ((start y k call tag).out ≡ Err r ↔ P) → out_number (start y k call tag).out ≡ 256 + refusal_number r ↔ P
     start_mean r f = and_then (refuses (start y k call tag).out r) f
 
     pub start_8 : Starts 264 ↔ ((¬ Lent 4) ⊎ (Lent 4 × (¬ SoundFacts y)))
     unfolding c_start c_reply
-    start_8 = gives_else _ _ (lent 4) (start_mean 8 (refusal_8_start y k call tag)) refl
+    start_8 = gives_else _ _ (lent 4) (start_mean Spoilt (refusal_8_start y k call tag)) refl
 
     pub start_4 : Starts 260 ↔ (Lent 4 × (SoundFacts y × (task_count y ≤ k)))
     unfolding c_start c_reply
-    start_4 = gives _ _ (lent 4) (start_mean 4 (refusal_4_start y k call tag)) (λ e. omega arith)
+    start_4 = gives _ _ (lent 4) (start_mean NoTask (refusal_4_start y k call tag)) (λ e. omega arith)
 
     pub start_5 : Starts 261 ↔ (Lent 4 × (SoundFacts y × (k < task_count y) × ((task_of y k).running ≡ true)))
     unfolding c_start c_reply
-    start_5 = gives _ _ (lent 4) (start_mean 5 (refusal_5 y k call tag)) (λ e. omega arith)
+    start_5 = gives _ _ (lent 4) (start_mean Running (refusal_5 y k call tag)) (λ e. omega arith)
 
     pub start_14 : Starts 270
         ↔ (Lent 4 × (SoundFacts y × (k < task_count y) × ((task_of y k).running ≡ false) × InsertOfZero y.state.config call tag))
     unfolding c_start c_reply
-    start_14 = gives _ _ (lent 4) (start_mean 14 (refusal_14 y k call tag)) (λ e. omega arith)
+    start_14 = gives _ _ (lent 4) (start_mean Withdrawn (refusal_14 y k call tag)) (λ e. omega arith)
 
     abbrev start_list : List ℕ
     start_list = 0 ∷ 260 ∷ 261 ∷ 264 ∷ 270 ∷ []
@@ -201,16 +203,16 @@ module _ (w ns bs out : List ℕ) where
         choose (λ (x : Called). member x.number start_list ≡ true) (not (state_fits w && eqb (length out) 4)) _ _ (λ p. refl)
         (λ p. go (start y k call tag).out (λ r. (start_refused y k r call tag).0))
       where
-        row : (r : ℕ) → StartRefused y k call tag r → member (256 + r) start_list ≡ true
+        row : (r : Refusal) → StartRefused y k call tag r → member (256 + refusal_number r) start_list ≡ true
         row r (Table.is_8 e n) = rw e
         row r (Table.is_4 e f h) = rw e
         row r (Table.is_5 e f h s) = rw e
         row r (Table.is_14 e f h s z) = rw e
 
-        go : (o : Output) → ((r : ℕ) → o ≡ Refuse r → StartRefused y k call tag r) → member (out_number o) start_list ≡ true
-        go (At line) t = refl
-        go (End a own full) t = refl
-        go (Refuse r) t = row r (t r refl)
+        go : (o : Output) → ((r : Refusal) → o ≡ Err r → StartRefused y k call tag r) → member (out_number o) start_list ≡ true
+        go (Ok (At line)) t = refl
+        go (Ok (End a own full)) t = refl
+        go (Err r) t = row r (t r refl)
 
   -- ---- a step
 
@@ -218,24 +220,24 @@ module _ (w ns bs out : List ℕ) where
     abbrev StepGives : ℕ → Type 0
     StepGives n = (c_step w k ns bs out).number ≡ n
 
-    abbrev step_mean : (r : ℕ) → {P : Type 0} → ((step y k).out ≡ Refuse r ↔ P) → out_number (step y k).out ≡ 256 + r ↔ P
+    abbrev step_mean : (r : Refusal) → {P : Type 0} → ((step y k).out ≡ Err r ↔ P) → out_number (step y k).out ≡ 256 + refusal_number r ↔ P
     step_mean r f = and_then (refuses (step y k).out r) f
 
     pub step_8 : StepGives 264 ↔ ((¬ Lent 4) ⊎ (Lent 4 × ((¬ SoundFacts y) ⊎ (Steps y k × (¬ StepSound y (task_of y k))))))
     unfolding c_step c_reply
-    step_8 = gives_else _ _ (lent 4) (step_mean 8 (refusal_8_step y k)) refl
+    step_8 = gives_else _ _ (lent 4) (step_mean Spoilt (refusal_8_step y k)) refl
 
     pub step_4 : StepGives 260 ↔ (Lent 4 × (SoundFacts y × (task_count y ≤ k)))
     unfolding c_step c_reply
-    step_4 = gives _ _ (lent 4) (step_mean 4 (refusal_4_step y k)) (λ e. omega arith)
+    step_4 = gives _ _ (lent 4) (step_mean NoTask (refusal_4_step y k)) (λ e. omega arith)
 
     pub step_6 : StepGives 262 ↔ (Lent 4 × (SoundFacts y × (k < task_count y) × ((task_of y k).running ≡ false)))
     unfolding c_step c_reply
-    step_6 = gives _ _ (lent 4) (step_mean 6 (refusal_6 y k)) (λ e. omega arith)
+    step_6 = gives _ _ (lent 4) (step_mean Idle (refusal_6 y k)) (λ e. omega arith)
 
     pub step_7 : StepGives 263 ↔ (Lent 4 × (Steps y k × StepSound y (task_of y k) × NoneFree y k (task_of y k)))
     unfolding c_step c_reply
-    step_7 = gives _ _ (lent 4) (step_mean 7 (refusal_7 y k)) (λ e. omega arith)
+    step_7 = gives _ _ (lent 4) (step_mean NoRecord (refusal_7 y k)) (λ e. omega arith)
 
     abbrev step_list : List ℕ
     step_list = 0 ∷ 260 ∷ 262 ∷ 263 ∷ 264 ∷ []
@@ -246,17 +248,17 @@ module _ (w ns bs out : List ℕ) where
         choose (λ (x : Called). member x.number step_list ≡ true) (not (state_fits w && eqb (length out) 4)) _ _ (λ p. refl)
         (λ p. go (step y k).out (λ r. (step_refused y k r).0))
       where
-        row : (r : ℕ) → StepRefused y k r → member (256 + r) step_list ≡ true
+        row : (r : Refusal) → StepRefused y k r → member (256 + refusal_number r) step_list ≡ true
         row r (Table.is_8 e n) = rw e
         row r (Table.is_4 e f h) = rw e
         row r (Table.is_6 e f h s) = rw e
         row r (Table.is_8_step e f h g n) = rw e
         row r (Table.is_7 e f h g b v) = rw e
 
-        go : (o : Output) → ((r : ℕ) → o ≡ Refuse r → StepRefused y k r) → member (out_number o) step_list ≡ true
-        go (At line) t = refl
-        go (End a own full) t = refl
-        go (Refuse r) t = row r (t r refl)
+        go : (o : Output) → ((r : Refusal) → o ≡ Err r → StepRefused y k r) → member (out_number o) step_list ≡ true
+        go (Ok (At line)) t = refl
+        go (Ok (End a own full)) t = refl
+        go (Err r) t = row r (t r refl)
 
   -- ---- a turn
 
@@ -269,11 +271,11 @@ module _ (w ns bs out : List ℕ) where
   says_none (Of k o) = ((λ e. absurd (omega arith)), (λ e. absurd (let z : ◌≡◌ {A = ℕ} 0 1 = cc in omega arith)))
   says_none (Refused r) = ((λ e. absurd (omega arith)), (λ e. absurd (let z : ◌≡◌ {A = ℕ} 0 1 = cc in omega arith)))
 
-  says_refused : (x : Turn) → turn_number x ≡ 264 ↔ (x ≡ Refused 8)
+  says_refused : (x : Turn) → turn_number x ≡ 264 ↔ (x ≡ Refused Spoilt)
   unfolding turn_number
   says_refused Idle = ((λ e. absurd (omega arith)), (λ e. absurd (let z : ◌≡◌ {A = ℕ} 0 1 = cc in omega arith)))
   says_refused (Of k o) = ((λ e. absurd (omega arith)), (λ e. absurd (let z : ◌≡◌ {A = ℕ} 0 1 = cc in omega arith)))
-  says_refused (Refused r) = ((λ e. let same : r ≡ 8 = omega arith in rw same), (λ e. let same : r ≡ 8 = cc in rw same))
+  says_refused (Refused r) = ((λ e. let same : r ≡ Spoilt = same_refusal r Spoilt (omega arith) in rw same), (λ e. let same : r ≡ Spoilt = cc in rw same))
 
   -- nothing runs
   pub turn_0 : TurnGives 0 ↔ (Lent 5 × (SoundFacts y × ((k : ℕ) → k < task_count y → (task_of y k).running ≡ false)))
@@ -295,25 +297,33 @@ module _ (w ns bs out : List ℕ) where
 
   pub turn_8 : TurnGives 264 ↔ ((¬ Lent 5) ⊎ (Lent 5 × (¬ SoundFacts y)))
   unfolding c_turn
-  turn_8 = gives_else _ _ (lent 5) (and_then (says_refused (turn y).says) (and_then (turn_names_none y 8) ((λ h. h.1), (λ h. (refl, h))))) refl
+  turn_8 = gives_else _ _ (lent 5) (and_then (says_refused (turn y).says) (and_then (turn_names_none y Spoilt) ((λ h. h.1), (λ h. (refl, h))))) refl
 
   -- 1, and words that say that the step of task k was refused with r
-  pub turn_1_refused : (k r : ℕ) → (TurnGives 1 × ((c_turn w ns bs out).out ≡ refused_words k r))
-      ↔ (Lent 5 × (SoundFacts y × Next y k × ((step y k).out ≡ Refuse r)))
+  pub turn_1_refused : (k : ℕ) (r : Refusal) → (TurnGives 1 × ((c_turn w ns bs out).out ≡ refused_words k r))
+      ↔ (Lent 5 × (SoundFacts y × Next y k × ((step y k).out ≡ Err r)))
   unfolding c_turn turn_number turn_left
   turn_1_refused k r = (to, from)
     where
       Says : Called → Type 0
       Says x = (x.number ≡ 1) × (x.out ≡ refused_words k r)
 
-      to : Says (c_turn w ns bs out) → Lent 5 × (SoundFacts y × Next y k × ((step y k).out ≡ Refuse r))
+      to : Says (c_turn w ns bs out) → Lent 5 × (SoundFacts y × Next y k × ((step y k).out ≡ Err r))
       to =
-          choose (λ (x : Called). Says x → Lent 5 × (SoundFacts y × Next y k × ((step y k).out ≡ Refuse r))) (not (state_fits w && eqb (length out) 5)) _ _
+          choose (λ (x : Called). Says x → Lent 5 × (SoundFacts y × Next y k × ((step y k).out ≡ Err r))) (not (state_fits w && eqb (length out) 5)) _ _
           (λ p h. absurd (let n = h.0 in omega arith))
-          (λ p h. ((lent 5).0 (not-false _ p), (turn_names y k (Refuse r)).0 (told k r out (turn y).says h.0 h.1)))
+          (λ p h. ((lent 5).0 (not-false _ p), (turn_names y k (Err r)).0 (told k r out (turn y).says h.0 h.1)))
 
-      from : Lent 5 × (SoundFacts y × Next y k × ((step y k).out ≡ Refuse r)) → Says (c_turn w ns bs out)
-      from h = rw ((lent 5).1 h.0, (turn_names y k (Refuse r)).1 h.1) (refl, refl)
+      from : Lent 5 × (SoundFacts y × Next y k × ((step y k).out ≡ Err r)) → Says (c_turn w ns bs out)
+      from h = rw ((lent 5).1 h.0, (turn_names y k (Err r)).1 h.1) (refl, refl)
+
+  -- 1, and such words with any number: it is that of a refusal, of which `turn_1_refused` says when it is given
+  pub turn_1_number : (k r : ℕ) → TurnGives 1 → (c_turn w ns bs out).out ≡ number_words k r → (s : Refusal) × (refusal_number s ≡ r)
+  unfolding c_turn turn_number turn_left
+  turn_1_number k r =
+      choose (λ (x : Called). x.number ≡ 1 → x.out ≡ number_words k r → (s : Refusal) × (refusal_number s ≡ r)) (not (state_fits w && eqb (length out) 5)) _ _
+      (λ p n e. absurd (omega arith))
+      (λ p n e. told_number k r out (turn y).says n e)
 
   -- ---- a list
 
@@ -323,13 +333,13 @@ module _ (w ns bs out : List ℕ) where
   fit : state_fits w ≡ true ↔ (state_fits w ≡ true)
   fit = ((λ e. e), (λ e. e))
 
-  lists_refused : (x : Listing) (r : ℕ) → ((n : ℕ) → x ≡ listing.Count n → n ≤ 64) → listing_number x ≡ 256 + r ↔ (x ≡ listing.Refused r)
-  lists_refused (listing.Count n) r few =
+  lists_refused : (x : Listing) (r : Refusal) → ((n : ℕ) → x ≡ Ok n → n ≤ 64) → listing_number x ≡ 256 + refusal_number r ↔ (x ≡ Err r)
+  lists_refused (Ok n) r few =
       ((λ e. absurd (let h = few n refl in omega arith)), (λ e. absurd (let z : ◌≡◌ {A = ℕ} 0 1 = cc in omega arith)))
-  lists_refused (listing.Refused m) r few = ((λ e. let same : m ≡ r = omega arith in rw same), (λ e. let same : m ≡ r = cc in rw same))
+  lists_refused (Err m) r few = ((λ e. let same : m ≡ r = same_refusal m r (omega arith) in rw same), (λ e. let same : m ≡ r = cc in rw same))
 
   -- a list of tags has at most 64
-  few : (n : ℕ) → (list y out).says ≡ listing.Count n → n ≤ 64
+  few : (n : ℕ) → (list y out).says ≡ Ok n → n ≤ 64
   unfolding list
   few n =
       choose Few (not (sound y) || ltb 64 (length (listed y))) _ _ (λ p e. absurd (let z : ◌≡◌ {A = ℕ} 0 1 = cc in omega arith)) (λ p.
@@ -338,15 +348,15 @@ module _ (w ns bs out : List ℕ) where
       let h = ltb-false 64 (length (listed y)) (or_none (not (sound y)) (ltb 64 (length (listed y))) p).1 in omega arith))
     where
       Few : Written → Type 0
-      Few x = x.says ≡ listing.Count n → n ≤ 64
+      Few x = x.says ≡ Ok n → n ≤ 64
 
   pub list_8 : Lists 264 ↔ ((¬ (state_fits w ≡ true)) ⊎ ((state_fits w ≡ true) × ((¬ SoundFacts y) ⊎ (SoundFacts y × (64 < length (listed y))))))
   unfolding c_list
-  list_8 = gives_else _ _ fit (and_then (lists_refused (list y out).says 8 few) (refusal_8_list y out)) refl
+  list_8 = gives_else _ _ fit (and_then (lists_refused (list y out).says Spoilt few) (refusal_8_list y out)) refl
 
   pub list_9 : Lists 265 ↔ ((state_fits w ≡ true) × (SoundFacts y × (length (listed y) ≤ 64) × (length out < 64)))
   unfolding c_list
-  list_9 = gives _ _ fit (and_then (lists_refused (list y out).says 9 few) (refusal_9 y out)) (λ e. omega arith)
+  list_9 = gives _ _ fit (and_then (lists_refused (list y out).says ShortList few) (refusal_9 y out)) (λ e. omega arith)
 
   -- a number of tags
   pub list_count : (n : ℕ) → n ≤ 64 → Lists n ↔ ((state_fits w ≡ true) × (SoundFacts y × (length (listed y) ≡ n) × (64 ≤ length out)))

@@ -1,10 +1,10 @@
 -- Many events or turns in one call give what the calls for them give one by one. Assumes nothing.
-use Rattle.std.specs.Prelude.{ℕ, zero, suc, ◌+◌, ◌-◌, ◌/◌, ◌≤◌, min, ◌≡◌, refl, true, List, [], ◌∷◌, ◌++◌, leb, eqb, length, replicate, if◌then◌else◌}
+use Rattle.std.specs.Prelude.{ℕ, zero, suc, ◌+◌, ◌-◌, ◌/◌, ◌≤◌, min, ◌≡◌, refl, true, List, [], ◌∷◌, ◌++◌, leb, eqb, length, replicate, if◌then◌else◌, Ok, Err}
 use Rattle.std.proofs.Common.{sym, ap, ◌∙◌, arith, le-leb, ne_eqb}
-use Rattle.spec.specs.declared.Output.{Output}
-use Rattle.spec.specs.declared.Output.TheVariants.{At, End, Refuse}
+use Rattle.spec.specs.Outputs.{Output}
+use Rattle.spec.specs.declared.Progress.TheVariants.{At, End}
 use Rattle.spec.specs.Lists.{concat_map}
-use Rattle.spec.specs.Numbers.{output_words}
+use Rattle.spec.specs.Numbers.{output_words, refusal_number}
 use Rattle.spec.specs.Machine.{Machine}
 use Rattle.spec.specs.Words.{overwrite}
 use Rattle.spec.specs.Sound.{sound}
@@ -32,7 +32,7 @@ c_event w ns bs (steps k) = c_step w k ns bs (replicate 4 0)
 
 -- what a call answered, as an output's words: those that it left, or those of its refusal
 unfoldable pub answer_words : Called → List ℕ
-answer_words x = if leb 256 x.number then output_words (Refuse (x.number - 256)) else x.out
+answer_words x = if leb 256 x.number then 2 ∷ (x.number - 256) ∷ 0 ∷ 0 ∷ [] else x.out
 
 -- the calls for the events, each on what the one before left; the words of their answers, one after the other, are written from the first on
 unfoldable pub calls : List ℕ → List ℕ → List ℕ → List Event → Called
@@ -53,12 +53,12 @@ event_called y h (steps k) = rw (words_fit y.state h, state_again y.state h)
 
 answered : (o : Output) (y : Machine) → answer_words (c_reply (record { out = o; machine = y }) (replicate 4 0)) ≡ output_words o
 unfolding answer_words c_reply out_number out_left
-answered (At line) y = refl
-answered (End a own full) y = refl
-answered (Refuse r) y =
-    let same : 256 + r - 256 ≡ r = omega arith in
-    let below : 256 ≤ 256 + r = omega arith in
-    rw (le-leb 256 (256 + r) below, same)
+answered (Ok (At line)) y = refl
+answered (Ok (End a own full)) y = refl
+answered (Err r) y =
+    let same : 256 + refusal_number r - 256 ≡ refusal_number r = omega arith in
+    let below : 256 ≤ 256 + refusal_number r = omega arith in
+    rw (le-leb 256 (256 + refusal_number r) below, same)
 
 calls_run : (es : List Event) (y : Machine) → Stored y.state
     → calls (state_words y.state) y.nodes y.buckets es
@@ -117,7 +117,7 @@ unfolding turn_number turn_left names turn_words concat_map
 each_answer n y z e Idle = refl
 each_answer n y z e (Of k o) =
     ap (λ (r : Called). called (suc r.number) r.state r.nodes r.buckets ((k ∷ output_words o) ++ r.out)) e
-each_answer n y z e (Refused r) = rw (ne_eqb (256 + r) 1 (λ h. omega arith))
+each_answer n y z e (Refused r) = rw (ne_eqb (256 + refusal_number r) 1 (λ h. omega arith))
 
 turn_calls_are : (n : ℕ) (y : Machine) → Stored y.state → turn_calls n (state_words y.state) y.nodes y.buckets ≡ told (turns_of n y)
 unfolding turn_calls turns_of concat_map

@@ -2,22 +2,24 @@
 -- pools and of the answer as they were. "A refused opening gives a state of all zeros." A list and a show change no word of the state and the pools.
 -- Assumes nothing.
 use Prim.Native.Nat.{ℕ, ◌+◌, ◌/◌, ◌≤◌, min}
-use Rattle.std.specs.Prelude.{◌≡◌, refl, not, ◌&&◌, ◌||◌, leb, length, replicate}
+use Rattle.std.specs.Prelude.{◌≡◌, refl, not, ◌&&◌, ◌||◌, leb, length, replicate, Ok, Err}
 use Rattle.std.proofs.Math.Path.{ap}
 use Rattle.std.proofs.Common.{◌∙◌, arith}
 use Rattle.std.proofs.Math.Bool.{true}
 use mathlib.Core.List.{List, []}
 use borrow.Author.Tests.{eq-eqb, ne_eqb, ltb-false, not-false}
 use Rattle.std.proofs.Math.Dec.{eqb, ltb}
+use Rattle.spec.specs.declared.Refusal.{Refusal}
 use Rattle.spec.specs.declared.Call.{Call}
 use Rattle.spec.specs.declared.Config.{Config}
-use Rattle.spec.specs.declared.Output.{Output}
-use Rattle.spec.specs.declared.Output.TheVariants.{At, End, Refuse}
+use Rattle.spec.specs.Outputs.{Output}
+use Rattle.spec.specs.declared.Progress.TheVariants.{At, End}
 use Rattle.spec.specs.Lists.{concat_map, range}
 use Rattle.spec.specs.Machine.{Machine, idle, zero_config, state_of}
 use Rattle.spec.specs.Sound.{sound}
 use Rattle.spec.specs.Listed.{listed}
 use Rattle.spec.specs.Entries.{Opened, opening, start, step, Written, list}
+use Rattle.spec.specs.Numbers.{refusal_number}
 use Rattle.laws.specs.Tests.{choose, and_left, or_none}
 use Rattle.turns.specs.declared.Turn.{Turn}
 use Rattle.turns.specs.declared.Turn.TheVariants.{Idle, Of, Refused}
@@ -51,12 +53,12 @@ module _ (w ns bs out : List ℕ) where
   same_machine fits n z e =
       ap (λ (u : Machine). called n (state_words u.state) u.nodes u.buckets out) e ∙ ap (λ (v : List ℕ). called n v ns bs out) (words_again w fits)
 
-  reply_kept : state_fits w ≡ true → (o : Output) (z : Machine) → ((r : ℕ) → o ≡ Refuse r → z ≡ y)
+  reply_kept : state_fits w ≡ true → (o : Output) (z : Machine) → ((r : Refusal) → o ≡ Err r → z ≡ y)
       → KeptIfRefused (c_reply (record { out = o; machine = z }) out)
   unfolding c_reply out_number out_left
-  reply_kept fits (At line) z same h = absurd (omega arith)
-  reply_kept fits (End a own full) z same h = absurd (omega arith)
-  reply_kept fits (Refuse r) z same h = same_machine fits (256 + r) z (same r refl)
+  reply_kept fits (Ok (At line)) z same h = absurd (omega arith)
+  reply_kept fits (Ok (End a own full)) z same h = absurd (omega arith)
+  reply_kept fits (Err r) z same h = same_machine fits (256 + refusal_number r) z (same r refl)
 
   pub refused_start_keeps : (call : Call) (k tag : ℕ) → 256 ≤ (c_start call w k tag ns bs out).number → Kept (c_start call w k tag ns bs out)
   unfolding c_start
@@ -80,13 +82,13 @@ module _ (w ns bs out : List ℕ) where
       let x = turn y in
       go (and_left _ _ (not-false _ p)) x.says x.machine (λ r e.
       let eight = ((turn_names_none y r).0 e).0 in
-      refused_turn_changes_nothing y 8 (λ u. omega arith) (λ u. omega arith) (ap refusal_of e ∙ eight)))
+      refused_turn_changes_nothing y 8 (λ u. omega arith) (λ u. omega arith) (ap refusal_of e ∙ ap refusal_number eight)))
     where
-      go : state_fits w ≡ true → (x : Turn) (z : Machine) → ((r : ℕ) → x ≡ Refused r → z ≡ y)
+      go : state_fits w ≡ true → (x : Turn) (z : Machine) → ((r : Refusal) → x ≡ Refused r → z ≡ y)
           → KeptIfRefused (called (turn_number x) (state_words z.state) z.nodes z.buckets (turn_left x out))
       go fits Idle z same h = absurd (omega arith)
       go fits (Of k o) z same h = absurd (omega arith)
-      go fits (Refused r) z same h = same_machine fits (256 + r) z (same r refl)
+      go fits (Refused r) z same h = same_machine fits (256 + refusal_number r) z (same r refl)
 
   -- ---- many events: where they are run the number is 0, and each refusal among the outputs changed nothing but its four words
 

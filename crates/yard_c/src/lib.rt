@@ -2,7 +2,8 @@
 // pools, and the answer's words. include/yard.h has the layout and the numbers, specs/Calls and specs/Runs what each call gives and leaves.
 #![tactic(auto)]
 
-ghost use Rattle.std.specs.Prelude.{◌≡◌, [], ◌/◌, min};
+ghost use Rattle.std.specs.Prelude.{◌≡◌, ◌&&◌, [], ◌/◌, eqb, length, min};
+ghost use Rattle.state_words.specs.StateWords.{state_fits};
 ghost use Rattle.spec.specs.declared.Call.TheVariants.{Insert, Remove, Contains, Grow, Shrink};
 ghost use Rattle.schedule.specs.Encoding.{c_config};
 ghost use Rattle.c_calls.specs.Calls.{called, c_open, c_start, c_step, c_turn, c_list, c_show};
@@ -34,11 +35,17 @@ pub fn yard_open(
     let o = opening::open(g, ns, bs);
     let s = o.state;
     yard_words::put_state(w, s);
-    let why = o.refusal;
-    yard_answers::open_number(why)
+    yard_answers::open_number(o.refusal)
 }
 
 // ---- start, step and turn
+
+// Whether the words are a state's, and the answer has so many.
+fn ready(w: &[u32], out: &[u32], n: usize) -> bool
+    ensures { result ≡ (state_fits w.now && eqb (length out.now) n) }
+{
+    yard_words::state_fits(w) & (out.len() == n)
+}
 
 // A start of any call.
 fn started(
@@ -53,14 +60,12 @@ fn started(
     ensures { called result w.new ns.now bs.now out.new
         ≡ c_start call w.old k tag ns.now bs.now out.old }
 {
-    let ok = yard_words::state_fits(w) & (out.len() == 4);
-    if !ok {
+    if !ready(w, out, 4) {
         return SPOILT;
     }
     let m = hashset_words::moved_by_start(w, k, call, tag, ns, bs);
     yard_answers::put_moved(w, k, m);
-    let o = m.out;
-    yard_answers::put_output(out, o)
+    yard_answers::put_output(out, m.out)
 }
 
 // Starts an insert for a task; and so on: a function for each call, so that there is no bad call.
@@ -125,14 +130,12 @@ pub fn yard_step(w: &mut [u32], k: u32, ns: &mut [u32], bs: &mut [u32], out: &mu
     ensures { called result w.new ns.new bs.new out.new
         ≡ c_step w.old k ns.old bs.old out.old }
 {
-    let ok = yard_words::state_fits(w) & (out.len() == 4);
-    if !ok {
+    if !ready(w, out, 4) {
         return SPOILT;
     }
     let m = hashset_words::moved_by_step(w, k, ns, bs);
     yard_answers::put_moved(w, k, m);
-    let o = m.out;
-    yard_answers::put_output(out, o)
+    yard_answers::put_output(out, m.out)
 }
 
 // One turn of the dispatcher, as `turn` of dispatch has it. Only the words that change are written.
@@ -140,29 +143,23 @@ pub fn yard_turn(w: &mut [u32], ns: &mut [u32], bs: &mut [u32], out: &mut [u32])
     ensures { called result w.new ns.new bs.new out.new
         ≡ c_turn w.old ns.old bs.old out.old }
 {
-    let ok = yard_words::state_fits(w) & (out.len() == 5);
-    if !ok {
+    if !ready(w, out, 5) {
         return SPOILT;
     }
     let e = sound_words::check(w, 0, ns, bs);
-    if !e.sound {
+    if e.is_none() {
         return SPOILT;
     }
     let s = sound_words::state_of_words(w);
-    let l = dispatch::next_task(s);
-    if l == 0 {
+    let Some(k) = dispatch::next_task(s) else {
         return 0;
-    }
-    let k = l - 1;
+    };
     let d = sound_words::known(w, k);
     let m = checked_step::step(s, d, k, ns, bs);
-    let o = m.out;
-    if dispatch::uses_turn(o) {
+    if dispatch::uses_turn(m.out) {
         yard_answers::put_turned(w, k, m);
-        yard_answers::put_named(out, 0, k, o);
-        return 1;
     }
-    yard_answers::put_named(out, 0, k, o);
+    yard_answers::put_named(out, 0, k, m.out);
     1
 }
 
@@ -186,8 +183,7 @@ pub fn yard_show(w: &[u32], k: u32, ns: &[u32], bs: &[u32], out: &mut [u32]) -> 
     ensures { called result w.now ns.now bs.now out.new
         ≡ c_show w.now k ns.now bs.now out.old }
 {
-    let ok = yard_words::state_fits(w) & (out.len() == 1);
-    if !ok {
+    if !ready(w, out, 1) {
         return 0;
     }
     let s = yard_words::state_of_words(w);
@@ -206,8 +202,7 @@ pub fn yard_show(w: &[u32], k: u32, ns: &[u32], bs: &[u32], out: &mut [u32]) -> 
 fn turns_room(n: usize) -> usize
     ensures { result ≡ min 255 (n / 5) }
 {
-    let most = n / 5;
-    if most < 255 { most } else { 255 }
+    (n / 5).min(255)
 }
 
 // Takes the turns that have room for their words, up to the first that finds nothing to run. Memory is looked through once, before the first of them.
@@ -226,6 +221,5 @@ pub fn yard_turns(w: &mut [u32], ns: &mut [u32], bs: &mut [u32], outs: &mut [u32
     let r = dispatch_turns::run_turns(s, n, ns, bs, outs);
     let t = r.state;
     yard_words::put_state(w, t);
-    let m = r.turns;
-    m as u32
+    r.turns as u32
 }

@@ -1,28 +1,11 @@
 -- Words written one after the other. Assumes nothing.
-use Prim.Native.Nat.{ℕ, ◌+◌, ◌≤◌}
-use mathlib.Core.Path.{◌≡◌, sym, ap, ◌∙◌}
-use mathlib.Core.List.{List, [], ◌++◌, append-nil, append_assoc}
+use Prim.Native.Nat.{ℕ, ◌+◌}
+use mathlib.Core.Path.{◌≡◌}
+use mathlib.Core.List.{List, append-nil}
 use native.Mathlib.Omega.{arith}
-use lib.ListN.{length, take, drop, length-append, take-append-drop, drop_of_length-le}
-use lib.Seq.{length-take-le, take_at, drop-append-add, drop-drop}
+use lib.ListN.{length, drop_of_length-le}
 use Rattle.spec.specs.Words.{overwrite}
-
--- ---- words written one after the other
-
-pub over_none : (w : List ℕ) (i : ℕ) → overwrite w i [] ≡ w
-unfolding overwrite
-over_none w i = let z : i + 0 ≡ i = omega arith in rw (z, append-nil) (take-append-drop i w)
-
-pub over_then : (w : List ℕ) (i : ℕ) (v u : List ℕ) → i + length v ≤ length w → overwrite w i (v ++ u) ≡ overwrite (overwrite w i v) (i + length v) u
-unfolding overwrite
-over_then w i v u h =
-    let j : ℕ = i + length v in
-    let p : List ℕ = take i w ++ v in
-    let e : length p ≡ j = length-append (take i w) v ∙ ap (λ (n : ℕ). n + length v) (length-take-le i w (omega arith)) in
-    let q : i + (length v + length u) ≡ j + length u = omega arith in
-    let d : drop (j + length u) (p ++ drop j w) ≡ drop (j + length u) w =
-    ap (λ (n : ℕ). drop (n + length u) (p ++ drop j w)) (sym e) ∙ drop-append-add p (drop j w) (length u) ∙ drop-drop (length u) j w in
-    rw (take_at p (drop j w) j e, d, length-append v u, q) (ap (λ (l : List ℕ). l ++ drop (j + length u) w) (sym (append_assoc (take i w) v u)))
+pub use Rattle.schedule_words.proofs.Laws.{over_none, over_then, over_part}
 
 -- all words written over
 pub over_all : (w v : List ℕ) → length v ≡ length w → overwrite w 0 v ≡ v

@@ -1,4 +1,5 @@
-// The state as words lent by a caller outside Rattle, and back: docs/FITTERS.md has the order, specs/StateWords the definitions.
+// The state as words lent by a caller outside Rattle, and back: docs/FITTERS.md has the order, specs/StateWords the definitions. The words are a slice, as C
+// lends them, and their number a clause: a slice becomes an array's reference only by an Option of a reference, which no function may give back on a board.
 #![tactic(auto)]
 
 ghost use Rattle.std.specs.Prelude.{◌≡◌, true, ◌+◌, ◌≤◌, ◌<◌, length};
@@ -8,10 +9,15 @@ ghost use Rattle.state_words.specs.Changes.{changed};
 
 use spec::{Config, State, Task};
 
-// The words of a state.
+// The words of a state, where those of its tasks begin, and the words of a task.
 pub const STATE_WORDS: usize = 113;
 
+const TASKS: usize = 9;
+
+const TASK_WORDS: usize = 13;
+
 // The task whose words begin there.
+#[tactic(auto, unfolding(state_words::specs::StateWords::task_at))]
 pub fn task_at(w: &[u32], at: usize) -> Task
     requires { at + 13 ≤ length w.now }
     ensures { result ≡ task_at w.now at }
@@ -38,42 +44,46 @@ fn tasks_of_words(w: &[u32]) -> [Task; 8]
     requires { length w.now ≡ 113 }
     ensures { result ≡ tasks_of_words w.now }
 {
-    [
-        task_at(w, 9),
-        task_at(w, 22),
-        task_at(w, 35),
-        task_at(w, 48),
-        task_at(w, 61),
-        task_at(w, 74),
-        task_at(w, 87),
-        task_at(w, 100),
-    ]
+    let mut all = [task_at(w, TASKS); 8];
+    for (k, c) in all.iter_mut().enumerate() {
+        *c = task_at(w, TASKS + TASK_WORDS * k);
+    }
+    all
+}
+
+// What these words keep of the opening.
+#[tactic(auto, unfolding(state_words::specs::StateWords::state_of_words))]
+pub fn config_of(w: &[u32]) -> Config
+    requires { length w.now ≡ 113 }
+    ensures { result ≡ (state_of_words w.now).config }
+{
+    Config {
+        tasks: w[0],
+        version: w[1],
+        zero_withdrawn: w[2] != 0,
+    }
 }
 
 // The state that these words are.
+#[tactic(auto, unfolding(state_words::specs::StateWords::state_of_words))]
 pub fn state_of_words(w: &[u32]) -> State
     requires { length w.now ≡ 113 }
     ensures { result ≡ state_of_words w.now }
 {
-    let g = Config {
-        tasks: w[0],
-        version: w[1],
-        zero_withdrawn: w[2] != 0,
-    };
-    let ts = tasks_of_words(w);
     State {
-        config: g,
+        config: config_of(w),
         nodes: w[3],
         buckets: w[4],
         head: w[5],
         last_node: w[6],
         last_bucket: w[7],
         chosen: w[8],
-        task: ts,
+        task: tasks_of_words(w),
     }
 }
 
 // Whether a task has these words.
+#[tactic(auto, unfolding(state_words::specs::StateWords::task_fits, state_words::specs::StateWords::bit_fits, state_words::specs::StateWords::own_fits))]
 fn task_fits(w: &[u32], at: usize) -> bool
     requires { at + 13 ≤ length w.now }
     ensures { result ≡ task_fits w.now at }
@@ -88,31 +98,28 @@ pub fn state_fits(w: &[u32]) -> bool
     if w.len() != STATE_WORDS {
         return false;
     }
-    let h = task_fits(w, 100);
-    let g = task_fits(w, 87) & h;
-    let f = task_fits(w, 74) & g;
-    let e = task_fits(w, 61) & f;
-    let d = task_fits(w, 48) & e;
-    let c = task_fits(w, 35) & d;
-    let b = task_fits(w, 22) & c;
-    let a = task_fits(w, 9) & b;
-    (w[2] <= 1) & a
+    let mut fits = w[2] <= 1;
+    for k in 0..8 {
+        fits &= task_fits(w, TASKS + TASK_WORDS * k);
+    }
+    fits
 }
 
 // A truth value's word.
 pub fn bit(b: bool) -> u32
     ensures { result ≡ bit b }
 {
-    if b { 1 } else { 0 }
+    u32::from(b)
 }
 
 // The words before a state's tasks, written from the first on.
+#[tactic(auto, unfolding(spec::specs::Words::overwrite))]
 fn put_first(w: &mut [u32], s: State)
     requires { length w.old ≡ 113 }
     ensures { w.new ≡ overwrite w.old 0 (first_words s) }
 {
     let g = s.config;
-    let v = [
+    w[..TASKS].copy_from_slice(&[
         g.tasks,
         g.version,
         bit(g.zero_withdrawn),
@@ -122,8 +129,7 @@ fn put_first(w: &mut [u32], s: State)
         s.last_node,
         s.last_bucket,
         s.chosen,
-    ];
-    pool::write_over(w, &v)
+    ])
 }
 
 // A task's words, written from there on.
@@ -131,13 +137,13 @@ fn put_task(w: &mut [u32], at: usize, c: Task)
     requires { at + 13 ≤ length w.old }
     ensures { w.new ≡ overwrite w.old at (task_words c) }
 {
-    let v = [
+    w[at..at + TASK_WORDS].copy_from_slice(&[
         bit(c.running),
         c.call,
         c.tag,
         c.line,
         c.i,
-        c.own as u32,
+        u32::from(c.own),
         c.t,
         c.s,
         c.b,
@@ -145,8 +151,7 @@ fn put_task(w: &mut [u32], at: usize, c: Task)
         c.n,
         c.new_node,
         c.new_bucket,
-    ];
-    pool::write_over(&mut w[at..], &v)
+    ])
 }
 
 // A state's words.
@@ -155,11 +160,8 @@ pub fn put_state(w: &mut [u32], s: State)
     ensures { w.new ≡ state_words s }
 {
     put_first(w, s);
-    let ts = s.task;
-    let mut k = 0;
-    while k < 8 {
-        put_task(w, 9 + 13 * k, ts[k]);
-        k += 1;
+    for (k, c) in s.task.iter().enumerate() {
+        put_task(w, TASKS + TASK_WORDS * k, *c);
     }
 }
 
@@ -171,5 +173,5 @@ pub fn put_changes(w: &mut [u32], k: u32, head: u32, node: u32, bucket: u32, c: 
     w[5] = head;
     w[6] = node;
     w[7] = bucket;
-    put_task(w, 9 + 13 * (k as usize), c)
+    put_task(w, TASKS + TASK_WORDS * (k as usize), c)
 }

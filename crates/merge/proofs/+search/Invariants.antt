@@ -3,4 +3,4 @@ use Rattle.merge.specs.Trying.{left}
 use Rattle.merge.proofs.+search.Given as goal
 
 abbrev pub decreases-search : goal.decreases-search
-decreases-search l = left l.a l.b l.i l.j
+decreases-search l = left l.a.now l.b.now l.i l.j

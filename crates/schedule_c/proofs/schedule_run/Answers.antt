@@ -1,18 +1,9 @@
--- `schedule_run` gives what `run` gives, with one number for the list's answer, which `number_small` bounds. Assumes nothing.
-use Rattle.std.proofs.Common.{ℕ, ◌≤◌, sym, ap, subst, ◌∙◌}
+-- `schedule_run` gives what `run` gives, with one number for the list's answer. Assumes nothing.
+use Rattle.std.proofs.Common.{ℕ, ap, ◌∙◌}
 use Rattle.spec.specs.declared.Config.{Config}
-use Rattle.schedule_events.specs.Events.{listing_number}
 use Rattle.schedule.specs.Encoding.{Result, run_words}
-use Rattle.schedule.proofs.Laws.{number_small}
 use Rattle.schedule_c.specs.Whole.{c_result, c_result_of}
 use Rattle.schedule_c.proofs.schedule_run.Goals as goal
-
-pub listing_number-requires : goal.listing_number-requires
-listing_number-requires c =
-    let a = c.args in
-    let e = ap (λ (x : Result). listing_number x.listing) c.run-o.ensures.words in
-    let z = number_small c.config-g.result a.ns.now a.bs.now a.events.now a.outs.now a.tags.now in
-    subst (λ (n : ℕ). n ≤ 267) (sym e) z
 
 pub returns : goal.returns
 returns c =

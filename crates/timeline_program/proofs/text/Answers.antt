@@ -1,19 +1,19 @@
--- `timeline_program::text` meets its contract: the input is read, and its end printed. Assumes nothing.
-use native.Mathlib.Omega.{arith}
-use Rattle.session.specs.OutputLengths.{longest_end}
-use Rattle.timeline.specs.Lengths.{longest_rows}
-use Rattle.stdio.specs.Streams.{stream_ends}
-use Rattle.timeline_program.specs.Running.{begin, timeline_over, timeline_output, next, prints, timeline_lines, timeline_outside}
+-- `timeline_program::text` meets its contract: a timeline is a program that prints as it goes. Assumes nothing.
+use Rattle.std.proofs.Common.{sym, ap}
+use Rattle.session.specs.Grammar.{input_lines}
+use Rattle.stdio.specs.Runs.{prints_as}
+use Rattle.timeline.specs.declared.Timeline.{Timeline}
+use Rattle.timeline_program.specs.Running.{running, timeline_over, timeline_output}
 use Rattle.timeline_program.proofs.text.Goals as goal
 
 pub returns : goal.returns
 unfolding timeline_over
 returns g c =
     let a = c.args in
-    let k = c.read-k in
-    let f = c.finish-len in record {
+    let begun = sym c.new_timeline.ensures in record {
       prints =
-          stream_ends timeline_output next prints timeline_lines longest_rows longest_end a.reads a.room.now (begin a.ns.now a.bs.now)
-          timeline_outside longest_end _ _ _ _ _ k.ensures.reads f.ensures.upper_bound.1 k.ensures.left_bound f.result _ f.ensures.out_after;
-      len_in_bounds = omega (arith, f.ensures.upper_bound.0, f.auto.out);
+          prints_as _ (timeline_over a.ns.now a.bs.now)
+          (λ xs. ap (λ (t : Timeline). timeline_output (running t a.ns.now a.bs.now) (input_lines xs)) begun)
+          _ _ _ _ c.text.ensures.prints;
+      len_in_bounds = c.text.ensures.len_in_bounds;
     }

@@ -4,7 +4,7 @@ use Rattle.stdio.specs.Runs.{exits_kept}
 use Rattle.mattered_text.proofs.program.yardmattered.Goals as goal
 
 pub text-t-requires : goal.text-t-requires
-text-t-requires g c = (omega (arith, c.room_for_events-events.ensures), omega arith)
+text-t-requires g c = (omega arith, omega arith)
 
 pub returns : goal.returns
 returns g c =

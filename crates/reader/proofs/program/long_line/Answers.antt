@@ -18,8 +18,8 @@ returns-then-has_ended g c = λ reads input e f gives.
     answers_then reads input a.p a.room.now e f c.requires.1 a.g gives _ _ c.close_line-q.ensures true
     (sym c.has_ended.ensures ∙ c.if-has_ended.true)
 
-pub returns : goal.returns
-returns g c = λ reads input e f gives.
+pub returns-else-has_ended : goal.returns-else-has_ended
+returns-else-has_ended g c = λ reads input e f gives.
     let a = c.args in
     answers_then reads input a.p a.room.now e f c.requires.1 a.g gives _ _ c.close_line-q.ensures false
     (sym c.has_ended.ensures ∙ c.if-has_ended.false)

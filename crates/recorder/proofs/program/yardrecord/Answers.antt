@@ -1,6 +1,4 @@
 -- `recorder::program::yardrecord` meets its contract: the text of standard input, and what it says (RunLaws). Assumes nothing.
-use Rattle.std.proofs.Math.Path.{sym}
-use lib.Seq.{length-take-le}
 use Rattle.stdio.specs.Runs.{status_kept}
 use Rattle.recorder.proofs.RunLaws.{ran_recorder}
 use Rattle.recorder.proofs.program.yardrecord.Goals as goal

@@ -1,6 +1,6 @@
 -- `stdio::rest::close_line` meets its contract. Each call passes over a part of the line. Assumes nothing.
 use Rattle.std.proofs.Math.Path.{refl, sym, ap, subst}
-use Rattle.std.proofs.Common.{◌≡◌, ◌∙◌, length}
+use Rattle.std.proofs.Common.{◌∙◌}
 use native.Mathlib.Omega.{arith}
 use Rattle.stdio.specs.declared.input.Input.{Input}
 use Rattle.stdio.specs.LongLines.{Closes}
@@ -22,7 +22,7 @@ next_line-t-requires g c = c.loop-q.invariant.0.fits
 pub loop-q-smaller : goal.loop-q-smaller
 loop-q-smaller g c =
     let z = passing_less c.next_line-t.result _ c.next_line-t.ensures.fewer in
-    let e = ap (λ (q : Input). q.left) c.pass-d.ensures in
+    let e = ap (λ (q : Input). q.left) c.pass-q.ensures in
     omega (arith, e, c.loop-q-test.true, z)
 
 pub loop-q-preserved : goal.loop-q-preserved
@@ -30,7 +30,7 @@ loop-q-preserved g c =
     let a = c.args in
     let l = c.loop-q in
     let t = c.next_line-t in (
-      passing_call a.p a.room.now c.requires.2 l.q l.room l.invariant.0 c.loop-q-test.true t.result _ t.ensures _ refl _ c.pass-d.ensures,
+      passing_call a.p a.room.now c.requires.2 l.q l.room l.invariant.0 c.loop-q-test.true t.result _ t.ensures _ refl _ c.pass-q.ensures,
       t.auto.room ∙ l.invariant.1,
     )
 

@@ -1,5 +1,0 @@
--- `session_bytes::digits` calls itself with fewer digits allowed.
-use Rattle.session_bytes.proofs.+digits.Given as goal
-
-abbrev pub decreases-digits : goal.decreases-digits
-decreases-digits l = l.most
