@@ -1,5 +1,5 @@
 -- Laws of the loops over places that count and gather: a turn of each. Assumes nothing.
-use Rattle.std.specs.Prelude.{Option, None}
+use Rattle.std.specs.Prelude.{Result, Err}
 use mathlib.Core.Path.{◌≡◌, refl, sym, ap, ◌∙◌}
 use mathlib.Core.List.{List, [], ◌∷◌, ◌++◌, append-nil}
 use mathlib.Core.Bool.{Bool, true, false}
@@ -15,27 +15,27 @@ use Rattle.listing.specs.Listing.{places_tags, set_tags, add_to, adds}
 
 -- ---- tags put in one after the other
 
-pub adds_append : (g : Option Bucket) (xs ys : List ℕ) → adds g (xs ++ ys) ≡ adds (adds g xs) ys
+pub adds_append : (g : Result Bucket Bucket) (xs ys : List ℕ) → adds g (xs ++ ys) ≡ adds (adds g xs) ys
 unfolding adds
 adds_append g [] ys = refl
 adds_append g (x ∷ xs) ys = adds_append (add_to g x) xs ys
 
-pub adds_none : (g : Option Bucket) → adds g [] ≡ g
+pub adds_none : (g : Result Bucket Bucket) → adds g [] ≡ g
 unfolding adds
 adds_none g = refl
 
-pub adds_one : (g : Option Bucket) (x : ℕ) (xs : List ℕ) → adds g (x ∷ xs) ≡ adds (add_to g x) xs
+pub adds_one : (g : Result Bucket Bucket) (x : ℕ) (xs : List ℕ) → adds g (x ∷ xs) ≡ adds (add_to g x) xs
 unfolding adds
 adds_one g x xs = refl
 
-pub adds_full : (xs : List ℕ) → adds None xs ≡ None
+pub adds_full : (b : Bucket) (xs : List ℕ) → adds (Err b) xs ≡ Err b
 unfolding adds add_to
-adds_full [] = refl
-adds_full (x ∷ xs) = adds_full xs
+adds_full b [] = refl
+adds_full b (x ∷ xs) = adds_full b xs
 
 -- what comes after the first tags is put into what these made
-pub adds_then : (g h : Option Bucket) (xs ys : List ℕ) → h ≡ adds g xs → adds g (xs ++ ys) ≡ adds h ys
-adds_then g h xs ys e = adds_append g xs ys ∙ ap (λ (k : Option Bucket). adds k ys) (sym e)
+pub adds_then : (g h : Result Bucket Bucket) (xs ys : List ℕ) → h ≡ adds g xs → adds g (xs ++ ys) ≡ adds h ys
+adds_then g h xs ys e = adds_append g xs ys ∙ ap (λ (k : Result Bucket Bucket). adds k ys) (sym e)
 
 -- ---- a node's places, one by one
 

@@ -18,7 +18,7 @@ use Rattle.bucket.specs.declared.Response.TheVariants.{Yes, No, Frozen, Full}
 use Rattle.bucket.specs.Bucket.{added}
 use Rattle.bucket.proofs.Laws.{found_member}
 use Rattle.bucket.proofs.Fill.{Adds, adds as adds-fill, length_add, length_put}
-use Rattle.std.specs.Prelude.{Option, Some, None, if◌then◌else◌, set, replicate}
+use Rattle.std.specs.Prelude.{Result, Ok, Err, if◌then◌else◌, set, replicate}
 use Rattle.bucket.specs.declared.Bucket.{Bucket}
 use Rattle.bucket.specs.declared.Changed.{Changed}
 use Rattle.listing.specs.Listing.{is_full, add_to, adds, nothing}
@@ -108,19 +108,19 @@ length_add_all ts (x ∷ xs) r d n =
 -- ---- gathered in a bucket
 
 -- the set is the list ts: too many, or those in the bucket
-pub record Holds (g : Option Bucket) (ts : List ℕ) : Type 0 where
+pub record Holds (g : Result Bucket Bucket) (ts : List ℕ) : Type 0 where
   pub up : ascending ts ≡ true
-  pub over : g ≡ None → 64 < length ts
-  pub fine : (b : Bucket) → g ≡ Some b → (length ts ≤ 64) × (b.words ≡ bucket_of 1 ts)
+  pub over : (b : Bucket) → g ≡ Err b → 64 < length ts
+  pub fine : (b : Bucket) → g ≡ Ok b → (length ts ≤ 64) × (b.words ≡ bucket_of 1 ts)
 
-some_none : (b : Bucket) → ◌≡◌ {A = Option Bucket} (Some b) None → ⊥
-some_none b e = let z : ◌≡◌ {A = ℕ} 0 1 = cc in omega arith
+ok_err : (b c : Bucket) → ◌≡◌ {A = Result Bucket Bucket} (Ok b) (Err c) → ⊥
+ok_err b c e = let z : ◌≡◌ {A = ℕ} 0 1 = cc in omega arith
 
-holds_one : (g : Option Bucket) (x : ℕ) (ts : List ℕ) → Holds g ts → Holds (add_to g x) (add_tag x ts)
+holds_one : (g : Result Bucket Bucket) (x : ℕ) (ts : List ℕ) → Holds g ts → Holds (add_to g x) (add_tag x ts)
 unfolding add_to
-holds_one None x ts h =
-    record { up = ascending_add x ts h.up; over = λ e. omega (arith, h.over refl, length_add x ts); fine = λ b e. absurd (some_none b (sym e)) }
-holds_one (Some b) x ts h = go d.answer refl
+holds_one (Err b) x ts h =
+    record { up = ascending_add x ts h.up; over = λ c e. omega (arith, h.over b refl, length_add x ts); fine = λ c e. absurd (ok_err c b (sym e)) }
+holds_one (Ok b) x ts h = go d.answer refl
   where
     d : Changed
     d = added b x
@@ -128,20 +128,20 @@ holds_one (Some b) x ts h = go d.answer refl
     a : Adds d ts x
     a = adds-fill ts x (h.fine b refl).0 b (h.fine b refl).1
 
-    taken : (d.answer ≡ Full → ⊥) → Holds (Some d.bucket) (add_tag x ts)
+    taken : (d.answer ≡ Full → ⊥) → Holds (Ok d.bucket) (add_tag x ts)
     taken n = record {
       up = ascending_add x ts h.up;
-      over = λ e. absurd (some_none d.bucket e);
+      over = λ c e. absurd (ok_err d.bucket c e);
       fine = λ c e. let q : d.bucket ≡ c = cc in rw (← q) (a.more n);
     }
 
-    go : (r : Response) → d.answer ≡ r → Holds (if is_full r then None else Some d.bucket) (add_tag x ts)
-    go Full q = record { up = ascending_add x ts h.up; over = λ e. a.full q; fine = λ c e. absurd (some_none c (sym e)) }
+    go : (r : Response) → d.answer ≡ r → Holds (if is_full r then Err d.bucket else Ok d.bucket) (add_tag x ts)
+    go Full q = record { up = ascending_add x ts h.up; over = λ c e. a.full q; fine = λ c e. absurd (ok_err c d.bucket (sym e)) }
     go Yes q = taken (λ e. let z : ◌≡◌ {A = ℕ} 0 1 = cc in omega arith)
     go No q = taken (λ e. let z : ◌≡◌ {A = ℕ} 0 1 = cc in omega arith)
     go Frozen q = taken (λ e. let z : ◌≡◌ {A = ℕ} 0 1 = cc in omega arith)
 
-pub holds_all : (g : Option Bucket) (xs ts : List ℕ) → Holds g ts → Holds (adds g xs) (add_all ts xs)
+pub holds_all : (g : Result Bucket Bucket) (xs ts : List ℕ) → Holds g ts → Holds (adds g xs) (add_all ts xs)
 unfolding adds add_all
 holds_all g [] ts h = h
 holds_all g (x ∷ xs) ts h = holds_all (add_to g x) xs (add_tag x ts) (holds_one g x ts h)
@@ -150,6 +150,6 @@ pub holds_none : Holds nothing []
 unfolding ascending bucket_of
 holds_none = record {
   up = refl;
-  over = λ e. absurd (some_none _ e);
+  over = λ b e. absurd (ok_err _ b e);
   fine = λ b e. let q : record { words = set (replicate 66 0) 0 1 } ≡ b = cc in rw (← q) (omega arith, refl);
 }

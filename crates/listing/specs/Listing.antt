@@ -1,6 +1,6 @@
 -- The tags in the set as the code meets them, for any words. In a sound machine they are `listed`, each once (proofs/Sound).
 -- Assumes nothing.
-use Rattle.std.specs.Prelude.{ℕ, zero, suc, List, [], ◌∷◌, ◌++◌, Bool, true, false, replicate, set, if◌then◌else◌, Option, Some, None}
+use Rattle.std.specs.Prelude.{ℕ, zero, suc, List, [], ◌∷◌, ◌++◌, Bool, true, false, replicate, set, if◌then◌else◌, Result, Ok, Err}
 use Rattle.spec.specs.declared.Config.{Config}
 use Rattle.spec.specs.Words.{number, filled, pred}
 use Rattle.bucket.specs.declared.Changed.{Changed}
@@ -36,17 +36,17 @@ is_full No = false
 is_full Frozen = false
 is_full Full = true
 
-abbrev pub after : Changed → Option Bucket
-after d = if is_full d.answer then None else Some d.bucket
+abbrev pub after : Changed → Result Bucket Bucket
+after d = if is_full d.answer then Err d.bucket else Ok d.bucket
 
--- the bucket with a tag more; None once it was full
-unfoldable pub add_to : Option Bucket → ℕ → Option Bucket
-add_to None x = None
-add_to (Some b) x = after (added b x)
+-- the bucket with a tag more; once a tag found no room, Err with the bucket as it was then, and it stays so
+unfoldable pub add_to : Result Bucket Bucket → ℕ → Result Bucket Bucket
+add_to (Err b) x = Err b
+add_to (Ok b) x = after (added b x)
 
-unfoldable pub adds : Option Bucket → List ℕ → Option Bucket
+unfoldable pub adds : Result Bucket Bucket → List ℕ → Result Bucket Bucket
 adds g [] = g
 adds g (x ∷ xs) = adds (add_to g x) xs
 
-abbrev pub nothing : Option Bucket
-nothing = Some (record { words = set (replicate 66 0) 0 1 })
+abbrev pub nothing : Result Bucket Bucket
+nothing = Ok (record { words = set (replicate 66 0) 0 1 })

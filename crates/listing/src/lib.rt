@@ -3,7 +3,7 @@
 // place is looked at once.
 #![tactic(auto)]
 
-ghost use Rattle.std.specs.Prelude.{◌≡◌, ◌≤◌, length, Some, false};
+ghost use Rattle.std.specs.Prelude.{◌≡◌, ◌≤◌, length, Ok, false};
 ghost use Rattle.listing_place.specs.PlaceTags.{tags_at};
 ghost use Rattle.listing.specs.Listing.{tags_from, set_tags, add_to, adds, nothing};
 
@@ -61,24 +61,25 @@ pub fn count(s: State, ns: &[u32], bs: &[u32]) -> u32
 
 // ---- which
 
-// The bucket with a tag more; None where it is full.
+// The bucket with a tag more; where it is full and the tag is not in it, Err with the full bucket.
 #[tactic(auto, unfolding(crate::specs::Listing::add_to))]
-fn add_to(b: Bucket, tag: u32) -> Option<Bucket>
-    ensures { result ≡ add_to (Some b) tag }
+fn add_to(b: Bucket, tag: u32) -> Result<Bucket, Bucket>
+    ensures { result ≡ add_to (Ok b) tag }
 {
     let d = b.add(tag);
     match d.answer {
-        Response::Full => None,
-        Response::Yes | Response::No | Response::Frozen => Some(d.bucket),
+        Response::Full => Err(d.bucket),
+        Response::Yes | Response::No | Response::Frozen => Ok(d.bucket),
     }
 }
 
-fn gather_place(n: &NodeLookedAt<'_>, j: u32, had: Bucket) -> Option<Bucket>
-    ensures { result ≡ adds (Some had) (tags_at n.now j) }
+// The bucket with a place's tags more; Err has the full bucket: the tags that were put in before one found no room.
+fn gather_place(n: &NodeLookedAt<'_>, j: u32, had: Bucket) -> Result<Bucket, Bucket>
+    ensures { result ≡ adds (Ok had) (tags_at n.now j) }
 {
     let l = pool::place_at(n.nodes, n.node, j);
     if l == 0 {
-        return Some(had);
+        return Ok(had);
     }
     let b = pool::buckets::load(n.buckets, l as usize - 1);
     let mut out = had;
@@ -87,21 +88,22 @@ fn gather_place(n: &NodeLookedAt<'_>, j: u32, had: Bucket) -> Option<Bucket>
             out = add_to(out, *t)?;
         }
     }
-    Some(out)
+    Ok(out)
 }
 
-fn gather_node(n: &NodeLookedAt<'_>, had: Bucket) -> Option<Bucket>
-    ensures { result ≡ adds (Some had) (tags_from n.now 0 32) }
+// The bucket with a node's tags more; Err has the same.
+fn gather_node(n: &NodeLookedAt<'_>, had: Bucket) -> Result<Bucket, Bucket>
+    ensures { result ≡ adds (Ok had) (tags_from n.now 0 32) }
 {
     let mut out = had;
     for j in 0..pool::PLACES {
         out = gather_place(n, j, out)?;
     }
-    Some(out)
+    Ok(out)
 }
 
-// All of them in a bucket; None where they are more than 64.
-pub fn gather(s: State, ns: &[u32], bs: &[u32]) -> Option<Bucket>
+// All of them in a bucket; where they are more than 64, Err with the bucket of the first 64 that are met.
+pub fn gather(s: State, ns: &[u32], bs: &[u32]) -> Result<Bucket, Bucket>
     ensures { result ≡ adds nothing (set_tags s.config ns.now bs.now s.head) }
 {
     let mut words = [0u32; bucket::WORDS];
@@ -110,7 +112,7 @@ pub fn gather(s: State, ns: &[u32], bs: &[u32]) -> Option<Bucket>
     let x = gather_node(&head, Bucket { words })?;
     let q = pool::pred_at(ns, s.head);
     if q == 0 {
-        return Some(x);
+        return Ok(x);
     }
     let node = pool::number_of(q);
     gather_node(

@@ -15,7 +15,7 @@ pub fn list(s: State, ns: &[u32], bs: &[u32], out: &mut [u32]) -> Listing
     if !soundness::sound(s, ns, bs) {
         return Err(Refusal::Spoilt);
     }
-    let Some(b) = listing::gather(s, ns, bs) else {
+    let Ok(b) = listing::gather(s, ns, bs) else {
         return Err(Refusal::Spoilt);
     };
     if out.len() < bucket::MOST_TAGS {

@@ -1,5 +1,6 @@
-use Rattle.std.proofs.Common.{rules, ◌≡◌, ap, sym, ◌∙◌, List, ℕ, Bool, true, false}
-use Rattle.std.specs.Prelude.{Some, None, [], if◌then◌else◌}
+use Rattle.std.proofs.Common.{◌≡◌, ap, sym, ◌∙◌, List, ℕ, Bool, true, false}
+use Rattle.std.proofs.lemmas.Result.{err_from_is_err_and}
+use Rattle.std.specs.Prelude.{Ok, Err, [], if◌then◌else◌}
 use Rattle.spec.specs.Words.{number, filled, pred}
 use Rattle.listing.specs.Listing.{places_tags, set_tags, adds, nothing}
 use Rattle.listing.proofs.Laws.{set_alone, set_both, adds_full, adds_then}
@@ -13,11 +14,11 @@ returns-in_err-x c =
     let ns = a.ns.now in
     let first = places_tags a.s.config ns a.bs.now d d false 0 32 in
     let rest : List ℕ = if filled (pred ns d) then places_tags a.s.config ns a.bs.now d (number (pred ns d)) true 0 32 else [] in
-    let none : c.from_residual.result ≡ None = search rules in
+    let p = err_from_is_err_and c.from_residual.result c.from_residual.ensures.1 in
     let o = c.head_of-head.ensures.opened in
     let h = c.head_of-head.ensures.head in
-    let full : None ≡ adds nothing first = cc (sym c.in_err-x.was ∙ c.gather_node.ensures) in
-    none ∙ sym (adds_full rest) ∙ sym (adds_then nothing None first rest full)
+    let full : Err p.0 ≡ adds nothing first = cc (ap Err p.2 ∙ sym c.in_err-x.was ∙ c.gather_node.ensures) in
+    p.1 ∙ sym (adds_full p.0 rest) ∙ sym (adds_then nothing (Err p.0) first rest full)
 
 pub returns-then-q-eq0 : goal.returns-then-q-eq0
 returns-then-q-eq0 c =
@@ -37,6 +38,6 @@ returns c =
     let both = set_both a.s.config a.ns.now a.bs.now d (λ z. c.if-q-eq0.false (c.pred_at-q.ensures ∙ z)) in
     let o = c.head_of-head.ensures.opened in
     let h = c.head_of-head.ensures.head in
-    let x : Some c.in_ok-x.x ≡ adds nothing (of_node d false) = cc (sym c.in_ok-x.was ∙ c.gather_node.ensures) in
-    let y : c.gather_node-2.result ≡ adds (Some c.in_ok-x.x) olds = cc (c.gather_node-2.ensures) in
-    y ∙ sym (adds_then nothing (Some c.in_ok-x.x) (of_node d false) olds x) ∙ ap (adds nothing) (sym both)
+    let x : Ok c.in_ok-x.x ≡ adds nothing (of_node d false) = cc (sym c.in_ok-x.was ∙ c.gather_node.ensures) in
+    let y : c.gather_node-2.result ≡ adds (Ok c.in_ok-x.x) olds = cc (c.gather_node-2.ensures) in
+    y ∙ sym (adds_then nothing (Ok c.in_ok-x.x) (of_node d false) olds x) ∙ ap (adds nothing) (sym both)

@@ -24,7 +24,7 @@ returns-in_default c =
     let a = c.args in
     let y : Machine = machine_of a.s a.ns.now a.bs.now in
     let s = sym c.sound.ensures ∙ c.if-not-sound.false in
-    let p = list_over y a.out.now s ((gathered y s).over (sym c.gather.ensures ∙ c.in_default.is)) in
+    let p = list_over y a.out.now s ((gathered y s).over c.in_default.field-0 (sym c.gather.ensures ∙ c.in_default.is)) in
     (sym (ap (λ (z : Written). z.says) p), sym (ap (λ (z : Written). z.words) p))
 
 pub returns-then-out-lt-MOST_TAGS : goal.returns-then-out-lt-MOST_TAGS
@@ -32,7 +32,7 @@ returns-then-out-lt-MOST_TAGS c =
     let a = c.args in
     let y : Machine = machine_of a.s a.ns.now a.bs.now in
     let s = sym c.sound.ensures ∙ c.if-not-sound.false in
-    let f = (gathered y s).fine c.in-Some.b (sym c.gather.ensures ∙ c.in-Some.is) in
+    let f = (gathered y s).fine c.in-Ok.b (sym c.gather.ensures ∙ c.in-Ok.is) in
     let p = list_short y a.out.now s f.0 c.if-out-lt-MOST_TAGS.true in
     (sym (ap (λ (z : Written). z.says) p), sym (ap (λ (z : Written). z.words) p))
 
@@ -43,7 +43,7 @@ returns c =
     let w = a.out.now in
     let y : Machine = machine_of a.s a.ns.now a.bs.now in
     let s = sym c.sound.ensures ∙ c.if-not-sound.false in
-    let f = (gathered y s).fine c.in-Some.b (sym c.gather.ensures ∙ c.in-Some.is) in
+    let f = (gathered y s).fine c.in-Ok.b (sym c.gather.ensures ∙ c.in-Ok.is) in
     let room = c.if-out-lt-MOST_TAGS.false in
     let t : c.tags-tags.result.now ≡ listed y = c.tags-tags.ensures.tags ∙ ap tags_in f.1 ∙ tags_of_bucket 1 (listed y) in
     let z : 0 + length (listed y) ≡ length (listed y) = omega arith in
