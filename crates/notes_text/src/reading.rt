@@ -86,7 +86,7 @@ fn print_answer(page: &mut Page<'_>, r: Reading, p: Input)
 }
 
 // What is printed where no more is read: it is written from the buffer's first byte on, as far as there is room, and its length given.
-fn finish(r: Reading, p: Input, out: &mut [u8]) -> usize
+pub fn finish(r: Reading, p: Input, out: &mut [u8]) -> usize
     ensures { buffer out.new result ≡ append (answer_of r (last_lines p)) (buffer out.old 0) }
 {
     let mut page = Page::new(out);

@@ -86,7 +86,7 @@ fn add_line(r: Reading, said: Option<PlanLine>) -> Reading
 
 // Whether the answer is fixed: a line was outside the grammar.
 #[tactic(auto, unfolding(crate::specs::Reading::decided))]
-fn decided(due: Option<Due>) -> bool
+pub fn decided(due: Option<Due>) -> bool
     ensures { result ≡ fixed due }
 {
     due.is_none()
@@ -111,7 +111,7 @@ fn print_answer(page: &mut Page<'_>, r: Reading, p: Input)
 }
 
 // What is printed where no more is read: it is written from the buffer's first byte on, as far as there is room, and its length given.
-fn finish(r: Reading, p: Input, out: &mut [u8]) -> usize
+pub fn finish(r: Reading, p: Input, out: &mut [u8]) -> usize
     ensures { buffer out.new result ≡ append (answer_of r (last_lines p)) (buffer out.old 0) }
 {
     let mut page = Page::new(out);
