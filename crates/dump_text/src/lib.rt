@@ -14,6 +14,7 @@ ghost use Rattle.std.specs.Prelude.{◌≡◌, ◌≤◌, length, replicate};
 ghost use Rattle.spec.specs.Machine.{machine_of};
 ghost use Rattle.spec.specs.Entries.{list};
 ghost use Rattle.dump_text.specs.Decides.{deciding};
+ghost use Rattle.dump_text.specs.Within.{Within};
 
 use print::{field, record_field};
 use session_bytes::Page;
@@ -46,8 +47,10 @@ pub struct Dumped {
 }
 
 // The listed tags, none where a list is refused.
+#[tactic(auto, using(crate::proofs::Laws::printing))]
 fn listed_tags(page: &mut Page<'_>, s: State, ns: &[u32], bs: &[u32]) -> Listing
-    ensures { result ≡ (list (machine_of s ns.now bs.now) (replicate 64 0)).says }
+    ensures listing { result ≡ (list (machine_of s ns.now bs.now) (replicate 64 0)).says }
+    ensures within { Within page.old page.new }
 {
     let mut ts = [0u32; 64];
     let listed = queries::list(s, ns, bs, &mut ts);
@@ -64,6 +67,7 @@ fn listed_tags(page: &mut Page<'_>, s: State, ns: &[u32], bs: &[u32]) -> Listing
 // ---- the whole
 
 // The memory of a set, from the buffer's first byte on, within it. A buffer that is full then may lack some of it.
+#[tactic(auto, using(crate::proofs::Laws::printing))]
 pub fn dump(s: State, ns: &[u32], bs: &[u32], out: &mut [u8]) -> Dumped
     ensures { (result.listing ≡ (list (machine_of s ns.now bs.now) (replicate 64 0)).says)
         × (result.printed ≤ length out.old) }
@@ -75,7 +79,6 @@ pub fn dump(s: State, ns: &[u32], bs: &[u32], out: &mut [u8]) -> Dumped
         nodes: ns,
         buckets: bs,
     };
-    let room = out.len();
     let mut page = Page::new(out);
     tasks::numbers(&mut page, set);
     tasks::tasks(&mut page, set);
@@ -84,7 +87,8 @@ pub fn dump(s: State, ns: &[u32], bs: &[u32], out: &mut [u8]) -> Dumped
     records::others(&mut page, set, Kind::Bucket);
     records::free(&mut page, set);
     let listing = listed_tags(&mut page, s, ns, bs);
-    // the functions that print here say nothing of the room of their page, so the bound is taken once more
-    let printed = page.printed().min(room);
-    Dumped { listing, printed }
+    Dumped {
+        listing,
+        printed: page.printed(),
+    }
 }

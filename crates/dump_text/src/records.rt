@@ -1,18 +1,26 @@
 // The nodes and buckets: first the chain, the head and its predecessor with their places, then the other held ones, then the numbers of those that are free.
+#![tactic(auto, using(crate::proofs::Laws::printing))]
+
+ghost use Rattle.dump_text.specs.Within.{Within};
+
 use crate::holders::holders;
 use crate::print::{field, record_field};
 use crate::words::{Kind, Set};
 use session_bytes::Page;
 
 // Node k: its size and predecessor.
-fn node(page: &mut Page<'_>, nodes: &[u32], k: u32) {
+fn node(page: &mut Page<'_>, nodes: &[u32], k: u32)
+    ensures { Within page.old page.new }
+{
     field(page, "node ", k);
     field(page, ": size=", pool::size_at(nodes, k));
     record_field(page, " predecessor=node ", pool::pred_at(nodes, k));
 }
 
 // The words of a bucket, from its first on.
-fn words_of(page: &mut Page<'_>, words: &[u32]) {
+fn words_of(page: &mut Page<'_>, words: &[u32])
+    ensures { Within page.old page.new }
+{
     match pool::word(words, 0) {
         0 => page.bytes(b": frozen"),
         1 => page.bytes(b": may change"),
@@ -26,7 +34,9 @@ fn words_of(page: &mut Page<'_>, words: &[u32]) {
 }
 
 // Bucket k.
-fn bucket(page: &mut Page<'_>, buckets: &[u32], k: u32) {
+fn bucket(page: &mut Page<'_>, buckets: &[u32], k: u32)
+    ensures { Within page.old page.new }
+{
     field(page, "bucket ", k);
     let at = pool::BUCKET_WORDS * (k as usize);
     if at < buckets.len() {
@@ -37,7 +47,9 @@ fn bucket(page: &mut Page<'_>, buckets: &[u32], k: u32) {
 // ---- the chain
 
 // Place i of node k, on a line of its own, with its bucket.
-fn place(page: &mut Page<'_>, set: Set<'_>, k: u32, i: u32) {
+fn place(page: &mut Page<'_>, set: Set<'_>, k: u32, i: u32)
+    ensures { Within page.old page.new }
+{
     field(page, "  place ", i);
     let link = pool::place_at(set.nodes, k, i);
     match link.checked_sub(1) {
@@ -51,7 +63,9 @@ fn place(page: &mut Page<'_>, set: Set<'_>, k: u32, i: u32) {
 }
 
 // The node that a link names, with its places; nothing for an empty link.
-fn linked(page: &mut Page<'_>, name: &str, set: Set<'_>, link: u32) {
+fn linked(page: &mut Page<'_>, name: &str, set: Set<'_>, link: u32)
+    ensures { Within page.old page.new }
+{
     let Some(k) = link.checked_sub(1) else {
         return;
     };
@@ -69,7 +83,9 @@ fn head_link(set: Set<'_>) -> u32 {
     if head < pool::MOST_NODES { head + 1 } else { 0 }
 }
 
-pub fn chain(page: &mut Page<'_>, set: Set<'_>) {
+pub fn chain(page: &mut Page<'_>, set: Set<'_>)
+    ensures { Within page.old page.new }
+{
     let head = head_link(set);
     linked(page, "head ", set, head);
     linked(page, "predecessor ", set, pool::pred_of(set.nodes, head));
@@ -97,7 +113,9 @@ fn in_chain(set: Set<'_>, kind: Kind, link: u32) -> bool {
 }
 
 // The filled places of node k.
-fn filled_places(page: &mut Page<'_>, nodes: &[u32], k: u32) {
+fn filled_places(page: &mut Page<'_>, nodes: &[u32], k: u32)
+    ensures { Within page.old page.new }
+{
     for i in 0..pool::PLACES {
         if let Some(b) = pool::place_at(nodes, k, i).checked_sub(1) {
             field(page, " place ", i);
@@ -107,7 +125,9 @@ fn filled_places(page: &mut Page<'_>, nodes: &[u32], k: u32) {
 }
 
 // Record k of a kind, without its places' buckets.
-fn record(page: &mut Page<'_>, set: Set<'_>, kind: Kind, k: u32) {
+fn record(page: &mut Page<'_>, set: Set<'_>, kind: Kind, k: u32)
+    ensures { Within page.old page.new }
+{
     match kind {
         Kind::Node => {
             node(page, set.nodes, k);
@@ -118,7 +138,9 @@ fn record(page: &mut Page<'_>, set: Set<'_>, kind: Kind, k: u32) {
 }
 
 // The held records of a kind that stand not in the chain.
-pub fn others(page: &mut Page<'_>, set: Set<'_>, kind: Kind) {
+pub fn others(page: &mut Page<'_>, set: Set<'_>, kind: Kind)
+    ensures { Within page.old page.new }
+{
     for k in 0..pool::MOST_BUCKETS {
         let link = k + 1;
         if set.is_held(kind, k) && !in_chain(set, kind, link) {
@@ -131,7 +153,9 @@ pub fn others(page: &mut Page<'_>, set: Set<'_>, kind: Kind) {
 // ---- the free ones
 
 // The numbers of the free records of a kind, or that there is none.
-fn free_of(page: &mut Page<'_>, name: &str, set: Set<'_>, kind: Kind) {
+fn free_of(page: &mut Page<'_>, name: &str, set: Set<'_>, kind: Kind)
+    ensures { Within page.old page.new }
+{
     page.bytes(name.as_bytes());
     let mut none = true;
     for k in 0..pool::MOST_BUCKETS {
@@ -145,7 +169,9 @@ fn free_of(page: &mut Page<'_>, name: &str, set: Set<'_>, kind: Kind) {
     }
 }
 
-pub fn free(page: &mut Page<'_>, set: Set<'_>) {
+pub fn free(page: &mut Page<'_>, set: Set<'_>)
+    ensures { Within page.old page.new }
+{
     free_of(page, "free: nodes", set, Kind::Node);
     free_of(page, "; buckets", set, Kind::Bucket);
     page.bytes(b"\n");

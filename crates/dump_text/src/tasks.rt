@@ -1,4 +1,8 @@
 // The state's numbers, and each task: what it runs, the figure's variables, and the line that it does next.
+#![tactic(auto, using(crate::proofs::Laws::printing))]
+
+ghost use Rattle.dump_text.specs.Within.{Within};
+
 use crate::print::field;
 use crate::words::{Kind, Set};
 use session_bytes::Page;
@@ -106,7 +110,9 @@ fn reads(line: u32) -> &'static [Variable] {
 }
 
 // A word of a variable: a number, or a record.
-fn value(page: &mut Page<'_>, kind: Option<Kind>, word: u32) {
+fn value(page: &mut Page<'_>, kind: Option<Kind>, word: u32)
+    ensures { Within page.old page.new }
+{
     let Some(kind) = kind else {
         return page.number(u64::from(word));
     };
@@ -117,7 +123,9 @@ fn value(page: &mut Page<'_>, kind: Option<Kind>, word: u32) {
 }
 
 // These variables of a task whose words these are, each with its name.
-fn variables(page: &mut Page<'_>, words: &[u32], set: &[Variable]) {
+fn variables(page: &mut Page<'_>, words: &[u32], set: &[Variable])
+    ensures { Within page.old page.new }
+{
     for v in set {
         page.bytes(b" ");
         page.bytes(v.name().as_bytes());
@@ -127,7 +135,9 @@ fn variables(page: &mut Page<'_>, words: &[u32], set: &[Variable]) {
 }
 
 // The line that a task does next.
-fn line_name(page: &mut Page<'_>, line: u32) {
+fn line_name(page: &mut Page<'_>, line: u32)
+    ensures { Within page.old page.new }
+{
     if line == SECOND_FREEZE {
         page.bytes(b"\n  next: step 52, the second freeze of line 48 of Figure 2, with");
     } else {
@@ -137,7 +147,9 @@ fn line_name(page: &mut Page<'_>, line: u32) {
 }
 
 // A running task, whose words these are, in a set with this head.
-fn running(page: &mut Page<'_>, words: &[u32], head: u32) {
+fn running(page: &mut Page<'_>, words: &[u32], head: u32)
+    ensures { Within page.old page.new }
+{
     variables(page, words, &VARIABLES);
     let line = pool::word(words, 3);
     line_name(page, line);
@@ -149,7 +161,9 @@ fn running(page: &mut Page<'_>, words: &[u32], head: u32) {
 }
 
 // Task k, whose words these are.
-fn task(page: &mut Page<'_>, k: u32, words: &[u32], head: u32) {
+fn task(page: &mut Page<'_>, k: u32, words: &[u32], head: u32)
+    ensures { Within page.old page.new }
+{
     field(page, "task ", k);
     let call = pool::word(words, 1);
     let name = match call {
@@ -168,7 +182,9 @@ fn task(page: &mut Page<'_>, k: u32, words: &[u32], head: u32) {
 }
 
 // The tasks that the set was opened with.
-pub fn tasks(page: &mut Page<'_>, set: Set<'_>) {
+pub fn tasks(page: &mut Page<'_>, set: Set<'_>)
+    ensures { Within page.old page.new }
+{
     for k in 0..set.tasks().min(MOST_TASKS) {
         if let Some(words) = set.words.get(FIRST_TASK + TASK_WORDS * k as usize..) {
             task(page, k, words, set.head());
@@ -189,7 +205,9 @@ const NUMBERS: [&str; FIRST_TASK] = [
     " chosen=",
 ];
 
-pub fn numbers(page: &mut Page<'_>, set: Set<'_>) {
+pub fn numbers(page: &mut Page<'_>, set: Set<'_>)
+    ensures { Within page.old page.new }
+{
     for (j, name) in NUMBERS.iter().enumerate() {
         field(page, name, pool::word(set.words, j));
     }

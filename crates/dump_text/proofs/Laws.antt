@@ -1,0 +1,44 @@
+-- What is printed on a page stays within its buffer: after a print, after two calls, and where nothing is printed. Assumes nothing.
+use Rattle.std.specs.Prelude.{ℕ, ◌+◌, ◌≡◌, refl, List, [], ◌∷◌, Bool, true, false, ltb, length, set, if◌then◌else◌}
+use Rattle.std.proofs.Common.{ap, ◌∙◌, arith, length-set}
+use Rattle.session.specs.Buffer.{Buffer, buffer, append_byte, append}
+use Rattle.session.specs.BufferLaws.{append_on_within}
+use Rattle.session_bytes.specs.declared.Page.{Page}
+use Rattle.session_bytes.specs.Pages.{shown, Appends}
+use Rattle.dump_text.specs.Within.{Within}
+
+-- what is appended keeps the buffer's length
+append_length : (bs : List ℕ) (t : Buffer) → length (append bs t).bytes ≡ length t.bytes
+unfolding append append_byte
+append_length [] t = refl
+append_length (b ∷ bs) t = go (ltb t.at (length t.bytes)) (append_length bs)
+  where
+    go : (a : Bool) → ((u : Buffer) → length (append bs u).bytes ≡ length u.bytes)
+        → length (append bs (if a then buffer (set t.bytes t.at b) (t.at + 1) else t)).bytes ≡ length t.bytes
+    go true ih = ih (buffer (set t.bytes t.at b) (t.at + 1)) ∙ length-set t.bytes t.at b
+    go false ih = ih t
+
+pub appends_within : (bs : List ℕ) (before after : Page) → Appends bs before after → Within before after
+appends_within bs before after a =
+    let l : length after.out.now ≡ length before.out.now = ap (λ (t : Buffer). length t.bytes) a.shows ∙ append_length bs (shown before) in
+    record {
+      same = a.same;
+      same_length = l;
+      printed = λ h. omega (arith, append_on_within bs before.out.now after.out.now before.printed after.printed h a.shows, l);
+    }
+
+pub within_then : (a b c : Page) → Within b c → Within a b → Within a c
+within_then a b c q p = record {
+  same = q.same ∙ p.same;
+  same_length = q.same_length ∙ p.same_length;
+  printed = λ h. q.printed (p.printed h);
+}
+
+pub within_prints : (bs : List ℕ) (a b c : Page) → Appends bs b c → Within a b → Within a c
+within_prints bs a b c q p = within_then a b c (appends_within bs b c q) p
+
+pub within_same : (a : Page) → Within a a
+within_same a = record { same = refl; same_length = refl; printed = λ h. h }
+
+-- what the functions that print use
+pub ruleset printing = (within_same, within_prints, within_then)

@@ -1,0 +1,9 @@
+-- What is printed so far stays within the buffer.
+use Rattle.dump_text.specs.Within.{Within}
+use Rattle.dump_text.proofs.holders.by_tasks.Given as goal
+
+abbrev pub invariant-loop-k : goal.invariant-loop-k
+invariant-loop-k l = Within l.fn.page l.page
+
+abbrev pub invariant-loop-v : goal.invariant-loop-v
+invariant-loop-v l = Within l.fn.page l.page
