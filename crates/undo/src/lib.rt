@@ -4,7 +4,7 @@
 
 ghost use Rattle.std.specs.Prelude.{◌≡◌, List, ℕ};
 ghost use Rattle.spec.specs.Machine.{machine_of};
-ghost use Rattle.undo.specs.Undo.{written_node, written_bucket, kept_of, nodes_back, buckets_back};
+ghost use Rattle.undo.specs.Undo.{store_words, written_node, written_bucket, kept_of, nodes_back, buckets_back};
 
 use bucket::Bucket;
 use pool::NODE_WORDS;
@@ -59,11 +59,23 @@ pub fn keep(s: State, c: Task, ns: &[u32], bs: &[u32]) -> Kept
     }
 }
 
+// Writes over the words of node k; nothing for a number past the pool. (Not `pool::put_record`: that, compiled by itself for this caller and for a node anew,
+// would ask an environment of C for memmove.)
+#[tactic(auto, unfolding(crate::specs::Undo::store_words))]
+fn store_words(ns: &mut [u32], k: usize, words: [u32; NODE_WORDS])
+    ensures { ns.new ≡ store_words ns.old k words }
+{
+    if k < ns.len() / NODE_WORDS {
+        ns[NODE_WORDS * k..NODE_WORDS * k + NODE_WORDS].copy_from_slice(&words);
+    }
+}
+
 // Both records hold again what they held.
-#[tactic(auto, unfolding(crate::specs::Undo::nodes_back, crate::specs::Undo::buckets_back, crate::specs::Undo::store_words, pool::specs::Pool::store_record))]
+#[tactic(auto, unfolding(crate::specs::Undo::nodes_back, crate::specs::Undo::buckets_back))]
 pub fn put_back(r: Kept, ns: &mut [u32], bs: &mut [u32])
     ensures { (ns.new ≡ nodes_back r ns.old) × (bs.new ≡ buckets_back r bs.old) }
 {
-    pool::put_record(ns, r.node as usize, &r.words);
+    let words = r.words;
+    store_words(ns, r.node as usize, words);
     pool::buckets::store_at(bs, r.bucket as usize, r.contents);
 }
