@@ -39,7 +39,7 @@
  *
  * STACK
  *   The most bytes seen on x86-64 (examples/c/stack.c; docs/SPEED.md has boards): yard_start_.. 440, yard_show 1,112, yard_open 4,232, yard_step 4,872,
- *   yard_turn 4,904, yard_list 5,320, yard_run 5,944, yard_turns 7,160, schedule_run 7,752. Up to 8,328 on a Cortex-M0. No function recurses.
+ *   yard_turn 4,904, yard_list 5,592, yard_run 5,944, yard_turns 7,160, schedule_run 7,752. Up to 8,328 on a Cortex-M0. No function recurses.
  *
  * THE STATE'S WORDS (docs/FITTERS.md says what they mean)
  *   0 tasks   1 version   2 tag 0 withdrawn, 0 or 1   3 node records   4 bucket records   5 head   6 node last taken   7 bucket last taken
