@@ -1,22 +1,11 @@
 -- What is printed on a page stays within its buffer: after a print, after two calls, and where nothing is printed. Assumes nothing.
-use Rattle.std.specs.Prelude.{ℕ, ◌+◌, ◌≡◌, refl, List, [], ◌∷◌, Bool, true, false, ltb, length, set, if◌then◌else◌}
-use Rattle.std.proofs.Common.{ap, ◌∙◌, arith, length-set}
-use Rattle.session.specs.Buffer.{Buffer, buffer, append_byte, append}
-use Rattle.session.specs.BufferLaws.{append_on_within}
+use Rattle.std.specs.Prelude.{ℕ, ◌≡◌, refl, List, length}
+use Rattle.std.proofs.Common.{ap, ◌∙◌, arith}
+use Rattle.session.specs.Buffer.{Buffer}
+use Rattle.session.specs.BufferLaws.{append_length, append_on_within}
 use Rattle.session_bytes.specs.declared.Page.{Page}
 use Rattle.session_bytes.specs.Pages.{shown, Appends}
 use Rattle.dump_text.specs.Within.{Within}
-
--- what is appended keeps the buffer's length
-append_length : (bs : List ℕ) (t : Buffer) → length (append bs t).bytes ≡ length t.bytes
-unfolding append append_byte
-append_length [] t = refl
-append_length (b ∷ bs) t = go (ltb t.at (length t.bytes)) (append_length bs)
-  where
-    go : (a : Bool) → ((u : Buffer) → length (append bs u).bytes ≡ length u.bytes)
-        → length (append bs (if a then buffer (set t.bytes t.at b) (t.at + 1) else t)).bytes ≡ length t.bytes
-    go true ih = ih (buffer (set t.bytes t.at b) (t.at + 1)) ∙ length-set t.bytes t.at b
-    go false ih = ih t
 
 pub appends_within : (bs : List ℕ) (before after : Page) → Appends bs before after → Within before after
 appends_within bs before after a =

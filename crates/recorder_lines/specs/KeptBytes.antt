@@ -1,9 +1,10 @@
 -- What is kept of the header's lines in an array is what the definition keeps in a list: `kept_more`. Assumes nothing.
-use Rattle.std.specs.Prelude.{◌≡◌, refl, List, [], ◌∷◌, ◌++◌, Bool, true, false, ℕ, ◌+◌, ◌<◌, ◌≤◌, min, leb, ltb, length, take, drop, set, if◌then◌else◌}
-use Rattle.std.proofs.Common.{sym, ap, ◌∙◌, append_assoc, arith, leb-true, leb-false, length-append, length-set, length-drop, length-take-le, take_all, take_at}
+use Rattle.std.specs.Prelude.{◌≡◌, refl, List, [], ◌++◌, Bool, true, false, ℕ, ◌+◌, ◌<◌, ◌≤◌, min, leb, length, take, drop}
+use Rattle.std.proofs.Common.{sym, ap, ◌∙◌, append_assoc, arith, leb-true, leb-false, length-append, length-drop, length-take-le, take_all, take_at}
 use Rattle.std.proofs.Math.Seq.{take-append-add}
-use Rattle.session.specs.Buffer.{Buffer, buffer, append_byte, append}
+use Rattle.session.specs.Buffer.{Buffer, buffer, append}
 use Rattle.session.specs.BufferLaws.{append_first, append_rest}
+pub use Rattle.session.specs.BufferLaws.{append_length}
 use Rattle.recording.specs.Recorder.{longest_header}
 use Rattle.recording.specs.Recording.{close}
 use Rattle.recorder_lines.specs.declared.KeptLines.{KeptLines}
@@ -30,16 +31,6 @@ take_room xs n = go (leb (length xs) n) refl
         let f : n < length xs = leb-false _ _ e in
         let m : min (length xs) n ≡ n = omega arith in
         ap (λ (k : ℕ). take k xs) m
-
--- a buffer stays as long as it is
-pub append_length : (xs : List ℕ) (t : Buffer) → length (append xs t).bytes ≡ length t.bytes
-unfolding append append_byte
-append_length [] t = refl
-append_length (x ∷ xs) t = append_length xs (append_byte x t) ∙ go (ltb t.at (length t.bytes))
-  where
-    go : (b : Bool) → length (if b then buffer (set t.bytes t.at x) (t.at + 1) else t).bytes ≡ length t.bytes
-    go true = length-set t.bytes t.at x
-    go false = refl
 
 -- bytes appended after the first n of a buffer
 module _ (xs w : List ℕ) (n : ℕ) (fits : n ≤ length w) where

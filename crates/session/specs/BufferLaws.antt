@@ -93,7 +93,17 @@ written_within bs before after count w = let c = w.counted in omega arith
 pub append_within : (bs before after : List ℕ) (count : ℕ) → buffer after count ≡ append bs (buffer before 0) → count ≤ length before
 append_within bs before after count e = written_within bs before after count (append_written bs before after count e)
 
--- the same from a place in the middle on
+-- a buffer stays as long as it is
+pub append_length : (xs : List ℕ) (t : Buffer) → length (append xs t).bytes ≡ length t.bytes
+unfolding append append_byte
+append_length [] t = refl
+append_length (x ∷ xs) t = append_length xs (append_byte x t) ∙ go (ltb t.at (length t.bytes))
+  where
+    go : (b : Bool) → length (if b then buffer (set t.bytes t.at x) (t.at + 1) else t).bytes ≡ length t.bytes
+    go true = length-set t.bytes t.at x
+    go false = refl
+
+-- no more bytes are written than the buffer has, from a place in the middle on
 append_place : (bs : List ℕ) (t : Buffer) → t.at ≤ length t.bytes → (append bs t).at ≤ length t.bytes
 unfolding append append_byte
 append_place [] t h = h

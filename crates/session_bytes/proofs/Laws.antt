@@ -6,11 +6,10 @@ use Prim.Native.Nat.{ℕ, zero, suc, ◌+◌, ◌-◌, ◌/◌, ◌%◌, ◌<◌
 use native.Mathlib.Numerals.{add-one}
 use native.Mathlib.Omega.{arith}
 use borrow.Author.Tests.{lt-ltb, le-ltb}
-use lib.ListN.{length, get_or, take, drop, set, drop_of_length-le}
+use lib.ListN.{length, get_or, drop, set, drop_of_length-le}
 use lib.Seq.{drop-cons}
-use Rattle.std.proofs.Common.{length-append, length-drop, length-take-le}
 use Rattle.session.specs.Print.{decimal_digits}
-use Rattle.session.specs.BufferLaws.{append_both, append_written, append_within}
+use Rattle.session.specs.BufferLaws.{append_both, append_length, append_within}
 use Rattle.session.specs.Buffer.{Buffer, buffer, append_byte, append}
 
 -- ---- bytes
@@ -62,12 +61,7 @@ append_3 x y z t u v w p q r = append_2 (x ++ y) z t v w (append_2 x y t u v p q
 
 -- what is printed from a buffer's first byte on keeps its length, and ends within it
 pub length_kept : (bs before after : List ℕ) (count : ℕ) → buffer after count ≡ append bs (buffer before 0) → length after ≡ length before
-length_kept bs before after count e =
-    let w = append_written bs before after count e in
-    let c = w.counted in
-    let l : length (take count bs) ≡ count = length-take-le count bs (omega arith) in
-    let h : length after ≡ length (take count bs) + length (drop count before) = ap length w.holds ∙ length-append (take count bs) (drop count before) in
-    omega (arith, h, l, length-drop count before)
+length_kept bs before after count e = ap (λ (t : Buffer). length t.bytes) e ∙ append_length bs (buffer before 0)
 
 pub ends_within : (bs before after : List ℕ) (count : ℕ) → buffer after count ≡ append bs (buffer before 0) → count ≤ length after
 ends_within bs before after count e = omega (arith, append_within bs before after count e, length_kept bs before after count e)
